@@ -58,7 +58,7 @@ fn one_finds_it<R: Threads + Wait + Sync + Abort>(
     alloc: Global,
     words: &[&str],
 ) -> Result<(), NoMemory> {
-    let mut sink = SureSink::with_room(alloc, 4096)?;
+    let mut sink = SureSink::with_capacity(alloc, 4096)?;
     let (status, _is_empty) = status_of(rt, alloc, words, TWO_RESETS, &mut sink)?;
     let first = sink.bytes() == FIRST_FINDS.as_bytes();
     let second = sink.bytes() == SECOND_FINDS.as_bytes();

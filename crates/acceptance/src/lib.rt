@@ -5,7 +5,7 @@
 #[cfg(test)]
 mod examples;
 #[cfg(test)]
-mod parts;
+mod pieces;
 #[cfg(test)]
 mod running;
 #[cfg(test)]

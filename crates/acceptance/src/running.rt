@@ -58,7 +58,7 @@ pub fn words_run_to<R: Threads + Wait + Sync + Abort>(
     status: u8,
     output: &str,
 ) -> Result<(), NoMemory> {
-    let mut sink = SureSink::with_room(alloc, ROOM)?;
+    let mut sink = SureSink::with_capacity(alloc, ROOM)?;
     let (told, is_empty) = status_of(rt, alloc, words, text, &mut sink)?;
     assert_eq!(rt; told, status, "{text}");
     assert_eq!(rt; sink.bytes(), output.as_bytes(), "{text}");

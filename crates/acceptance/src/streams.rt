@@ -5,7 +5,7 @@ ghost use Rattle.std.specs.Prelude.{◌<◌};
 use crate::examples::{TOLD, TWO_RANKS};
 use crate::running::{STEP, answer_to};
 use gaspi_io::{MemSink, MemSource};
-use gaspi_types::{Bytes, NoMemory, Rows};
+use gaspi_types::{Bytes, NoMemory, Sequence};
 use std::alloc::Global;
 use std::sync::Wait;
 use std::test::Fail;
@@ -15,7 +15,7 @@ use std::thread::Threads;
 fn source_in_pieces(alloc: Global, piece: usize, failing: &[u64]) -> Result<MemSource, NoMemory>
     requires { 0 < piece }
 {
-    let failing = Rows::copied_from(alloc, failing)?;
+    let failing = Sequence::copied_from(alloc, failing)?;
     let mut source = MemSource::new(Bytes::copied_from(alloc, TWO_RANKS.as_bytes())?);
     source.set_piece(piece);
     source.set_failing(failing);
@@ -26,8 +26,8 @@ fn source_in_pieces(alloc: Global, piece: usize, failing: &[u64]) -> Result<MemS
 fn sink_in_pieces(alloc: Global, piece: usize, failing: &[u64]) -> Result<MemSink, NoMemory>
     requires { 0 < piece }
 {
-    let failing = Rows::copied_from(alloc, failing)?;
-    let mut sink = MemSink::with_room(alloc, 4096)?;
+    let failing = Sequence::copied_from(alloc, failing)?;
+    let mut sink = MemSink::with_capacity(alloc, 4096)?;
     sink.set_piece(piece);
     sink.set_failing(failing);
     Ok(sink)

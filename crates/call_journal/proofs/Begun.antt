@@ -6,11 +6,11 @@ use Rattle.gaspi_types.proofs.Chains.{both}
 use Rattle.gaspi_types.proofs.Items.{same-or-not}
 use Rattle.gaspi_types.specs.Kinds.{is_write_kind, is_notify_kind}
 use Rattle.gaspi_types.specs.Lanes.{is_notify}
-use Rattle.gaspi_types.specs.World.{World, IsWorld}
+use Rattle.gaspi_types.specs.World.{ShapeValue, IsShape}
 use Rattle.gaspi_types.specs.declared.entries.Entry.{Entry}
 use Rattle.gaspi_types.specs.declared.entries.Kind.{Kind}
 use Rattle.gaspi_types.specs.declared.events.Event.{Event}
-use Rattle.gaspi_model.specs.Shards.{standing}
+use Rattle.gaspi_model.specs.Shards.{entry_after}
 use Rattle.gaspi_model.specs.Sound.{IsSound}
 use Rattle.gaspi_model.specs.Step.{reached, is_legal}
 use Rattle.gaspi_model.specs.declared.states.Posts.{Posts}
@@ -24,7 +24,7 @@ use Rattle.call_journal.proofs.Places.{IsStepAt, step-at, stands-in, stands-belo
 use Rattle.call_journal.proofs.Standing.{InQueues, FromBefore, from-before, IsNew, next-after, entry-from, posted-some, write-posted}
 
 -- a number of an entry of the rank so far is that of the rank's posts
-abbrev pub IsNextAt : World → List Event → (place origin next : ℕ) → Type 0
+abbrev pub IsNextAt : ShapeValue → List Event → (place origin next : ℕ) → Type 0
 IsNextAt w journal place origin next = (s : State) (posts : Posts) → reached w (take place journal) ≡ Ok s → slice_get s.posts origin ≡ Some posts → posts.next ≡ next
 
 -- a lane that an entry is of
@@ -43,7 +43,7 @@ pub record IsBegun (at : EntryPut) (e : Event) (next m : ℕ) : Type 0 where
   pub numbered : m ≡ next + place
   pub few : place < post.writes
 
-module _ (w : World) (world : IsWorld w) (journal : List Event) (legal : is_legal w journal ≡ true) (place : ℕ) (e : Event) (there : slice_get journal place ≡ Some e) (at : EntryPut) (next : ℕ) (numbered : IsNextAt w journal place at.origin next) where
+module _ (w : ShapeValue) (world : IsShape w) (journal : List Event) (legal : is_legal w journal ≡ true) (place : ℕ) (e : Event) (there : slice_get journal place ≡ Some e) (at : EntryPut) (next : ℕ) (numbered : IsNextAt w journal place at.origin next) where
   here : IsStepAt w journal place e
   here = step-at w journal place e legal there
 
@@ -75,7 +75,7 @@ module _ (w : World) (world : IsWorld w) (journal : List Event) (legal : is_lega
         after = record { state = here.t; entry = entry.0; leads = here.later; stands = entry.1; kind = rw entry.2 wp.write };
         before = λ h.
             let same = same-state (reached w (take place journal)) h.state here.s h.leads here.before in
-            let i = stands-in here.s at.origin at.queue at.target (next + k) h.entry (subst (λ (x : State). standing x at.origin at.queue at.target (next + k) ≡ Some h.entry) same h.stands) in
+            let i = stands-in here.s at.origin at.queue at.target (next + k) h.entry (subst (λ (x : State). entry_after x at.origin at.queue at.target (next + k) ≡ Some h.entry) same h.stands) in
             let below = stands-below here.s at.origin at.queue at.target (next + k) h.entry.kind i.posts before-sound i.there i.in_queues in
             let is_next = numbered here.s i.posts here.before i.there in
             omega arith;
@@ -84,7 +84,7 @@ module _ (w : World) (world : IsWorld w) (journal : List Event) (legal : is_lega
   pub only-begun : (m : ℕ) → IsPostedAt w journal place at.origin at.queue at.target m → IsBegun at e next m
   only-begun m h =
       let same = same-state (reached w (take (place + 1) journal)) h.after.state here.t h.after.leads here.later in
-      let i = stands-in here.t at.origin at.queue at.target m h.after.entry (subst (λ (x : State). standing x at.origin at.queue at.target m ≡ Some h.after.entry) same h.after.stands) in
+      let i = stands-in here.t at.origin at.queue at.target m h.after.entry (subst (λ (x : State). entry_after x at.origin at.queue at.target m ≡ Some h.after.entry) same h.after.stands) in
       let from = from-before here.s here.t e here.step_is at.origin i.posts i.there in
       go h.after.entry.kind h.after.kind from (entry-from here.s.limits e at.origin from.before i.posts from.changed at.queue at.target m h.after.entry.kind i.in_queues)
     where
@@ -105,11 +105,11 @@ module _ (w : World) (world : IsWorld w) (journal : List Event) (legal : is_lega
 
   -- whether the entry itself is a notification
   pub note-more : (noted : Bool) → (noted ≡ true → at.number < next)
-      → ((s : State) (x : Entry) → reached w (take place journal) ≡ Ok s → standing s at.origin at.queue at.target at.number ≡ Some x → is_notify x ≡ noted)
-      → (t : State) (x : Entry) → reached w (take (place + 1) journal) ≡ Ok t → standing t at.origin at.queue at.target at.number ≡ Some x → is_notify x ≡ (noted || is_note at next (post_of at.origin e))
+      → ((s : State) (x : Entry) → reached w (take place journal) ≡ Ok s → entry_after s at.origin at.queue at.target at.number ≡ Some x → is_notify x ≡ noted)
+      → (t : State) (x : Entry) → reached w (take (place + 1) journal) ≡ Ok t → entry_after t at.origin at.queue at.target at.number ≡ Some x → is_notify x ≡ (noted || is_note at next (post_of at.origin e))
   note-more noted posted note t x leads stands =
       let same = same-state (reached w (take (place + 1) journal)) t here.t leads here.later in
-      let i = stands-in here.t at.origin at.queue at.target at.number x (subst (λ (y : State). standing y at.origin at.queue at.target at.number ≡ Some x) same stands) in
+      let i = stands-in here.t at.origin at.queue at.target at.number x (subst (λ (y : State). entry_after y at.origin at.queue at.target at.number ≡ Some x) same stands) in
       let from = from-before here.s here.t e here.step_is at.origin i.posts i.there in
       go from (entry-from here.s.limits e at.origin from.before i.posts from.changed at.queue at.target at.number x.kind i.in_queues)
     where

@@ -3,7 +3,7 @@ use Rattle.std.proofs.Common.{◌≡◌, ℕ, zero, suc, ◌+◌, ◌<◌, Bool,
 use Rattle.std.specs.List.{slice_get, slice_set, list_any, range_with_len}
 use Rattle.std.proofs.lemmas.Bool.{eqb-true, eqb-false}
 use Rattle.std.proofs.lemmas.List.Folds.{list_any-append}
-use Rattle.gaspi_types.specs.World.{World, is_caller}
+use Rattle.gaspi_types.specs.World.{ShapeValue, is_caller}
 use Rattle.gaspi_types.specs.Replies.{is_idle}
 use Rattle.gaspi_types.specs.declared.entries.Kind.{Kind}
 use Rattle.gaspi_types.specs.declared.shapes.CallerId.{CallerId}
@@ -22,8 +22,8 @@ use Rattle.gaspi_types.proofs.Chains.{both}
 use Rattle.gaspi_types.proofs.Items.{slice_get-set_other, slice_get-set_same, map-at}
 use Rattle.gaspi_model.specs.State.{opening, opening_posts, opening_thread, thread_at}
 use Rattle.gaspi_model.specs.Posting.{with_post}
-use Rattle.gaspi_model.specs.Calls.{posts_done, plain_done, call_asks}
-use Rattle.gaspi_model.specs.Transfers.{Found, Worked}
+use Rattle.gaspi_model.specs.Calls.{posts_effect, plain_effect, requested_kinds}
+use Rattle.gaspi_model.specs.Transfers.{EntryPosition, PostsAndMemory}
 use Rattle.gaspi_model.specs.Step.{step, after, is_there, is_declared}
 use Rattle.gaspi_model.specs.declared.states.ThreadState.{ThreadState}
 use Rattle.gaspi_model.specs.declared.states.ThreadState.TheVariants as threads
@@ -32,9 +32,9 @@ use Rattle.gaspi_model.specs.declared.states.Memory.{Memory}
 use Rattle.gaspi_model.specs.declared.states.State.{State}
 use Rattle.gaspi_model.proofs.Histories.{after-first}
 use Rattle.gaspi_model.proofs.GroupSteps.{step-completed}
-use Rattle.gaspi_model.proofs.Sound.Told.{IsTold, told, told-get}
-use Rattle.gaspi_model.proofs.MetPosts.{IsMet, met-called, met-joined}
-use Rattle.gaspi_model.proofs.Made.{IsTake, IsPut, memories_at, call_reach, put_reach, step-called, step-take, step-put}
+use Rattle.gaspi_model.proofs.Sound.Registered.{IsTold, registering, registered-get}
+use Rattle.gaspi_model.proofs.CollectivePosts.{IsMet, on_group-called, on_group-joined}
+use Rattle.gaspi_model.proofs.Made.{IsTake, IsPut, memories_at, call-footprint, put-footprint, step-called, step-take, step-put}
 use Rattle.rank_script.specs.Bench.{bench_shape, bench_callers}
 use Rattle.call_journal.proofs.Counts.{AreOfFirst, IsOfFirst}
 
@@ -60,11 +60,11 @@ declared-changed s o posts after at memories rank thread stays = go (o == rank) 
 
 -- of a state with a segment told to a rank
 declared-told : (s : State) (ranks me : ℕ) (p : Posts) (call : Call) (reply : Reply) (all : List Posts) (memories : List Memory) (rank thread : ℕ)
-    → is_declared (record s { posts = told ranks me p call reply all; memories = memories }) rank thread ≡ is_declared (record s { posts = all; memories = memories }) rank thread
-declared-told s ranks me p call reply all memories rank thread = go (told-get ranks me p call reply all rank)
+    → is_declared (record s { posts = registering ranks me p call reply all; memories = memories }) rank thread ≡ is_declared (record s { posts = all; memories = memories }) rank thread
+declared-told s ranks me p call reply all memories rank thread = go (registered-get ranks me p call reply all rank)
   where
-    go : IsTold all (told ranks me p call reply all) rank
-        → is_declared (record s { posts = told ranks me p call reply all; memories = memories }) rank thread ≡ is_declared (record s { posts = all; memories = memories }) rank thread
+    go : IsTold all (registering ranks me p call reply all) rank
+        → is_declared (record s { posts = registering ranks me p call reply all; memories = memories }) rank thread ≡ is_declared (record s { posts = all; memories = memories }) rank thread
     go (inl same) = rw same refl
     go (inr (x, known, before, now)) = rw (before, now) refl
 
@@ -88,16 +88,16 @@ ended-there posts caller thread there = go (caller == thread) refl (slice_get po
         rw now (sym was)
     go false is o at = rw (slice_get-set_other posts.threads caller thread threads.Ended (λ e. eqb-false caller thread is e)) refl
 
-threads-done : (limits : Limits) (me : ℕ) (posts : Posts) (caller : ℕ) (call : Call) (thread : ℕ) → is_there (thread_at posts caller) ≡ true → SameThere posts (posts_done limits me posts caller call) thread
+threads-done : (limits : Limits) (me : ℕ) (posts : Posts) (caller : ℕ) (call : Call) (thread : ℕ) → is_there (thread_at posts caller) ≡ true → SameThere posts (posts_effect limits me posts caller call) thread
 threads-done limits me posts caller call thread there = go (row_of call).posting refl
   where
-    plain : (call : Call) → SameThere posts (plain_done posts caller call) thread
+    plain : (call : Call) → SameThere posts (plain_effect posts caller call) thread
     plain End = ended-there posts caller thread there
     plain other = refl
 
-    go : (o : Option Posting) → (row_of call).posting ≡ o → SameThere posts (posts_done limits me posts caller call) thread
+    go : (o : Option Posting) → (row_of call).posting ≡ o → SameThere posts (posts_effect limits me posts caller call) thread
     go None none = rw none (plain call)
-    go (Some to) post = rw post (same-threads posts (with_post posts to.queue to.rank (call_asks limits me posts call)) thread (threads-post posts to.queue to.rank (call_asks limits me posts call)))
+    go (Some to) post = rw post (same-threads posts (with_post posts to.queue to.rank (requested_kinds limits me posts call)) thread (threads-post posts to.queue to.rank (requested_kinds limits me posts call)))
 
 threads-after : (b : Bool) (posts done : Posts) (thread : ℕ) → SameThere posts done thread → SameThere posts (if b then posts else done) thread
 threads-after true posts done thread stays = refl
@@ -121,32 +121,32 @@ called-declared : (s t : State) (c : CallerId) (call : Call) (reply : Reply) (ra
 called-declared s t c call reply rank thread plain h =
     let made = step-called s t c call reply plain h in
     let m = made.3 in
-    let memories = memories_at (call_reach s.limits.ranks c.rank call) c.rank made.2.memory s.memories in
+    let memories = memories_at (call-footprint s.limits.ranks c.rank call) c.rank made.2.memory s.memories in
     rw m.leaves (declared-told s s.limits.ranks c.rank made.0 call reply (slice_set s.posts c.rank made.2.posts) memories rank thread
     ∙ declared-changed s c.rank made.0 made.2.posts m.posts_there memories rank thread
-    (rw m.is.leaves (threads-after (is_idle reply) made.0 (posts_done s.limits c.rank made.0 c.thread call) thread (threads-done s.limits c.rank made.0 c.thread call thread m.is.there))))
+    (rw m.is.leaves (threads-after (is_idle reply) made.0 (posts_effect s.limits c.rank made.0 c.thread call) thread (threads-done s.limits c.rank made.0 c.thread call thread m.is.there))))
 
 declared-step : (s t : State) (e : Event) (rank thread : ℕ) → step s e ≡ Ok t → is_declared t rank thread ≡ is_declared s rank thread
-declared-step s t (Joined c id args) rank thread h = met-declared s t c.rank _ _ rank thread (met-joined s t c id args h).2
+declared-step s t (Joined c id args) rank thread h = met-declared s t c.rank _ _ rank thread (on_group-joined s t c id args h).2
 declared-step s t (Called c call reply) rank thread h = by-group (row_of call).group refl
   where
     by-group : (o : Option ℕ) → (row_of call).group ≡ o → is_declared t rank thread ≡ is_declared s rank thread
-    by-group (Some id) named = met-declared s t c.rank _ _ rank thread (met-called s t c id call reply named h).2
+    by-group (Some id) named = met-declared s t c.rank _ _ rank thread (on_group-called s t c id call reply named h).2
     by-group None plain = called-declared s t c call reply rank thread plain h
 declared-step s t (Take origin queue target number outcome) rank thread h =
     let made = step-take s t origin queue target number outcome h in
     let m = made.4 in
     rw m.leaves (declared-changed s origin made.0 made.2 m.posts_there s.memories rank thread (same-take made.0 made.1 outcome made.2 made.3 m.is))
   where
-    same-take : (posts : Posts) (memory : Memory) (outcome : Outcome) (after : Posts) (at : Found) → IsTake s.limits posts memory queue target number outcome after at → SameThere posts after thread
+    same-take : (posts : Posts) (memory : Memory) (outcome : Outcome) (after : Posts) (at : EntryPosition) → IsTake s.limits posts memory queue target number outcome after at → SameThere posts after thread
     same-take posts memory Applied after at h = rw h.leaves refl
     same-take posts memory Failed after at h = rw h.leaves refl
 declared-step s t (Put origin queue target number outcome) rank thread h =
     let made = step-put s t origin queue target number outcome h in
     let m = made.4 in
-    rw m.leaves (declared-changed s origin made.0 made.2.posts m.posts_there (memories_at (put_reach s.limits.ranks origin target made.3.entry.kind) origin made.2.memory s.memories) rank thread (same-put made.0 made.1 outcome made.2 made.3 m.is))
+    rw m.leaves (declared-changed s origin made.0 made.2.posts m.posts_there (memories_at (put-footprint s.limits.ranks origin target made.3.entry.kind) origin made.2.memory s.memories) rank thread (same-put made.0 made.1 outcome made.2 made.3 m.is))
   where
-    same-put : (posts : Posts) (memory : Memory) (outcome : Outcome) (after : Worked) (at : Found) → IsPut posts memory queue target number outcome after at → SameThere posts after.posts thread
+    same-put : (posts : Posts) (memory : Memory) (outcome : Outcome) (after : PostsAndMemory) (at : EntryPosition) → IsPut posts memory queue target number outcome after at → SameThere posts after.posts thread
     same-put posts memory Applied after at h = rw h.leaves refl
     same-put posts memory Failed after at h = rw h.leaves refl
 
@@ -205,7 +205,7 @@ range-item a zero i r at = absurd (let no : ⊥ = cc in no)
 range-item a (suc n) zero r at = let same : a ≡ r = cc in sym same ∙ omega arith
 range-item a (suc n) (suc i) r at = range-item (a + 1) n i r at ∙ omega arith
 
-opening-declared : (w : World) (rank thread : ℕ) → is_declared (opening w) rank thread ≡ true → list_any (is_caller rank thread) w.callers ≡ true
+opening-declared : (w : ShapeValue) (rank thread : ℕ) → is_declared (opening w) rank thread ≡ true → list_any (is_caller rank thread) w.callers ≡ true
 opening-declared w rank thread h = by-posts (slice_get (opening w).posts rank) refl
   where
     declared : (b : Bool) → is_there (if b then threads.Running else threads.Absent) ≡ true → b ≡ true

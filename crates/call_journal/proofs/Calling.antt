@@ -11,10 +11,10 @@ use Rattle.gaspi_types.specs.declared.events.Event.{Event}
 use Rattle.gaspi_types.specs.declared.events.Event.TheVariants.{Called}
 use Rattle.gaspi_types.proofs.Items.{changed_at-found}
 use Rattle.gaspi_types.specs.Tables.{changed_at}
-use Rattle.gaspi_model.specs.Step.{own_calls}
+use Rattle.gaspi_model.specs.Step.{recorded_calls}
 use Rattle.gaspi_model.proofs.OwnCalls.{own_calls-append}
 use Rattle.call_journal.specs.OwnCalls.{pairs_of, HasCallers, IsCallTable}
-use Rattle.call_journal.specs.declared.own_calls.OwnCall.{OwnCall}
+use Rattle.call_journal.specs.declared.own_calls.RecordedCall.{RecordedCall}
 use Rattle.call_journal.proofs.OwnCalls.{own-same, own-other}
 
 -- what stands in a table of which one item was changed: the changed item, or elsewhere what stood there
@@ -51,14 +51,14 @@ length-changed {X} xs i change = by_item (slice_get xs i) refl
     by_item (Some x) there = rw (changed_at-found xs i x change there) (length-set xs i (change x))
 
 -- the table with a call added to those of its caller
-abbrev pub with_call : List (List (List OwnCall)) → CallerId → OwnCall → List (List (List OwnCall))
-with_call table c own = changed_at table c.rank (λ (row : List (List OwnCall)). changed_at row c.thread (λ (calls : List OwnCall). calls ++ own ∷ []))
+abbrev pub with_call : List (List (List RecordedCall)) → CallerId → RecordedCall → List (List (List RecordedCall))
+with_call table c own = changed_at table c.rank (λ (row : List (List RecordedCall)). changed_at row c.thread (λ (calls : List RecordedCall). calls ++ own ∷ []))
 
-callers-kept : (table : List (List (List OwnCall))) (c : CallerId) (own : OwnCall) → HasCallers table → HasCallers (with_call table c own)
+callers-kept : (table : List (List (List RecordedCall))) (c : CallerId) (own : RecordedCall) → HasCallers table → HasCallers (with_call table c own)
 callers-kept table c own has = record {
   ranks = length-changed table c.rank _ ∙ has.ranks;
   threads = λ rank row there.
-      elim (get-changed table c.rank rank (λ (row : List (List OwnCall)). changed_at row c.thread (λ (calls : List OwnCall). calls ++ own ∷ [])) row there) [
+      elim (get-changed table c.rank rank (λ (row : List (List RecordedCall)). changed_at row c.thread (λ (calls : List RecordedCall). calls ++ own ∷ [])) row there) [
         | inl w ↦ ap length w.3 ∙ (length-changed w.0 c.thread _ ∙ has.threads c.rank w.0 w.1)
         | inr w ↦ has.threads rank row w.1
       ];
@@ -75,13 +75,13 @@ apart-thread : (rank thread : ℕ) (c : CallerId) → (thread ≡ c.thread → �
 apart-thread rank thread c apart = let no = ne_eqb c.thread thread (λ same. apart (sym same)) in rw no (both-false _)
 
 -- another event of a history adds its call to those of its caller, and to no others
-pub called-table : (table : List (List (List OwnCall))) (history : List Event) (c : CallerId) (own : OwnCall) → IsCallTable table history
+pub called-table : (table : List (List (List RecordedCall))) (history : List Event) (c : CallerId) (own : RecordedCall) → IsCallTable table history
     → IsCallTable (with_call table c own) (history ++ Called c own.call.now own.reply.now ∷ [])
 called-table table history c own is = record {
   callers = callers-kept table c own is.callers;
   each = λ rank row there thread calls at.
-      elim (get-changed table c.rank rank (λ (row : List (List OwnCall)). changed_at row c.thread (λ (calls : List OwnCall). calls ++ own ∷ [])) row there) [
-        | inl w ↦ in_row rank w.0 thread calls w.1 w.2 (subst (λ (xs : List (List OwnCall)). slice_get xs thread ≡ Some calls) w.3 at)
+      elim (get-changed table c.rank rank (λ (row : List (List RecordedCall)). changed_at row c.thread (λ (calls : List RecordedCall). calls ++ own ∷ [])) row there) [
+        | inl w ↦ in_row rank w.0 thread calls w.1 w.2 (subst (λ (xs : List (List RecordedCall)). slice_get xs thread ≡ Some calls) w.3 at)
         | inr w ↦ is.each rank row w.1 thread calls at ∙ other rank thread (apart-rank rank thread c w.0)
       ];
 }
@@ -89,46 +89,46 @@ called-table table history c own is = record {
     e : Event
     e = Called c own.call.now own.reply.now
 
-    other : (rank thread : ℕ) → is_caller rank thread c ≡ false → own_calls rank thread history ≡ own_calls rank thread (history ++ e ∷ [])
+    other : (rank thread : ℕ) → is_caller rank thread c ≡ false → recorded_calls rank thread history ≡ recorded_calls rank thread (history ++ e ∷ [])
     other rank thread apart =
         sym (own_calls-append rank thread history (e ∷ [])
-        ∙ (ap (λ (ps : List (Call × Reply)). own_calls rank thread history ++ ps) (own-other rank thread c own.call.now own.reply.now apart)
-        ∙ append-nil (own_calls rank thread history)))
+        ∙ (ap (λ (ps : List (Call × Reply)). recorded_calls rank thread history ++ ps) (own-other rank thread c own.call.now own.reply.now apart)
+        ∙ append-nil (recorded_calls rank thread history)))
 
-    same : (calls : List OwnCall) → pairs_of calls ≡ own_calls c.rank c.thread history → pairs_of (calls ++ own ∷ []) ≡ own_calls c.rank c.thread (history ++ e ∷ [])
+    same : (calls : List RecordedCall) → pairs_of calls ≡ recorded_calls c.rank c.thread history → pairs_of (calls ++ own ∷ []) ≡ recorded_calls c.rank c.thread (history ++ e ∷ [])
     same calls before =
-        map-append (λ (own : OwnCall). (own.call.now, own.reply.now)) calls (own ∷ [])
+        map-append (λ (own : RecordedCall). (own.call.now, own.reply.now)) calls (own ∷ [])
         ∙ (ap (λ (ps : List (Call × Reply)). ps ++ (own.call.now, own.reply.now) ∷ []) before
-        ∙ (ap (λ (ps : List (Call × Reply)). own_calls c.rank c.thread history ++ ps) (sym (own-same c own.call.now own.reply.now))
+        ∙ (ap (λ (ps : List (Call × Reply)). recorded_calls c.rank c.thread history ++ ps) (sym (own-same c own.call.now own.reply.now))
         ∙ sym (own_calls-append c.rank c.thread history (e ∷ []))))
 
-    in_row : (rank : ℕ) (row : List (List OwnCall)) (thread : ℕ) (calls : List OwnCall) → slice_get table c.rank ≡ Some row → rank ≡ c.rank
-        → slice_get (changed_at row c.thread (λ (calls : List OwnCall). calls ++ own ∷ [])) thread ≡ Some calls → pairs_of calls ≡ own_calls rank thread (history ++ e ∷ [])
+    in_row : (rank : ℕ) (row : List (List RecordedCall)) (thread : ℕ) (calls : List RecordedCall) → slice_get table c.rank ≡ Some row → rank ≡ c.rank
+        → slice_get (changed_at row c.thread (λ (calls : List RecordedCall). calls ++ own ∷ [])) thread ≡ Some calls → pairs_of calls ≡ recorded_calls rank thread (history ++ e ∷ [])
     in_row rank row thread calls there here at =
-        elim (get-changed row c.thread thread (λ (calls : List OwnCall). calls ++ own ∷ []) calls at) [
+        elim (get-changed row c.thread thread (λ (calls : List RecordedCall). calls ++ own ∷ []) calls at) [
           | inl w ↦ rw (here, w.2, w.3) (same w.0 (is.each c.rank row there c.thread w.0 w.1))
           | inr w ↦ rw here (is.each c.rank row there thread calls w.1 ∙ other c.rank thread (apart-thread c.rank thread c w.0))
         ]
 
 -- an event that is no call adds none
-pub uncalled-table : (table : List (List (List OwnCall))) (history : List Event) (e : Event) → ((c : CallerId) (call : Call) (reply : Reply) → e ≡ Called c call reply → ⊥)
+pub uncalled-table : (table : List (List (List RecordedCall))) (history : List Event) (e : Event) → ((c : CallerId) (call : Call) (reply : Reply) → e ≡ Called c call reply → ⊥)
     → IsCallTable table history → IsCallTable table (history ++ e ∷ [])
 uncalled-table table history e none is = record {
   callers = is.callers;
   each = λ rank row there thread calls at. is.each rank row there thread calls at ∙ same e rank thread none;
 }
   where
-    nothing : (e : Event) (rank thread : ℕ) → own_calls rank thread (e ∷ []) ≡ [] → own_calls rank thread history ≡ own_calls rank thread (history ++ e ∷ [])
+    nothing : (e : Event) (rank thread : ℕ) → recorded_calls rank thread (e ∷ []) ≡ [] → recorded_calls rank thread history ≡ recorded_calls rank thread (history ++ e ∷ [])
     nothing e rank thread none =
         sym (own_calls-append rank thread history (e ∷ [])
-        ∙ (ap (λ (ps : List (Call × Reply)). own_calls rank thread history ++ ps) none ∙ append-nil (own_calls rank thread history)))
+        ∙ (ap (λ (ps : List (Call × Reply)). recorded_calls rank thread history ++ ps) none ∙ append-nil (recorded_calls rank thread history)))
 
-    same : (e : Event) (rank thread : ℕ) → ((c : CallerId) (call : Call) (reply : Reply) → e ≡ Called c call reply → ⊥) → own_calls rank thread history ≡ own_calls rank thread (history ++ e ∷ [])
+    same : (e : Event) (rank thread : ℕ) → ((c : CallerId) (call : Call) (reply : Reply) → e ≡ Called c call reply → ⊥) → recorded_calls rank thread history ≡ recorded_calls rank thread (history ++ e ∷ [])
     same (Called c call reply) rank thread none = absurd (none c call reply refl)
     same transfer rank thread none = nothing transfer rank thread refl
 
 -- the front part of a history, with its next event
-pub front-more : (table : List (List (List OwnCall))) (history : List Event) (i : ℕ) (e : Event) → i < length history → e ≡ get_or history i e
+pub front-more : (table : List (List (List RecordedCall))) (history : List Event) (i : ℕ) (e : Event) → i < length history → e ≡ get_or history i e
     → IsCallTable table (take i history ++ e ∷ []) → IsCallTable table (take (i + 1) history)
 front-more table history i e within at is =
     subst (λ (events : List Event). IsCallTable table events) (ap (λ (x : Event). take i history ++ x ∷ []) at ∙ sym (take_more history i e within)) is

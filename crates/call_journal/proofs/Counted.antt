@@ -6,7 +6,7 @@ use Rattle.std.proofs.lemmas.List.{length-take-le, take_more, take-append-drop}
 use Rattle.std.proofs.lemmas.List.Sums.{count_by-le-length, count_by_more_no, count_by_more_yes}
 use Rattle.gaspi_types.specs.Checks.{◌>>=◌}
 use Rattle.gaspi_types.specs.Ranges.{is_between}
-use Rattle.gaspi_types.specs.World.{World, are_limits}
+use Rattle.gaspi_types.specs.World.{ShapeValue, are_limits}
 use Rattle.gaspi_types.specs.declared.shapes.Limits.{Limits}
 use Rattle.gaspi_types.specs.declared.events.Event.{Event}
 use Rattle.gaspi_model.specs.State.{opening}
@@ -27,7 +27,7 @@ after-append s (e ∷ events) rest = go (step s e) (λ next. after-append next e
     go (Ok next) behind = behind next
     go (Err why) behind = refl
 
-module _ (w : World) (journal : List Event) (place : ℕ) (e : Event) (t : State) (less : place < length journal) (at : e ≡ get_or journal place e)
+module _ (w : ShapeValue) (journal : List Event) (place : ℕ) (e : Event) (t : State) (less : place < length journal) (at : e ≡ get_or journal place e)
     (here : reached w (take place journal) ≡ Ok t) where
   -- the event steps
   pub reached-more : (u : State) → step t e ≡ Ok u → reached w (take (place + 1) journal) ≡ Ok u

@@ -9,7 +9,7 @@ use Rattle.gaspi_types.specs.declared.events.Event.{Event}
 use Rattle.gaspi_types.specs.declared.events.Event.TheVariants.{Called, Joined, Take, Put}
 use Rattle.gaspi_types.specs.declared.replies.Reply.{Reply}
 use Rattle.gaspi_types.specs.declared.shapes.CallerId.{CallerId}
-use Rattle.gaspi_model.specs.Step.{own_calls}
+use Rattle.gaspi_model.specs.Step.{recorded_calls}
 use Rattle.call_journal.proofs.Sums.{sum_until, sum-constant, sum-one}
 
 abbrev pub Pair : Type 0
@@ -54,20 +54,20 @@ caller-mine c first = rw (eq-eqb c.rank c.rank refl, eq-eqb c.thread 0 first) re
 pub caller-other : (c : CallerId) (rank : ℕ) → (rank ≡ c.rank → ⊥) → is_caller rank 0 c ≡ false
 caller-other c rank apart = rw (ne_eqb c.rank rank (λ e. apart (sym e))) refl
 
-pub own-mine : (c : CallerId) (call : Call) (reply : Reply) (events : List Event) → c.thread ≡ 0 → own_calls c.rank 0 (Called c call reply ∷ events) ≡ (call, reply) ∷ own_calls c.rank 0 events
+pub own-mine : (c : CallerId) (call : Call) (reply : Reply) (events : List Event) → c.thread ≡ 0 → recorded_calls c.rank 0 (Called c call reply ∷ events) ≡ (call, reply) ∷ recorded_calls c.rank 0 events
 own-mine c call reply events first = rw (caller-mine c first) refl
 
-pub own-other : (c : CallerId) (call : Call) (reply : Reply) (events : List Event) (rank : ℕ) → (rank ≡ c.rank → ⊥) → own_calls rank 0 (Called c call reply ∷ events) ≡ own_calls rank 0 events
+pub own-other : (c : CallerId) (call : Call) (reply : Reply) (events : List Event) (rank : ℕ) → (rank ≡ c.rank → ⊥) → recorded_calls rank 0 (Called c call reply ∷ events) ≡ recorded_calls rank 0 events
 own-other c call reply events rank apart = rw (caller-other c rank apart) refl
 
 -- what is counted over the calls of all ranks
 pub count-all : (p : Pair → Bool) (ranks : ℕ) (events : List Event) → AreOfFirst ranks events
-    → count_by (pair_test p) events ≡ sum_until (λ (rank : ℕ). count_by p (own_calls rank 0 events)) ranks
+    → count_by (pair_test p) events ≡ sum_until (λ (rank : ℕ). count_by p (recorded_calls rank 0 events)) ranks
 count-all p ranks [] are = (let none = sum-constant (λ (rank : ℕ). 0) 0 ranks (λ k less. refl) in let zeros : ranks * 0 ≡ 0 = omega arith in sym (none ∙ zeros))
 count-all p ranks (Called c call reply ∷ events) are =
     let rest = count-all p ranks events are.1 in
-    let one = sum-one (λ (rank : ℕ). count_by p (own_calls rank 0 events)) (λ (rank : ℕ). count_by p (own_calls rank 0 (Called c call reply ∷ events))) c.rank ranks (cond (p (call, reply)) 1 0) are.0.0
-    (ap (count_by p) (own-mine c call reply events are.0.1) ∙ count-cons p (call, reply) (own_calls c.rank 0 events) ∙ omega arith)
+    let one = sum-one (λ (rank : ℕ). count_by p (recorded_calls rank 0 events)) (λ (rank : ℕ). count_by p (recorded_calls rank 0 (Called c call reply ∷ events))) c.rank ranks (cond (p (call, reply)) 1 0) are.0.0
+    (ap (count_by p) (own-mine c call reply events are.0.1) ∙ count-cons p (call, reply) (recorded_calls c.rank 0 events) ∙ omega arith)
     (λ rank apart. ap (count_by p) (own-other c call reply events rank apart)) in
     let cons : count_by (pair_test p) (Called c call reply ∷ events) ≡ cond (p (call, reply)) 1 0 + count_by (pair_test p) events = count-cons (pair_test p) (Called c call reply) events in
     omega (arith, rest, one, cons)

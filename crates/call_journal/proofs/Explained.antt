@@ -3,12 +3,12 @@ use Rattle.std.proofs.Common.{◌≡◌, ℕ, zero, suc, ◌+◌, ◌<◌, ◌�
 use Rattle.std.specs.List.{slice_get, list_any}
 use Rattle.std.proofs.lemmas.Bool.{lt-ltb, ltb-true}
 use Rattle.gaspi_types.proofs.Items.{behind-of-joined, rest-of-dropped, flat_map-parts}
-use Rattle.gaspi_types.specs.World.{World, IsWorld}
+use Rattle.gaspi_types.specs.World.{ShapeValue, IsShape}
 use Rattle.gaspi_types.specs.declared.events.Event.{Event}
 use Rattle.gaspi_types.specs.declared.events.Event.TheVariants.{Called, Joined, Take, Put}
 use Rattle.gaspi_types.specs.declared.events.Outcome.TheVariants.{Applied, Failed}
-use Rattle.gaspi_model.specs.Order.{IsNotificationStanding, is_purge_of}
-use Rattle.gaspi_model.specs.Shards.{standing}
+use Rattle.gaspi_model.specs.Order.{IsNotificationInLane, is_purge_of}
+use Rattle.gaspi_model.specs.Shards.{entry_after}
 use Rattle.gaspi_model.specs.Step.{is_legal}
 use Rattle.gaspi_model.proofs.Made.{step-put, entry-found}
 use Rattle.gaspi_model.proofs.Ordered.Notifications.{order}
@@ -115,7 +115,7 @@ none-any : {A : Type 0} (p : A → Bool) (xs : List A) → ((k : ℕ) (x : A) �
 none-any p [] none = refl
 none-any p (x ∷ xs) none = rw (none 0 x refl) (none-any p xs (λ k y at. none (suc k) y at))
 
-module _ (w : World) (world : IsWorld w) (journal : List Event) (legal : is_legal w journal ≡ true) (place : ℕ) (at : EntryPut) (there : IsPutAt journal at at.number place) (next : ℕ) (noted : Bool) (writes : List LaneWrite) (tracked : IsTracked w journal place at next noted writes) where
+module _ (w : ShapeValue) (world : IsShape w) (journal : List Event) (legal : is_legal w journal ≡ true) (place : ℕ) (at : EntryPut) (there : IsPutAt journal at at.number place) (next : ℕ) (noted : Bool) (writes : List LaneWrite) (tracked : IsTracked w journal place at next noted writes) where
   -- an entry stands there that is put, and it is a notification where it was posted as one
   pub note-stands : noted ≡ true → IsNotificationPut w journal place at.origin at.queue at.target at.number
   note-stands is =
@@ -123,7 +123,7 @@ module _ (w : World) (world : IsWorld w) (journal : List Event) (legal : is_lega
       let made = step-put here.s here.t at.origin at.queue at.target at.number Applied here.step_is in
       let f = made.4 in
       let entry = entry-found made.0 at.queue at.target at.number made.3 f.is.is in
-      let stands : standing here.s at.origin at.queue at.target at.number ≡ Some made.3.entry = rw f.posts_there entry in
+      let stands : entry_after here.s at.origin at.queue at.target at.number ≡ Some made.3.entry = rw f.posts_there entry in
       record {
         there = there;
         stands = record { state = here.s; entry = made.3.entry; leads = here.before; stands = stands; kind = tracked.note here.s made.3.entry here.before stands ∙ is };
@@ -136,16 +136,16 @@ module _ (w : World) (world : IsWorld w) (journal : List Event) (legal : is_lega
       let queue_is : queue ≡ at.queue = cc in
       let target_is : target ≡ at.target = cc in
       let number_is : number ≡ at.number = cc in
-      let stands : standing put.stands.state at.origin at.queue at.target at.number ≡ Some put.stands.entry =
-      subst (λ (n : ℕ). standing put.stands.state at.origin at.queue at.target n ≡ Some put.stands.entry) number_is
-      (subst (λ (t : ℕ). standing put.stands.state at.origin at.queue t number ≡ Some put.stands.entry) target_is
-      (subst (λ (q : ℕ). standing put.stands.state at.origin q target number ≡ Some put.stands.entry) queue_is
-      (subst (λ (o : ℕ). standing put.stands.state o queue target number ≡ Some put.stands.entry) origin_is put.stands.stands))) in
+      let stands : entry_after put.stands.state at.origin at.queue at.target at.number ≡ Some put.stands.entry =
+      subst (λ (n : ℕ). entry_after put.stands.state at.origin at.queue at.target n ≡ Some put.stands.entry) number_is
+      (subst (λ (t : ℕ). entry_after put.stands.state at.origin at.queue t number ≡ Some put.stands.entry) target_is
+      (subst (λ (q : ℕ). entry_after put.stands.state at.origin q target number ≡ Some put.stands.entry) queue_is
+      (subst (λ (o : ℕ). entry_after put.stands.state o queue target number ≡ Some put.stands.entry) origin_is put.stands.stands))) in
       let both : false ≡ true = sym is ∙ sym (tracked.note put.stands.state put.stands.entry put.stands.leads stands) ∙ put.stands.kind in
       let no : ⊥ = cc in no
 
   -- each earlier write of the lane is put
-  put-there : IsNotificationStanding w (take place journal) at.origin at.queue at.target at.number → (x : LaneWrite) → IsListed w journal place at x → x.number < at.number → (put : ℕ) × (x.put ≡ Some put) × (put < place) × IsPutAt journal at x.number put
+  put-there : IsNotificationInLane w (take place journal) at.origin at.queue at.target at.number → (x : LaneWrite) → IsListed w journal place at x → x.number < at.number → (put : ℕ) × (x.put ≡ Some put) × (put < place) × IsPutAt journal at x.number put
   put-there note x listed less = go x.put refl listed.put
     where
       none : HasPut journal place at x.post x.number None → ⊥
@@ -160,7 +160,7 @@ module _ (w : World) (world : IsWorld w) (journal : List Event) (legal : is_lega
           none-any (is_purge_of at.origin at.queue) later (λ k y h. let b = between (x.post + 1) place journal k y h in listed.unpurged (x.post + 1 + k) y (omega arith) b.0 b.1) in
           let found = order w earlier later (drop (place + 1) journal) at.origin at.queue at.target x.number at.number
           (subst (λ (events : List Event). is_legal w events ≡ true) whole legal) listed.posted.after
-          (subst (λ (events : List Event). IsNotificationStanding w events at.origin at.queue at.target at.number) (sym inside) note) less unpurged in
+          (subst (λ (events : List Event). IsNotificationInLane w events at.origin at.queue at.target at.number) (sym inside) note) less unpurged in
           let b = between (x.post + 1) place journal found.0 (Put at.origin at.queue at.target x.number Applied) found.1 in
           never (x.post + 1 + found.0) (omega arith) b.0 b.1
 
@@ -195,7 +195,7 @@ module _ (w : World) (world : IsWorld w) (journal : List Event) (legal : is_lega
             (new.0, record { post = old.1.post; number = old.1.number; put = put.0 }, new.1, old.3, old.4);
       }
     where
-      put-of : IsNotificationStanding w (take place journal) at.origin at.queue at.target at.number → (k : ℕ) (y : ArrivedWrite) → slice_get (arrived at.number writes) k ≡ Some y
+      put-of : IsNotificationInLane w (take place journal) at.origin at.queue at.target at.number → (k : ℕ) (y : ArrivedWrite) → slice_get (arrived at.number writes) k ≡ Some y
           → (y.put < place) × (slice_get journal y.put ≡ Some (Put at.origin at.queue at.target y.number Applied))
       put-of note k y h =
           let from = arrived-from at.number writes k y h in
@@ -225,7 +225,7 @@ put-there-is journal place at h = go (slice_get journal place) refl
     go (Some e) is = is ∙ ap (λ (x : Event). Some x) (of-event e (rw is at h))
 
 -- where there is none, there is no notification
-pub no-put : (w : World) (journal : List Event) (place : ℕ) → put_at journal place ≡ None → (origin queue target number : ℕ) → IsNotificationPut w journal place origin queue target number → ⊥
+pub no-put : (w : ShapeValue) (journal : List Event) (place : ℕ) → put_at journal place ≡ None → (origin queue target number : ℕ) → IsNotificationPut w journal place origin queue target number → ⊥
 no-put w journal place none origin queue target number put =
     let some : ◌≡◌ {A = Option EntryPut} None (Some (record { origin = origin; queue = queue; target = target; number = number })) = sym none ∙ rw put.there refl in
     let no : ⊥ = cc in no

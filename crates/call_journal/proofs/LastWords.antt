@@ -19,7 +19,7 @@ use Rattle.gaspi_types.specs.declared.shapes.CallerId.{CallerId}
 use Rattle.gaspi_types.proofs.Chains.{both}
 use Rattle.gaspi_model.specs.Memories.{bytes_of}
 use Rattle.gaspi_model.specs.State.{opening}
-use Rattle.gaspi_model.specs.Step.{step, after, own_calls}
+use Rattle.gaspi_model.specs.Step.{step, after, recorded_calls}
 use Rattle.gaspi_model.specs.declared.states.Memory.{Memory}
 use Rattle.gaspi_model.specs.declared.states.State.{State}
 use Rattle.gaspi_model.proofs.Changed.OwnCalls.{load-read}
@@ -47,14 +47,14 @@ pub record IsSplit (rank : ℕ) (events : List Event) (front : List Pair) (call 
   pub behind : List Event
   pub is : events ≡ before ++ Called c call reply ∷ behind
   pub mine : c.rank ≡ rank
-  pub front_is : own_calls rank 0 before ≡ front
+  pub front_is : recorded_calls rank 0 before ≡ front
 
 none-joined : (front back : List Pair) (pair : Pair) → [] ≡ front ++ pair ∷ back → ⊥
 none-joined [] back pair h = cc
 none-joined (x ∷ front) back pair h = cc
 
 later-split : (rank : ℕ) (e : Event) (events : List Event) (front : List Pair) (call : Call) (reply : Reply) (back : List Pair) (front' : List Pair)
-    → ((before : List Event) → own_calls rank 0 before ≡ front → own_calls rank 0 (e ∷ before) ≡ front') → IsSplit rank events front call reply back → IsSplit rank (e ∷ events) front' call reply back
+    → ((before : List Event) → recorded_calls rank 0 before ≡ front → recorded_calls rank 0 (e ∷ before) ≡ front') → IsSplit rank events front call reply back → IsSplit rank (e ∷ events) front' call reply back
 later-split rank e events front call reply back front' more s = record {
   before = e ∷ s.before;
   c = s.c;
@@ -64,7 +64,7 @@ later-split rank e events front call reply back front' more s = record {
   front_is = more s.before s.front_is;
 }
 
-pub own-split : (rank : ℕ) (events : List Event) (front : List Pair) (call : Call) (reply : Reply) (back : List Pair) → own_calls rank 0 events ≡ front ++ (call, reply) ∷ back
+pub own-split : (rank : ℕ) (events : List Event) (front : List Pair) (call : Call) (reply : Reply) (back : List Pair) → recorded_calls rank 0 events ≡ front ++ (call, reply) ∷ back
     → IsSplit rank events front call reply back
 own-split rank [] front call reply back h = absurd (none-joined front back (call, reply) h)
 own-split rank (Joined c id args ∷ events) front call reply back h = later-split rank (Joined c id args) events front call reply back front (λ before is. is) (own-split rank events front call reply back h)
@@ -75,8 +75,8 @@ own-split rank (Put origin queue target number outcome ∷ events) front call re
 own-split rank (Called c made answer ∷ events) front call reply back h =
     go (is_caller rank 0 c) refl (λ front' h'. own-split rank events front' call reply back h')
   where
-    mine : (front : List Pair) → is_caller rank 0 c ≡ true → (made, answer) ∷ own_calls rank 0 events ≡ front ++ (call, reply) ∷ back
-        → ((front' : List Pair) → own_calls rank 0 events ≡ front' ++ (call, reply) ∷ back → IsSplit rank events front' call reply back) → IsSplit rank (Called c made answer ∷ events) front call reply back
+    mine : (front : List Pair) → is_caller rank 0 c ≡ true → (made, answer) ∷ recorded_calls rank 0 events ≡ front ++ (call, reply) ∷ back
+        → ((front' : List Pair) → recorded_calls rank 0 events ≡ front' ++ (call, reply) ∷ back → IsSplit rank events front' call reply back) → IsSplit rank (Called c made answer ∷ events) front call reply back
     mine [] is h rest =
         let pair : ◌≡◌ {A = Pair} (made, answer) (call, reply) = cc in
         record {
@@ -89,12 +89,12 @@ own-split rank (Called c made answer ∷ events) front call reply back h =
         }
     mine (x ∷ front) is h rest =
         let pair : ◌≡◌ {A = Pair} (made, answer) x = cc in
-        let tail : own_calls rank 0 events ≡ front ++ (call, reply) ∷ back = cc in
+        let tail : recorded_calls rank 0 events ≡ front ++ (call, reply) ∷ back = cc in
         later-split rank (Called c made answer) events front call reply back (x ∷ front)
         (λ before there. rw is (ap (λ (xs : List Pair). (made, answer) ∷ xs) there ∙ ap (λ (p : Pair). p ∷ front) pair)) (rest front tail)
 
     go : (b : Bool) → is_caller rank 0 c ≡ b
-        → ((front' : List Pair) → own_calls rank 0 events ≡ front' ++ (call, reply) ∷ back → IsSplit rank events front' call reply back) → IsSplit rank (Called c made answer ∷ events) front call reply back
+        → ((front' : List Pair) → recorded_calls rank 0 events ≡ front' ++ (call, reply) ∷ back → IsSplit rank events front' call reply back) → IsSplit rank (Called c made answer ∷ events) front call reply back
     go true is rest = mine front is (rw is at h) rest
     go false is rest = later-split rank (Called c made answer) events front call reply back front (λ before there. rw is there) (rest front (rw is at h))
 
@@ -192,8 +192,8 @@ loaded-word s t ranks c bytes ring h =
 pub last-word : (seed ranks rounds : ℕ) (journal : List Event) (ran : RanToTheEnd seed ranks rounds journal) (rank : ℕ) → rank < ranks
     → second_word ran.state rank ≡ bench_bytes seed ranks (rounds - 1) (left_of ranks rank)
 last-word seed ranks rounds journal ran rank less =
-    let run = run-rounds seed ranks rounds rank rounds (own_calls rank 0 journal) (ran.runs rank less) in
-    let last = last-load ranks rank rounds (bench_bytes seed ranks) (own_calls rank 0 journal) run.0 ran.some_rounds run.1 run.2 in
+    let run = run-rounds seed ranks rounds rank rounds (recorded_calls rank 0 journal) (ran.runs rank less) in
+    let last = last-load ranks rank rounds (bench_bytes seed ranks) (recorded_calls rank 0 journal) run.0 ran.some_rounds run.1 run.2 in
     let bytes = bench_bytes seed ranks (rounds - 1) (left_of ranks rank) in
     let s = own-split rank journal last.front (calls.Load (record { seg = 0; offset = 8; size = 8 })) (replies.Bytes bytes) last.back last.are in
     let rest = Called s.c (calls.Load (record { seg = 0; offset = 8; size = 8 })) (replies.Bytes bytes) ∷ s.behind in
@@ -201,7 +201,7 @@ last-word seed ranks rounds journal ran rank less =
   where
     by-parts : (before rest : List Event) (c : CallerId) (behind : List Event)
         → rest ≡ Called c (calls.Load (record { seg = 0; offset = 8; size = 8 })) (replies.Bytes (bench_bytes seed ranks (rounds - 1) (left_of ranks rank))) ∷ behind
-        → journal ≡ before ++ rest → c.rank ≡ rank → count_by is_found_pair (own_calls rank 0 before) ≡ rounds
+        → journal ≡ before ++ rest → c.rank ≡ rank → count_by is_found_pair (recorded_calls rank 0 before) ≡ rounds
         → second_word ran.state rank ≡ bench_bytes seed ranks (rounds - 1) (left_of ranks rank)
     by-parts before rest c behind rest_is is mine reset =
         let j = ring-journal seed ranks rounds journal ran in

@@ -7,11 +7,11 @@ use Rattle.gaspi_types.specs.declared.calls.Call.{Call}
 use Rattle.gaspi_types.specs.declared.replies.Reply.{Reply}
 use Rattle.gaspi_types.specs.declared.events.Event.{Event}
 use Rattle.gaspi_types.specs.declared.events.Event.TheVariants.{Called}
-use Rattle.gaspi_model.specs.Step.{own_calls}
+use Rattle.gaspi_model.specs.Step.{recorded_calls}
 
 -- the calls of a caller in one event
 abbrev pub own_of : ℕ → ℕ → Event → List (Call × Reply)
-own_of rank thread e = own_calls rank thread (e ∷ [])
+own_of rank thread e = recorded_calls rank thread (e ∷ [])
 
 pub own-same : (c : CallerId) (call : Call) (reply : Reply) → own_of c.rank c.thread (Called c call reply) ≡ (call, reply) ∷ []
 own-same c call reply = rw (eq-eqb c.rank c.rank refl, eq-eqb c.thread c.thread refl) refl

@@ -1,15 +1,15 @@
 -- What stands in the lanes of a state, and the states of a legal history before and after each of its events.
 use Rattle.std.proofs.Common.{◌≡◌, ℕ, zero, suc, ◌+◌, ◌<◌, arith, true, List, [], ◌∷◌, ◌++◌, take, drop, Option, None, Some, Result, Ok, Err, refl, sym, ap, ◌∙◌, subst}
 use Rattle.std.specs.List.{slice_get}
-use Rattle.gaspi_types.specs.World.{World}
+use Rattle.gaspi_types.specs.World.{ShapeValue}
 use Rattle.gaspi_types.specs.declared.entries.Entry.{Entry}
 use Rattle.gaspi_types.specs.declared.entries.Kind.{Kind}
 use Rattle.gaspi_types.specs.declared.events.Event.{Event}
-use Rattle.gaspi_model.specs.Shards.{standing}
+use Rattle.gaspi_model.specs.Shards.{entry_after}
 use Rattle.gaspi_model.specs.Sound.{IsSound, AreRising}
 use Rattle.gaspi_model.specs.State.{opening}
 use Rattle.gaspi_model.specs.Step.{step, after, reached, is_legal}
-use Rattle.gaspi_model.specs.Transfers.{Found, find_entry}
+use Rattle.gaspi_model.specs.Transfers.{EntryPosition, find_entry}
 use Rattle.gaspi_model.specs.declared.states.Posts.{Posts}
 use Rattle.gaspi_model.specs.declared.states.State.{State}
 use Rattle.gaspi_model.specs.declared.states.Why.{Why}
@@ -26,10 +26,10 @@ pub record StandsIn (s : State) (origin queue target m : ℕ) (kind : Kind) : Ty
   pub there : slice_get s.posts origin ≡ Some posts
   pub in_queues : InQueues posts.queues queue target m kind
 
-pub stands-in : (s : State) (origin queue target m : ℕ) (e : Entry) → standing s origin queue target m ≡ Some e → StandsIn s origin queue target m e.kind
+pub stands-in : (s : State) (origin queue target m : ℕ) (e : Entry) → entry_after s origin queue target m ≡ Some e → StandsIn s origin queue target m e.kind
 stands-in s origin queue target m e h = with-posts (slice_get s.posts origin) refl
   where
-    with-found : (posts : Posts) → slice_get s.posts origin ≡ Some posts → (r : Result Found Why) → find_entry posts queue target m whys.Put ≡ r → StandsIn s origin queue target m e.kind
+    with-found : (posts : Posts) → slice_get s.posts origin ≡ Some posts → (r : Result EntryPosition Why) → find_entry posts queue target m whys.Put ≡ r → StandsIn s origin queue target m e.kind
     with-found posts hp (Ok at) hf =
         let some : ◌≡◌ {A = Option Entry} (Some at.entry) (Some e) = rw (hp, hf) at h in
         let same : at.entry ≡ e = cc in
@@ -43,7 +43,7 @@ stands-in s origin queue target m e h = with-posts (slice_get s.posts origin) re
             in_queue = record {
               lane = at.lane;
               lane_there = f.in_queue;
-              has = record { place = at.place; entry = at.entry; there = f.in_lane; numbered = found-number at.lane m at.place at.entry f.numbered f.in_lane; kind_is = ap (λ (x : Entry). x.kind) same };
+              has = record { place = at.position; entry = at.entry; there = f.in_lane; numbered = found-number at.lane m at.position at.entry f.numbered f.in_lane; kind_is = ap (λ (x : Entry). x.kind) same };
             };
           };
         }
@@ -70,14 +70,14 @@ stands-below s origin queue target m kind posts sound there i =
 
 -- and it stands there under its number
 pub is-standing : (s : State) (origin queue target m : ℕ) (kind : Kind) (posts : Posts) → IsSound s → slice_get s.posts origin ≡ Some posts → InQueues posts.queues queue target m kind
-    → (e : Entry) × (standing s origin queue target m ≡ Some e) × (e.kind ≡ kind)
+    → (e : Entry) × (entry_after s origin queue target m ≡ Some e) × (e.kind ≡ kind)
 is-standing s origin queue target m kind posts sound there i =
     let has = i.in_queue.has in
     let at = place_of-rising posts.next i.in_queue.lane has.place has.entry (lane-rising s origin queue target m kind posts i sound there) has.there in
-    let found : find_entry posts queue target has.entry.number whys.Put ≡ Ok (record { queue = i.q; lane = i.in_queue.lane; place = has.place; entry = has.entry }) =
+    let found : find_entry posts queue target has.entry.number whys.Put ≡ Ok (record { queue = i.q; lane = i.in_queue.lane; position = has.place; entry = has.entry }) =
     rw (i.queue_there, i.in_queue.lane_there, at, has.there) refl in
-    let stands : standing s origin queue target has.entry.number ≡ Some has.entry = rw (there, found) refl in
-    (has.entry, subst (λ (n : ℕ). standing s origin queue target n ≡ Some has.entry) has.numbered stands, has.kind_is)
+    let stands : entry_after s origin queue target has.entry.number ≡ Some has.entry = rw (there, found) refl in
+    (has.entry, subst (λ (n : ℕ). entry_after s origin queue target n ≡ Some has.entry) has.numbered stands, has.kind_is)
 
 -- a list parted at one of its items
 parted-behind : {A : Type 0} (xs : List A) (place : ℕ) (x : A) → slice_get xs place ≡ Some x → xs ≡ take place xs ++ x ∷ drop (suc place) xs
@@ -104,14 +104,14 @@ taken-from (suc n) (y ∷ xs) zero x at = (omega arith, at)
 taken-from (suc n) (y ∷ xs) (suc k) x at = let rest = taken-from n xs k x at in let less = rest.0 in (omega arith, rest.1)
 
 -- an event of a legal history: the states before and after it
-pub record IsStepAt (w : World) (journal : List Event) (place : ℕ) (e : Event) : Type 0 where
+pub record IsStepAt (w : ShapeValue) (journal : List Event) (place : ℕ) (e : Event) : Type 0 where
   pub s : State
   pub t : State
   pub before : reached w (take place journal) ≡ Ok s
   pub step_is : step s e ≡ Ok t
   pub later : reached w (take (place + 1) journal) ≡ Ok t
 
-pub step-at : (w : World) (journal : List Event) (place : ℕ) (e : Event) → is_legal w journal ≡ true → slice_get journal place ≡ Some e → IsStepAt w journal place e
+pub step-at : (w : ShapeValue) (journal : List Event) (place : ℕ) (e : Event) → is_legal w journal ≡ true → slice_get journal place ≡ Some e → IsStepAt w journal place e
 step-at w journal place e legal at =
     let end = leads (reached w journal) legal in
     let whole : after (opening w) (take place journal ++ e ∷ drop (place + 1) journal) ≡ Ok end.0 = subst (λ (events : List Event). after (opening w) events ≡ Ok end.0) (parted journal place e at) end.1 in

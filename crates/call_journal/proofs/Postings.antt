@@ -6,7 +6,7 @@ use Rattle.std.proofs.lemmas.List.{length-append}
 use Rattle.std.proofs.lemmas.Option.{slice_get_within}
 use Rattle.gaspi_types.specs.CallRows.{row_of, list_entries, entries_of}
 use Rattle.gaspi_types.specs.Kinds.{is_write_kind, is_notify_kind}
-use Rattle.gaspi_types.specs.Posts.{slot_in, is_list_length, write_item, read_item, write_notify_item, read_notify_item, transfers_alone, noted_writes, noted_reads, call_kinds}
+use Rattle.gaspi_types.specs.Posts.{slot_in, is_list_length, write_item, read_item, write_notify_item, read_notify_item, transfers_alone, writes_with_notification, reads_with_notification, call_kinds}
 use Rattle.gaspi_types.specs.declared.call_rows.Posting.{Posting}
 use Rattle.gaspi_types.specs.declared.calls.Call.{Call}
 use Rattle.gaspi_types.specs.declared.calls.Call.TheVariants.{Write, Read, Notify, WriteNotify, ReadNotify, WriteList, WriteListNotify, ReadList, ReadListNotify}
@@ -142,13 +142,13 @@ call-kinds notes me table (ReadList call) to kinds is h =
     let count = listed-count (length call.items) 0 l.0 in
     reads-kinds (near_in table) (far_in me table call.rank) call.items kinds (list_entries (length call.items) 0) (alone-ok Inward me table call.rank call.items kinds l.1) (omega (arith, count))
 call-kinds notes me table (WriteListNotify call) to kinds is h =
-    let l = listed-ok call.items (noted_writes notes me table call.rank call.items call.nseg call.note call.value) kinds h in
+    let l = listed-ok call.items (writes_with_notification notes me table call.rank call.items call.nseg call.note call.value) kinds h in
     let k = noted_writes-ok notes me table call.rank call.items call.nseg call.note call.value kinds l.1 in
     let count = listed-count (length call.items) 1 l.0 in
     as-writes (length call.items) (list_entries (length call.items) 1 - 1) (list_entries (length call.items) 1) true kinds (less-one (length call.items) _ count)
     (noted-kinds (near_in table) (far_in me table call.rank) call.items k.transfers kinds (kinds_of.Notify (slot_in k.theirs call.nseg call.note) call.value) (length call.items) (list_entries (length call.items) 1) k.are k.is refl refl refl count)
 call-kinds notes me table (ReadListNotify call) to kinds is h =
-    let l = listed-ok call.items (noted_reads notes me table call.rank call.items call.nseg call.note) kinds h in
+    let l = listed-ok call.items (reads_with_notification notes me table call.rank call.items call.nseg call.note) kinds h in
     let k = noted_reads-ok notes me table call.rank call.items call.nseg call.note kinds l.1 in
     let count = listed-count (length call.items) 1 l.0 in
     read_noted-kinds (near_in table) (far_in me table call.rank) call.items k.transfers kinds (kinds_of.ReadNote (slot_in k.mine call.nseg call.note)) (length call.items) (list_entries (length call.items) 1) k.are k.is refl refl refl count

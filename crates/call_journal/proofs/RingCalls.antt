@@ -5,7 +5,7 @@ use Rattle.std.specs.Option.{option_and_then}
 use Rattle.std.proofs.lemmas.List.Sums.{sum_by-append}
 use Rattle.std.proofs.lemmas.Option.{slice_get_within}
 use Rattle.gaspi_types.specs.Lanes.{lane_owed, entry_owed, posted_entries}
-use Rattle.gaspi_types.specs.Posts.{slot_in, noted_writes}
+use Rattle.gaspi_types.specs.Posts.{slot_in, writes_with_notification}
 use Rattle.gaspi_types.specs.Replies.{is_idle, is_done}
 use Rattle.gaspi_types.specs.SegmentBytes.{with_range}
 use Rattle.gaspi_types.specs.SegmentTables.{extent_in, known_extent}
@@ -15,7 +15,7 @@ use Rattle.gaspi_types.specs.declared.calls.Call.TheVariants as calls
 use Rattle.gaspi_types.specs.declared.calls.posts.Item.{Item}
 use Rattle.gaspi_types.specs.declared.entries.ByteRange.{ByteRange}
 use Rattle.gaspi_types.specs.declared.entries.Direction.TheVariants.{Outward}
-use Rattle.gaspi_types.specs.declared.entries.Ends.{Ends}
+use Rattle.gaspi_types.specs.declared.entries.Endpoints.{Endpoints}
 use Rattle.gaspi_types.specs.declared.entries.NoteSlot.{NoteSlot}
 use Rattle.gaspi_types.specs.declared.entries.Entry.{Entry}
 use Rattle.gaspi_types.specs.declared.entries.Kind.{Kind}
@@ -29,7 +29,7 @@ use Rattle.gaspi_types.specs.declared.segments.Extent.{Extent}
 use Rattle.gaspi_types.specs.declared.segments.SegmentTable.{SegmentTable}
 use Rattle.gaspi_types.specs.declared.shapes.CallerId.{CallerId}
 use Rattle.gaspi_types.proofs.Items.{changed_at-found, set-there, there-within}
-use Rattle.gaspi_model.specs.Calls.{call_asks}
+use Rattle.gaspi_model.specs.Calls.{requested_kinds}
 use Rattle.gaspi_model.specs.Memories.{bytes_of, slots_of, with_bytes, with_slots}
 use Rattle.gaspi_model.specs.Posting.{counted}
 use Rattle.gaspi_model.specs.Step.{step, owner_of}
@@ -37,9 +37,9 @@ use Rattle.gaspi_model.specs.declared.states.Posts.{Posts}
 use Rattle.gaspi_model.specs.declared.states.Memory.{Memory}
 use Rattle.gaspi_model.specs.declared.states.State.{State}
 use Rattle.gaspi_model.proofs.Asked.{IsTransfer, AreTransfers, near_in, far_in, noted_writes-ok}
-use Rattle.gaspi_model.proofs.Changed.OwnCalls.{own-worked, slot-reset}
+use Rattle.gaspi_model.proofs.Changed.OwnCalls.{own-on_memory, slot-reset}
 use Rattle.gaspi_model.proofs.Changed.Posted.{post-done}
-use Rattle.gaspi_model.proofs.Changed.QueueCalls.{posts-worked}
+use Rattle.gaspi_model.proofs.Changed.QueueCalls.{posts-on_memory}
 use Rattle.gaspi_model.proofs.GroupSteps.{step-completed}
 use Rattle.gaspi_model.proofs.IdleSteps.{only-counted}
 use Rattle.gaspi_model.proofs.Sound.Accounts.{lane_owed-posted, post-ok}
@@ -154,7 +154,7 @@ store-local : (ranks : ℕ) (s t : State) (c : CallerId) (bytes : List ℕ) (rep
     → step s (Called c (calls.Store (record { seg = 0; offset = 0; bytes = bytes })) reply) ≡ Ok t → IsLocal ranks s t (Called c (calls.Store (record { seg = 0; offset = 0; bytes = bytes })) reply)
 store-local ranks s t c bytes reply eight ring awake h =
     let call : Call = calls.Store (record { seg = 0; offset = 0; bytes = bytes }) in
-    let made = own-worked s t c (calls.Store (record { seg = 0; offset = 0; bytes = bytes })) reply refl refl awake ring.sound h in
+    let made = own-on_memory s t c (calls.Store (record { seg = 0; offset = 0; bytes = bytes })) reply refl refl awake ring.sound h in
     let w = made.2 in
     let p = made.0 in
     let m = made.1 in
@@ -168,7 +168,7 @@ store-local ranks s t c bytes reply eight ring awake h =
 reset-local : (ranks : ℕ) (s t : State) (c : CallerId) (reply : Reply) → IsRing ranks s → is_idle reply ≡ false
     → step s (Called c (calls.Reset (record { seg = 0; note = 0 })) reply) ≡ Ok t → IsLocal ranks s t (Called c (calls.Reset (record { seg = 0; note = 0 })) reply)
 reset-local ranks s t c reply ring awake h =
-    let made = own-worked s t c (calls.Reset (record { seg = 0; note = 0 })) reply refl refl awake ring.sound h in
+    let made = own-on_memory s t c (calls.Reset (record { seg = 0; note = 0 })) reply refl refl awake ring.sound h in
     let w = made.2 in
     let p = made.0 in
     let m = made.1 in
@@ -209,7 +209,7 @@ wait-total f queues = go (slice_get queues 0) refl
 wait-local : (ranks : ℕ) (s t : State) (c : CallerId) (reply : Reply) → IsRing ranks s → is_idle reply ≡ false
     → step s (Called c (calls.Wait (record { queue = 0 })) reply) ≡ Ok t → IsLocal ranks s t (Called c (calls.Wait (record { queue = 0 })) reply)
 wait-local ranks s t c reply ring awake h =
-    let made = posts-worked s t c (calls.Wait (record { queue = 0 })) reply refl refl awake (λ posts brought memory. refl) ring.sound h in
+    let made = posts-on_memory s t c (calls.Wait (record { queue = 0 })) reply refl refl awake (λ posts brought memory. refl) ring.sound h in
     let w = made.2 in
     let p = made.0 in
     let m = own-memory ranks s c.rank p ring w.posts_there in
@@ -223,7 +223,7 @@ wait-local ranks s t c reply ring awake h =
 
 end-local : (ranks : ℕ) (s t : State) (c : CallerId) (reply : Reply) → IsRing ranks s → is_idle reply ≡ false → step s (Called c calls.End reply) ≡ Ok t → IsLocal ranks s t (Called c calls.End reply)
 end-local ranks s t c reply ring awake h =
-    let made = posts-worked s t c calls.End reply refl refl awake (λ posts brought memory. refl) ring.sound h in
+    let made = posts-on_memory s t c calls.End reply refl refl awake (λ posts brought memory. refl) ring.sound h in
     let w = made.2 in
     let m = own-memory ranks s c.rank made.0 ring w.posts_there in
     read-local ranks s t c calls.End reply made.0 _ m.0 m.0 ring w.posts_there m.1
@@ -234,7 +234,7 @@ end-local ranks s t c reply ring awake h =
 look-local : (ranks : ℕ) (s t : State) (c : CallerId) (reply : Reply) → IsRing ranks s → is_idle reply ≡ false
     → step s (Called c (calls.Waitsome (record { seg = 0; begin = 0; num = 1 })) reply) ≡ Ok t → IsLocal ranks s t (Called c (calls.Waitsome (record { seg = 0; begin = 0; num = 1 })) reply)
 look-local ranks s t c reply ring awake h =
-    let made = own-worked s t c (calls.Waitsome (record { seg = 0; begin = 0; num = 1 })) reply refl refl awake ring.sound h in
+    let made = own-on_memory s t c (calls.Waitsome (record { seg = 0; begin = 0; num = 1 })) reply refl refl awake ring.sound h in
     let w = made.2 in
     read-local ranks s t c (calls.Waitsome (record { seg = 0; begin = 0; num = 1 })) reply made.0 _ made.1 _ ring w.posts_there w.memory_there
     (ap (λ (x : State). x.posts) w.leaves) (ap (λ (x : State). x.memories) w.leaves) (rw awake refl) (rw awake refl) (rw awake refl) refl refl
@@ -242,7 +242,7 @@ look-local ranks s t c reply ring awake h =
 load-local : (ranks : ℕ) (s t : State) (c : CallerId) (reply : Reply) → IsRing ranks s → is_idle reply ≡ false
     → step s (Called c (calls.Load (record { seg = 0; offset = 8; size = 8 })) reply) ≡ Ok t → IsLocal ranks s t (Called c (calls.Load (record { seg = 0; offset = 8; size = 8 })) reply)
 load-local ranks s t c reply ring awake h =
-    let made = own-worked s t c (calls.Load (record { seg = 0; offset = 8; size = 8 })) reply refl refl awake ring.sound h in
+    let made = own-on_memory s t c (calls.Load (record { seg = 0; offset = 8; size = 8 })) reply refl refl awake ring.sound h in
     let w = made.2 in
     read-local ranks s t c (calls.Load (record { seg = 0; offset = 8; size = 8 })) reply made.0 _ made.1 _ ring w.posts_there w.memory_there
     (ap (λ (x : State). x.posts) w.leaves) (ap (λ (x : State). x.memories) w.leaves) (rw awake refl) (rw awake refl) (rw awake refl) refl refl
@@ -287,7 +287,7 @@ record IsRingAsked (kinds : List Kind) : Type 0 where
   second : (slot.segment ≡ 0) × (slot.generation ≡ 0)
 
 ring-asked : (ranks me notes : ℕ) (queues : List Queue) (table : SegmentTable) (rank : ℕ) (item : Item) (kinds : List Kind) → item.rseg ≡ 0 → IsRingPosts ranks me queues table
-    → noted_writes notes me table rank (item ∷ []) 0 0 1 ≡ Ok kinds → IsRingAsked kinds
+    → writes_with_notification notes me table rank (item ∷ []) 0 0 1 ≡ Ok kinds → IsRingAsked kinds
 ring-asked ranks me notes queues table rank item kinds zero_there ring h =
     let noted = noted_writes-ok notes me table rank (item ∷ []) 0 0 1 kinds h in
     let one = one-transfer (near_in table) (far_in me table rank) item noted.transfers noted.are in
@@ -300,7 +300,7 @@ ring-asked ranks me notes queues table rank item kinds zero_there ring h =
       target = ends.target;
       slot = slot_in noted.theirs 0 0;
       are = noted.is ∙ ap (λ (xs : List Kind). xs ++ Notify (slot_in noted.theirs 0 0) 1 ∷ []) one.1 ∙ ap (λ (k : Kind). k ∷ Notify (slot_in noted.theirs 0 0) 1 ∷ []) one.2.is;
-      first = (ap (λ (x : Ends). x.target.segment) are.are ∙ zero_there, ap (λ (x : Ends). x.target.generation) are.are ∙ theirs);
+      first = (ap (λ (x : Endpoints). x.target.segment) are.are ∙ zero_there, ap (λ (x : Endpoints). x.target.generation) are.are ∙ theirs);
       second = (refl, known);
     }
 
@@ -353,9 +353,9 @@ done-some reply h = cc
 post-local : (ranks : ℕ) (s t : State) (c : CallerId) (reply : Reply) → IsRing ranks s → is_idle reply ≡ false → step s (Called c (ring_call (right_of ranks c.rank)) reply) ≡ Ok t
     → IsLocal ranks s t (Called c (ring_call (right_of ranks c.rank)) reply)
 post-local ranks s t c reply ring awake h =
-    let made = posts-worked s t c (ring_call (right_of ranks c.rank)) reply refl refl awake (λ posts brought memory. refl) ring.sound h in
+    let made = posts-on_memory s t c (ring_call (right_of ranks c.rank)) reply refl refl awake (λ posts brought memory. refl) ring.sound h in
     let w = made.2 in
-    let found = post-ok s.limits made.0 (right_of ranks c.rank) 0 (call_asks s.limits c.rank made.0 (ring_call (right_of ranks c.rank))) (Some reply) w.finds in
+    let found = post-ok s.limits made.0 (right_of ranks c.rank) 0 (requested_kinds s.limits c.rank made.0 (ring_call (right_of ranks c.rank))) (Some reply) w.finds in
     let done = done-some reply found.2.done in
     subst (λ (r : Reply). IsLocal ranks s t (Called c (ring_call (right_of ranks c.rank)) r)) (sym done)
     (posted-local ranks s t c ring (subst (λ (r : Reply). step s (Called c (ring_call (right_of ranks c.rank)) r) ≡ Ok t) done h))

@@ -9,7 +9,7 @@ use Rattle.gaspi_types.specs.declared.groups.Args.{Args}
 use Rattle.gaspi_types.specs.declared.replies.Reply.{Reply}
 use Rattle.gaspi_types.specs.declared.shapes.CallerId.{CallerId}
 use Rattle.gaspi_types.proofs.Items.{same-or-not}
-use Rattle.gaspi_model.specs.Step.{step, after, owner_of, own_calls}
+use Rattle.gaspi_model.specs.Step.{step, after, owner_of, recorded_calls}
 use Rattle.gaspi_model.specs.declared.states.State.{State}
 use Rattle.gaspi_model.proofs.Histories.{after-first}
 use Rattle.rank_script.specs.Bench.{right_of}
@@ -109,22 +109,22 @@ own-made : (f : Event → ℕ) (p : Pair → Bool) (rank : ℕ) (ranks : ℕ) (e
     → ((c : CallerId) (call : Call) (reply : Reply) → f (Called c call reply) ≡ cond (p (call, reply)) 1 0)
     → ((c : CallerId) (id : ℕ) (args : Args) → f (Joined c id args) ≡ 0) → ((origin queue target number : ℕ) (outcome : Outcome) → f (Take origin queue target number outcome) ≡ 0)
     → ((origin queue target number : ℕ) (outcome : Outcome) → f (Put origin queue target number outcome) ≡ 0)
-    → counted_over f rank events ≡ count_by p (own_calls rank 0 events)
+    → counted_over f rank events ≡ count_by p (recorded_calls rank 0 events)
 own-made f p rank ranks [] first called joined take put = refl
 own-made f p rank ranks (Called c call reply ∷ events) first called joined take put =
     let rest = own-made f p rank ranks events first.1 called joined take put in
     same-or-not c.rank rank
     (λ here.
     let mine : counted_for f rank (Called c call reply) ≡ f (Called c call reply) = subst (λ (r : ℕ). counted_for f r (Called c call reply) ≡ f (Called c call reply)) here (counted-mine f (Called c call reply)) in
-    let own : own_calls rank 0 (Called c call reply ∷ events) ≡ (call, reply) ∷ own_calls rank 0 events =
-    subst (λ (r : ℕ). own_calls r 0 (Called c call reply ∷ events) ≡ (call, reply) ∷ own_calls r 0 events) here (own-mine c call reply events first.0.1) in
-    let cons = count-cons p (call, reply) (own_calls rank 0 events) in
-    let all : count_by p (own_calls rank 0 (Called c call reply ∷ events)) ≡ count_by p ((call, reply) ∷ own_calls rank 0 events) = ap (count_by p) own in
+    let own : recorded_calls rank 0 (Called c call reply ∷ events) ≡ (call, reply) ∷ recorded_calls rank 0 events =
+    subst (λ (r : ℕ). recorded_calls r 0 (Called c call reply ∷ events) ≡ (call, reply) ∷ recorded_calls r 0 events) here (own-mine c call reply events first.0.1) in
+    let cons = count-cons p (call, reply) (recorded_calls rank 0 events) in
+    let all : count_by p (recorded_calls rank 0 (Called c call reply ∷ events)) ≡ count_by p ((call, reply) ∷ recorded_calls rank 0 events) = ap (count_by p) own in
     let value = called c call reply in
     omega (arith, mine, cons, all, value, rest))
     (λ apart.
     let other = counted-other f rank (Called c call reply) apart in
-    let own : count_by p (own_calls rank 0 (Called c call reply ∷ events)) ≡ count_by p (own_calls rank 0 events) = ap (count_by p) (own-other c call reply events rank (λ e. apart (sym e))) in
+    let own : count_by p (recorded_calls rank 0 (Called c call reply ∷ events)) ≡ count_by p (recorded_calls rank 0 events) = ap (count_by p) (own-other c call reply events rank (λ e. apart (sym e))) in
     omega (arith, other, own, rest))
 own-made f p rank ranks (Joined c id args ∷ events) first called joined take put =
     let rest = own-made f p rank ranks events first.1 called joined take put in
@@ -142,11 +142,11 @@ own-made f p rank ranks (Put origin queue target number outcome ∷ events) firs
 abbrev pub is_post_pair : Pair → Bool
 is_post_pair pair = is_post pair.0 pair.1
 
-pub own-posts : (rank ranks : ℕ) (events : List Event) → AreOfFirst ranks events → counted_over posts_made rank events ≡ count_by is_post_pair (own_calls rank 0 events)
+pub own-posts : (rank ranks : ℕ) (events : List Event) → AreOfFirst ranks events → counted_over posts_made rank events ≡ count_by is_post_pair (recorded_calls rank 0 events)
 own-posts rank ranks events first =
     own-made posts_made is_post_pair rank ranks events first (λ c call reply. refl) (λ c id args. refl) (λ origin queue target number outcome. refl) (λ origin queue target number outcome. refl)
 
-pub own-resets : (rank ranks : ℕ) (events : List Event) → AreOfFirst ranks events → counted_over resets rank events ≡ count_by is_found_pair (own_calls rank 0 events)
+pub own-resets : (rank ranks : ℕ) (events : List Event) → AreOfFirst ranks events → counted_over resets rank events ≡ count_by is_found_pair (recorded_calls rank 0 events)
 own-resets rank ranks events first =
     own-made resets is_found_pair rank ranks events first (λ c call reply. refl) (λ c id args. refl) (λ origin queue target number outcome. refl) (λ origin queue target number outcome. refl)
 
@@ -183,16 +183,16 @@ pub pairs-append : (ranks rank : ℕ) (a b : List Pair) → AreRingPairs ranks r
 pairs-append ranks rank [] b are more = more
 pairs-append ranks rank (pair ∷ a) b are more = (are.0, pairs-append ranks rank a b are.1 more)
 
-pub ring-events : (ranks : ℕ) (events : List Event) → AreOfFirst ranks events → ((rank : ℕ) → rank < ranks → AreRingPairs ranks rank (own_calls rank 0 events)) → AreRingEvents ranks events
+pub ring-events : (ranks : ℕ) (events : List Event) → AreOfFirst ranks events → ((rank : ℕ) → rank < ranks → AreRingPairs ranks rank (recorded_calls rank 0 events)) → AreRingEvents ranks events
 ring-events ranks [] first pairs = tt
 ring-events ranks (Called c call reply ∷ events) first pairs =
     let mine = subst (AreRingPairs ranks c.rank) (own-mine c call reply events first.0.1) (pairs c.rank first.0.0) in
     (mine.0, ring-events ranks events first.1 (λ rank less. later rank (pairs rank less)))
   where
-    later : (rank : ℕ) → AreRingPairs ranks rank (own_calls rank 0 (Called c call reply ∷ events)) → AreRingPairs ranks rank (own_calls rank 0 events)
+    later : (rank : ℕ) → AreRingPairs ranks rank (recorded_calls rank 0 (Called c call reply ∷ events)) → AreRingPairs ranks rank (recorded_calls rank 0 events)
     later rank are = same-or-not c.rank rank
         (λ here.
-        (subst (AreRingPairs ranks rank) (subst (λ (r : ℕ). own_calls r 0 (Called c call reply ∷ events) ≡ (call, reply) ∷ own_calls r 0 events) here (own-mine c call reply events first.0.1)) are).1)
+        (subst (AreRingPairs ranks rank) (subst (λ (r : ℕ). recorded_calls r 0 (Called c call reply ∷ events) ≡ (call, reply) ∷ recorded_calls r 0 events) here (own-mine c call reply events first.0.1)) are).1)
         (λ apart. subst (AreRingPairs ranks rank) (own-other c call reply events rank (λ e. apart (sym e))) are)
 ring-events ranks (Joined c id args ∷ events) first pairs = (tt, ring-events ranks events first.1 pairs)
 ring-events ranks (Take origin queue target number outcome ∷ events) first pairs = (tt, ring-events ranks events first.1 pairs)

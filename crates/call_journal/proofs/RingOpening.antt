@@ -6,12 +6,12 @@ use Rattle.std.proofs.lemmas.Bool.{eq-eqb, eqb-true, ne_eqb, le-leb}
 use Rattle.std.proofs.lemmas.List.Folds.{find-append, sum_by-replicate}
 use Rattle.gaspi_types.specs.Lanes.{lane_owed}
 use Rattle.gaspi_types.specs.Segments.{new_segment}
-use Rattle.gaspi_types.specs.World.{World, IsWorld, are_limits, is_segment, is_caller, is_segment_size}
+use Rattle.gaspi_types.specs.World.{ShapeValue, IsShape, are_limits, is_segment, is_caller, is_segment_size}
 use Rattle.gaspi_types.specs.declared.entries.Entry.{Entry}
 use Rattle.gaspi_types.specs.declared.entries.Queue.{Queue}
 use Rattle.gaspi_types.specs.declared.segments.Extent.{Extent}
 use Rattle.gaspi_types.specs.declared.shapes.CallerId.{CallerId}
-use Rattle.gaspi_types.specs.declared.shapes.Declared.{Declared}
+use Rattle.gaspi_types.specs.declared.shapes.DeclaredSegment.{DeclaredSegment}
 use Rattle.gaspi_types.proofs.Chains.{both}
 use Rattle.gaspi_types.proofs.Extents.{extent-at}
 use Rattle.gaspi_types.proofs.Items.{map-at, slice_get-replicate, append-parts, same-or-not}
@@ -53,7 +53,7 @@ one-each {A} made item p rank none more only (suc n) = go (one-each made item p 
 callers-once : (p : CallerId → Bool) (rank : ℕ) → ((n : ℕ) → p (record { rank = n; thread = 0 }) ≡ true → n ≡ rank) → (n : ℕ) → count_by p (bench_callers n) ≤ 1
 callers-once p rank only n = (one-each bench_callers (λ (k : ℕ). record { rank = k; thread = 0 }) p rank refl (λ k. refl) only n).0
 
-segments-once : (p : Declared → Bool) (rank : ℕ) → ((n : ℕ) → p (record { rank = n; segment = 0; size = 16 }) ≡ true → n ≡ rank) → (n : ℕ) → count_by p (bench_segments n) ≤ 1
+segments-once : (p : DeclaredSegment → Bool) (rank : ℕ) → ((n : ℕ) → p (record { rank = n; segment = 0; size = 16 }) ≡ true → n ≡ rank) → (n : ℕ) → count_by p (bench_segments n) ≤ 1
 segments-once p rank only n = (one-each bench_segments (λ (k : ℕ). record { rank = k; segment = 0; size = 16 }) p rank refl (λ k. refl) only n).0
 
 callers-within : (n place : ℕ) (c : CallerId) → slice_get (bench_callers n) place ≡ Some c → (c.rank < n) × (c.thread < 4)
@@ -71,22 +71,22 @@ callers-within (suc n) place c at = go (append-parts (bench_callers n) (record {
     go (inl before) rest = (let is = rest before.0 before.1 in let less = is.0 in ((omega arith), is.1))
     go (inr here) rest = last here.0 here.1
 
-segments-within : (n place : ℕ) (d : Declared) → slice_get (bench_segments n) place ≡ Some d → (d.rank < n) × (d.segment < 32) × (is_segment_size d.size ≡ true)
+segments-within : (n place : ℕ) (d : DeclaredSegment) → slice_get (bench_segments n) place ≡ Some d → (d.rank < n) × (d.segment < 32) × (is_segment_size d.size ≡ true)
 segments-within zero place d at = absurd (let no : ⊥ = cc in no)
 segments-within (suc n) place d at = go (append-parts (bench_segments n) (record { rank = n; segment = 0; size = 16 } ∷ []) place d at) (λ k before. segments-within n k d before)
   where
-    last : (k : ℕ) → slice_get {X = Declared} (record { rank = n; segment = 0; size = 16 } ∷ []) k ≡ Some d → (d.rank < suc n) × (d.segment < 32) × (is_segment_size d.size ≡ true)
+    last : (k : ℕ) → slice_get {X = DeclaredSegment} (record { rank = n; segment = 0; size = 16 } ∷ []) k ≡ Some d → (d.rank < suc n) × (d.segment < 32) × (is_segment_size d.size ≡ true)
     last zero at =
-        let same : ◌≡◌ {A = Declared} (record { rank = n; segment = 0; size = 16 }) d = cc in
-        subst (λ (x : Declared). (x.rank < suc n) × (x.segment < 32) × (is_segment_size x.size ≡ true)) same ((omega arith), (omega arith), refl)
+        let same : ◌≡◌ {A = DeclaredSegment} (record { rank = n; segment = 0; size = 16 }) d = cc in
+        subst (λ (x : DeclaredSegment). (x.rank < suc n) × (x.segment < 32) × (is_segment_size x.size ≡ true)) same ((omega arith), (omega arith), refl)
     last (suc k) at = absurd (let no : ⊥ = cc in no)
 
-    go : ((k : ℕ) × (slice_get (bench_segments n) k ≡ Some d)) ⊎ ((k : ℕ) × (slice_get {X = Declared} (record { rank = n; segment = 0; size = 16 } ∷ []) k ≡ Some d))
+    go : ((k : ℕ) × (slice_get (bench_segments n) k ≡ Some d)) ⊎ ((k : ℕ) × (slice_get {X = DeclaredSegment} (record { rank = n; segment = 0; size = 16 } ∷ []) k ≡ Some d))
         → ((k : ℕ) → slice_get (bench_segments n) k ≡ Some d → (d.rank < n) × (d.segment < 32) × (is_segment_size d.size ≡ true)) → (d.rank < suc n) × (d.segment < 32) × (is_segment_size d.size ≡ true)
     go (inl before) rest = (let is = rest before.0 before.1 in let less = is.0 in ((omega arith), is.1, is.2))
     go (inr here) rest = last here.0 here.1
 
-pub bench-world : (ranks rounds : ℕ) → 1 ≤ ranks → ranks ≤ 16 → rounds ≤ 5000 → IsWorld (bench_shape ranks rounds)
+pub bench-world : (ranks rounds : ℕ) → 1 ≤ ranks → ranks ≤ 16 → rounds ≤ 5000 → IsShape (bench_shape ranks rounds)
 bench-world ranks rounds some few short = record {
   limits = world-limits ranks rounds some few short;
   callers = λ rank. (let one = callers-once (λ (c : CallerId). c.rank == rank) rank (λ n is. eqb-true n rank is) ranks in omega (arith, one));
@@ -113,11 +113,11 @@ segment-found (suc n) rank less =
         ∙ rw (earlier m r (omega arith), ne_eqb m r (λ same. (let no : ⊥ = omega arith in no))) refl
 
 declared-there : (ranks rounds rank : ℕ) → rank < ranks → declared_size (bench_shape ranks rounds) rank 0 ≡ Some 16
-declared-there ranks rounds rank less = ap (option_map (λ (d : Declared). d.size)) (segment-found ranks rank less)
+declared-there ranks rounds rank less = ap (option_map (λ (d : DeclaredSegment). d.size)) (segment-found ranks rank less)
 
 -- The ring at the start.
 
-opening-knows : (w : World) (rank : ℕ) → KnowsZero (opening_extents w rank)
+opening-knows : (w : ShapeValue) (rank : ℕ) → KnowsZero (opening_extents w rank)
 opening-knows w rank x there =
     let at = extent-at (opening_extents w rank) 0 x there in
     let from = map-at (λ (segment : ℕ). option_map (λ (size : ℕ). record { generation = 0; size = size }) (declared_size w rank segment)) (range_with_len 0 32) 0 (Some x) at.1 in
@@ -127,7 +127,7 @@ opening-knows w rank x there =
     go None is = absurd (let no : ⊥ = cc in no)
     go (Some size) is = (let same : ◌≡◌ {A = Extent} x (record { generation = 0; size = size }) = cc in ap (λ (e : Extent). e.generation) same)
 
-opening-ring : (w : World) (ranks rank : ℕ) → IsRingPosts ranks rank (opening_posts w rank).queues (opening_posts w rank).segments
+opening-ring : (w : ShapeValue) (ranks rank : ℕ) → IsRingPosts ranks rank (opening_posts w rank).queues (opening_posts w rank).segments
 opening-ring w ranks rank = record {
   own = opening-knows w rank;
   known = λ k extents at.
@@ -142,7 +142,7 @@ opening-ring w ranks rank = record {
 opening-zero : (ranks rounds rank : ℕ) → rank < ranks → HasZero (opening_memory (bench_shape ranks rounds) rank)
 opening-zero ranks rounds rank less = (new_segment 0 16, ap (option_map (new_segment 0)) (declared-there ranks rounds rank less), refl)
 
-pub bench-ring : (ranks rounds : ℕ) → IsWorld (bench_shape ranks rounds) → IsRing ranks (opening (bench_shape ranks rounds))
+pub bench-ring : (ranks rounds : ℕ) → IsShape (bench_shape ranks rounds) → IsRing ranks (opening (bench_shape ranks rounds))
 bench-ring ranks rounds world = record {
   sound = opens (bench_shape ranks rounds) world;
   many = refl;
@@ -165,7 +165,7 @@ bench-ring ranks rounds world = record {
 
 -- Nothing is counted in it.
 
-opening-total : (f : List Entry → ℕ) (w : World) (rank : ℕ) → f [] ≡ 0 → total f (opening_posts w rank).queues ≡ 0
+opening-total : (f : List Entry → ℕ) (w : ShapeValue) (rank : ℕ) → f [] ≡ 0 → total f (opening_posts w rank).queues ≡ 0
 opening-total f w rank none =
     let lanes : sum_by f (opening_queue w.limits.ranks).lanes ≡ w.limits.ranks * f [] = sum_by-replicate f w.limits.ranks [] in
     let empty : sum_by f (opening_queue w.limits.ranks).lanes ≡ 0 = lanes ∙ rw none (omega arith) in
@@ -178,22 +178,22 @@ opening-value {A} make f xs rank none = go (slice_get (map make xs) rank) refl
     go None at = rw at refl
     go (Some x) at = (let from = map-at make xs rank x at in rw at (ap f from.2 ∙ none from.0))
 
-pub opening-owed : (w : World) (rank : ℕ) → owed_in (opening w) rank ≡ 0
+pub opening-owed : (w : ShapeValue) (rank : ℕ) → owed_in (opening w) rank ≡ 0
 opening-owed w rank = opening-value (opening_posts w) owed_of (range_with_len 0 w.limits.ranks) rank (λ k. opening-total lane_owed w k refl)
 
-pub opening-notes : (w : World) (rank : ℕ) → notes_in (opening w) rank ≡ 0
+pub opening-notes : (w : ShapeValue) (rank : ℕ) → notes_in (opening w) rank ≡ 0
 opening-notes w rank = opening-value (opening_posts w) notes_of (range_with_len 0 w.limits.ranks) rank (λ k. opening-total lane_notes w k refl)
 
 unset : (notes : ℕ) → is_first_set (replicate notes 0) ≡ 0
 unset zero = refl
 unset (suc n) = refl
 
-opening-slot_of : (w : World) (rank : ℕ) → slot_of (opening_memory w rank) ≡ 0
+opening-slot_of : (w : ShapeValue) (rank : ℕ) → slot_of (opening_memory w rank) ≡ 0
 opening-slot_of w rank = go (declared_size w rank 0)
   where
     go : (o : Option ℕ) → is_first_set (unwrap_or (option_map (λ (size : ℕ). new_slots w.limits.notes) o) []) ≡ 0
     go None = refl
     go (Some size) = unset w.limits.notes
 
-pub opening-slot : (w : World) (rank : ℕ) → slot_in (opening w) rank ≡ 0
+pub opening-slot : (w : ShapeValue) (rank : ℕ) → slot_in (opening w) rank ≡ 0
 opening-slot w rank = opening-value (opening_memory w) slot_of (range_with_len 0 w.limits.ranks) rank (λ k. opening-slot_of w k)

@@ -7,7 +7,7 @@ use Rattle.gaspi_types.specs.Lanes.{lane_owed, is_posted, is_carried, is_notify,
 use Rattle.gaspi_types.specs.SegmentBytes.{range_of}
 use Rattle.gaspi_types.specs.SegmentTables.{extent_in}
 use Rattle.gaspi_types.specs.Segments.{bytes_in}
-use Rattle.gaspi_types.specs.Tables.{entry_at}
+use Rattle.gaspi_types.specs.Tables.{item_at}
 use Rattle.gaspi_types.specs.declared.collectives.Coll.{Coll}
 use Rattle.gaspi_types.specs.declared.collectives.Coll.TheVariants as colls
 use Rattle.gaspi_types.specs.declared.entries.Entry.{Entry}
@@ -33,7 +33,7 @@ use Rattle.gaspi_model.specs.Posting.{counted}
 use Rattle.gaspi_model.specs.Shards.{is_create}
 use Rattle.gaspi_model.specs.State.{segment_at}
 use Rattle.gaspi_model.specs.Step.{step}
-use Rattle.gaspi_model.specs.Transfers.{Worked, memory_with_put, memory_put, carried_bytes}
+use Rattle.gaspi_model.specs.Transfers.{PostsAndMemory, memory_with_put, memory_put, carried_bytes}
 use Rattle.gaspi_model.specs.declared.states.Posts.{Posts}
 use Rattle.gaspi_model.specs.declared.states.Memory.{Memory}
 use Rattle.gaspi_model.specs.declared.states.State.{State}
@@ -41,7 +41,7 @@ use Rattle.gaspi_model.proofs.Changed.Joins.{join-done, create-joined}
 use Rattle.gaspi_model.proofs.Changed.Transfers.{take-failed, put-failed, take-done}
 use Rattle.gaspi_model.proofs.FoundEntries.{with_phase}
 use Rattle.gaspi_model.proofs.Sound.Accounts.{lane_owed-phase, lane_owed-remove, posted_owes, carried_owes}
-use Rattle.gaspi_model.proofs.Worked.{sound-put}
+use Rattle.gaspi_model.proofs.OnPostsAndMemory.{sound-put}
 use Rattle.rank_script.specs.Bench.{right_of}
 use Rattle.call_journal.proofs.RingCalls.{own-memory, own-change, kept-change}
 use Rattle.call_journal.proofs.RingLanes.{IsRingKind, lane_notes, IsClosed, IsRingLane, closed-empty, kind-at, kinds-phase, notes-phase, closed-phase, kinds-remove, notes-remove, closed-remove, put-first}
@@ -60,7 +60,7 @@ plain-join ranks s t c id args ring plain h =
     refl refl (ring.memories c.rank m.0 m.1) refl refl (omega arith) refl
 
 -- a table changed at another number than 0
-zero-other : {A : Type 0} (table : List (Option A)) (segment : ℕ) (x : Option A) → (segment ≡ 0 → ⊥) → entry_at (slice_set table segment x) 0 ≡ entry_at table 0
+zero-other : {A : Type 0} (table : List (Option A)) (segment : ℕ) (x : Option A) → (segment ≡ 0 → ⊥) → item_at (slice_set table segment x) 0 ≡ item_at table 0
 zero-other {A} table segment x apart = rw (slice_get-set_other table segment 0 x apart) refl
 
 create-join : (ranks : ℕ) (s t : State) (c : CallerId) (id : ℕ) (args : Args) (segment size : ℕ) → IsRing ranks s → args.coll ≡ colls.Create segment size → step s (Joined c id args) ≡ Ok t
@@ -79,8 +79,8 @@ create-join ranks s t c id args segment size ring is h =
       own = slice_set d.posts.segments.own segment (Some extent);
       next_generations = slice_set d.posts.segments.next_generations segment (d.generation + 1);
     } in
-    let segments_same : entry_at new.segments 0 ≡ entry_at d.memory.segments 0 = zero-other d.memory.segments segment (Some (record { generation = d.generation; bytes = replicate size 0 })) apart in
-    let slots_same : entry_at new.slots 0 ≡ entry_at d.memory.slots 0 = zero-other d.memory.slots segment (Some (replicate s.limits.notes 0)) apart in
+    let segments_same : item_at new.segments 0 ≡ item_at d.memory.segments 0 = zero-other d.memory.segments segment (Some (record { generation = d.generation; bytes = replicate size 0 })) apart in
+    let slots_same : item_at new.slots 0 ≡ item_at d.memory.slots 0 = zero-other d.memory.slots segment (Some (replicate s.limits.notes 0)) apart in
     let slot : slot_of new ≡ slot_of d.memory = ap (λ (o : Option (List ℕ)). is_first_set (unwrap_or o [])) slots_same in
     let word : word_of new ≡ word_of d.memory = ap (λ (o : Option Segment). range_of (bytes_in o) 8 8) segments_same in
     own-change ranks s t (Joined c id args) d.posts (record (counted d.posts) { segments = table; pending = slice_set d.posts.pending id (Some (record { thread = c.thread; args = args })) }) d.memory new
@@ -208,25 +208,25 @@ put-applied ranks s t origin queue target number ring h =
     let here = ring.posts origin p w.posts_there in
     let was = here.queues queue at.queue found.in_posts in
     let lane_was = was.lanes target at.lane found.in_queue in
-    let kind = kind-at at.lane at.place e lane_was.kinds found.in_lane in
+    let kind = kind-at at.lane at.position e lane_was.kinds found.in_lane in
     let place = outward e.kind kind origin target in
     let memory_there = subst (λ (k : ℕ). slice_get s.memories k ≡ Some m) place w.memory_there in
     let has = ring.memories target m memory_there in
     let left = put-memory m e has kind in
     let may = both (is_carried e) (may_put_kind at.lane e.number e.kind) w.is.permitted in
     let rising = (ring.sound.posts origin p w.posts_there).rising queue at.queue found.in_posts target at.lane found.in_queue in
-    let lane = remove at.lane at.place in
+    let lane = remove at.lane at.position in
     let q : Queue = record at.queue { lanes = slice_set at.queue.lanes target lane } in
-    let right = there-right ranks origin target at.lane at.place e lane_was found.in_lane in
+    let right = there-right ranks origin target at.lane at.position e lane_was found.in_lane in
     let new : IsRingLane ranks origin target lane = record {
       apart = λ other. absurd (other right);
-      kinds = kinds-remove at.lane at.place lane_was.kinds;
-      closed = closed-remove p.next at.lane at.place e found.in_lane lane_was.kinds rising lane_was.closed (λ noted. put-first at.lane e.number e.kind noted may.1);
+      kinds = kinds-remove at.lane at.position lane_was.kinds;
+      closed = closed-remove p.next at.lane at.position e found.in_lane lane_was.kinds rising lane_was.closed (λ noted. put-first at.lane e.number e.kind noted may.1);
     } in
-    let notes = notes-remove at.lane at.place e found.in_lane in
-    let owed = lane_owed-remove at.lane at.place e found.in_lane in
+    let notes = notes-remove at.lane at.position e found.in_lane in
+    let owed = lane_owed-remove at.lane at.position e found.in_lane in
     let one = carried_owes e.phase may.0 in
-    let some = some-notes at.lane at.place e lane_was.closed found.in_lane in
+    let some = some-notes at.lane at.position e lane_was.closed found.in_lane in
     let all_notes = total-changed lane_notes p.queues queue at.queue q target at.lane lane found.in_posts found.in_queue refl in
     let all_owed = total-changed lane_owed p.queues queue at.queue q target at.lane lane found.in_posts found.in_queue refl in
     let none = total-changed lane_notes p.queues queue at.queue (record at.queue { lanes = slice_set at.queue.lanes target [] }) target at.lane [] found.in_posts found.in_queue refl in
@@ -240,9 +240,9 @@ put-applied ranks s t origin queue target number ring h =
       moved = record {
         posts_there = w.posts_there;
         memory_there = memory_there;
-        posts = ap (λ (x : State). x.posts) w.leaves ∙ ap (λ (x : Worked). slice_set s.posts origin x.posts) w.is.leaves
+        posts = ap (λ (x : State). x.posts) w.leaves ∙ ap (λ (x : PostsAndMemory). slice_set s.posts origin x.posts) w.is.leaves
             ∙ ap (λ (xs : List Queue). slice_set s.posts origin (record (counted p) { queues = xs })) (changed_at-found p.queues queue at.queue (λ (x : Queue). record x { lanes = slice_set x.lanes target lane }) found.in_posts);
-        memories = ap (λ (x : State). x.memories) w.leaves ∙ ap (λ (x : Worked). slice_set s.memories (put_rank origin target e.kind) x.memory) w.is.leaves
+        memories = ap (λ (x : State). x.memories) w.leaves ∙ ap (λ (x : PostsAndMemory). slice_set s.memories (put_rank origin target e.kind) x.memory) w.is.leaves
             ∙ ap (λ (k : ℕ). slice_set s.memories k (memory_put m e)) place;
       };
       ring_posts = posts-queue ranks origin p.queues (slice_set p.queues queue q) p.segments queue q here refl (queue-lane ranks origin at.queue q target lane was refl refl new);

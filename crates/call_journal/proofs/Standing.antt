@@ -26,23 +26,23 @@ use Rattle.gaspi_types.specs.declared.replies.Reply.{Reply}
 use Rattle.gaspi_types.specs.declared.replies.Reply.TheVariants as replies
 use Rattle.gaspi_types.specs.declared.shapes.CallerId.{CallerId}
 use Rattle.gaspi_types.specs.declared.shapes.Limits.{Limits}
-use Rattle.gaspi_model.specs.Calls.{call_asks, plain_done, posts_done, posts_after, answer, recorded_reply}
-use Rattle.gaspi_model.specs.PostCalls.{asked_finds}
+use Rattle.gaspi_model.specs.Calls.{requested_kinds, plain_effect, posts_effect, posts_after, answer, recorded_reply}
+use Rattle.gaspi_model.specs.PostCalls.{post_request_result}
 use Rattle.gaspi_model.specs.Posting.{counted}
 use Rattle.gaspi_model.specs.QueueCalls.{emptied, without_entries}
 use Rattle.gaspi_model.specs.Sound.{IsSound}
 use Rattle.gaspi_model.specs.Step.{step}
-use Rattle.gaspi_model.specs.Transfers.{Found, Worked, taken_bytes}
+use Rattle.gaspi_model.specs.Transfers.{EntryPosition, PostsAndMemory, source_bytes}
 use Rattle.gaspi_model.specs.declared.states.Memory.{Memory}
 use Rattle.gaspi_model.specs.declared.states.Posts.{Posts}
 use Rattle.gaspi_model.specs.declared.states.State.{State}
 use Rattle.gaspi_model.proofs.FoundEntries.{IsFound, with_phase, queue_with_failed}
 use Rattle.gaspi_model.proofs.FoundReplies.{found-reply}
 use Rattle.gaspi_model.proofs.Made.{step-called, step-take, step-put}
-use Rattle.gaspi_model.proofs.MetPosts.{IsMet, met-called, met-joined}
+use Rattle.gaspi_model.proofs.CollectivePosts.{IsMet, on_group-called, on_group-joined}
 use Rattle.gaspi_model.proofs.Same.{same_reply-same}
 use Rattle.gaspi_model.proofs.Sound.Accounts.{asks-some, few-posted, post-ok}
-use Rattle.gaspi_model.proofs.Sound.Told.{told, told-from}
+use Rattle.gaspi_model.proofs.Sound.Registered.{registering, registered-from}
 use Rattle.gaspi_model.proofs.Changed.Posted.{post-done}
 use Rattle.call_journal.specs.LaneWrites.{post_of, post_in, entries_in, goes_to, writes_to, writes_in, is_noted}
 use Rattle.call_journal.specs.declared.lane_writes.EntryPut.{EntryPut}
@@ -140,7 +140,7 @@ Shrinks old new = (queue target m : ℕ) (kind : Kind) → InQueues new queue ta
 -- What an event did to the queues of a rank: nothing new stands, or it posted.
 pub data Changed (limits : Limits) (e : Event) (origin : ℕ) (old new : Posts) : Type 0 where
   Quiet : post_of origin e ≡ None → new.next ≡ old.next → Shrinks old.queues new.queues → Changed limits e origin old new
-  Posted : (call : Call) (to : Posting) (kinds : List Kind) → post_of origin e ≡ post_in call (Some to) → (row_of call).posting ≡ Some to → call_asks limits origin old call ≡ Ok kinds
+  Posted : (call : Call) (to : Posting) (kinds : List Kind) → post_of origin e ≡ post_in call (Some to) → (row_of call).posting ≡ Some to → requested_kinds limits origin old call ≡ Ok kinds
       → new.next ≡ old.next + length kinds → new.queues ≡ changed_at old.queues to.queue (with_entries to.rank (posted_entries old.next kinds)) → Changed limits e origin old new
 
 -- the posts of a rank after an event, and those before
@@ -183,7 +183,7 @@ met-event s t e owner posts posts' origin after met none h =
     (λ queue target m kind i. subst (λ (qs : List Queue). InQueues qs queue target m kind) met.keeps.queues i) h
 
 -- a lane of a queue changed, of an entry that was found
-found-shrinks : (posts : Posts) (changed replaced number : ℕ) (at : Found) (lane' : List Entry) (change : Queue → Queue) → IsFound posts changed replaced number at
+found-shrinks : (posts : Posts) (changed replaced number : ℕ) (at : EntryPosition) (lane' : List Entry) (change : Queue → Queue) → IsFound posts changed replaced number at
     → ((q : Queue) → (change q).lanes ≡ slice_set q.lanes replaced lane') → ((m : ℕ) (kind : Kind) → InLane lane' m kind → InLane at.lane m kind)
     → Shrinks posts.queues (changed_at posts.queues changed change)
 found-shrinks posts changed replaced number at lane' change is lanes keeps queue target m kind h =
@@ -202,7 +202,7 @@ found-shrinks posts changed replaced number at lane' change is lanes keeps queue
     h
 
 -- what a call leaves that posts nothing
-plain-shrinks : (posts : Posts) (thread : ℕ) (call : Call) → Shrinks posts.queues (plain_done posts thread call).queues
+plain-shrinks : (posts : Posts) (thread : ℕ) (call : Call) → Shrinks posts.queues (plain_effect posts thread call).queues
 plain-shrinks posts thread (Purge call) queue target m kind h =
     queues-changed posts.queues call.queue emptied queue target m kind (λ old. old)
     (λ q there same i.
@@ -218,7 +218,7 @@ plain-shrinks posts thread (Wait call) queue target m kind h =
     h
 plain-shrinks posts thread other queue target m kind h = h
 
-plain-next : (posts : Posts) (thread : ℕ) (call : Call) → (plain_done posts thread call).next ≡ posts.next
+plain-next : (posts : Posts) (thread : ℕ) (call : Call) → (plain_effect posts thread call).next ≡ posts.next
 plain-next posts thread (calls.Alloc call) = refl
 plain-next posts thread (calls.Delete call) = refl
 plain-next posts thread (Wait call) = refl
@@ -260,7 +260,7 @@ own-call : (s : State) (limits : Limits) (c : CallerId) (call : Call) (reply : R
     → FromBefore s (Called c call reply) c.rank (posts_after limits c.rank posts c.thread call reply)
 own-call s limits c call reply posts memory same there answered = by-idle (is_idle reply) refl
   where
-    by-posting : is_idle reply ≡ false → (o : Option Posting) → (row_of call).posting ≡ o → FromBefore s (Called c call reply) c.rank (counted (posts_done limits c.rank posts c.thread call))
+    by-posting : is_idle reply ≡ false → (o : Option Posting) → (row_of call).posting ≡ o → FromBefore s (Called c call reply) c.rank (counted (posts_effect limits c.rank posts c.thread call))
     by-posting awake None none = rw none (record {
       before = posts;
       there = there;
@@ -268,8 +268,8 @@ own-call s limits c call reply posts memory same there answered = by-idle (is_id
     })
     by-posting awake (Some to) posting =
         let finds = found-reply limits c.rank posts memory c.thread call reply answered awake in
-        let asked = call_asks limits c.rank posts call in
-        let finds' : asked_finds limits posts to.rank to.queue asked ≡ Ok (Some reply) = rw posting at finds in
+        let asked = requested_kinds limits c.rank posts call in
+        let finds' : post_request_result limits posts to.rank to.queue asked ≡ Ok (Some reply) = rw posting at finds in
         let ok = post-ok limits posts to.rank to.queue asked (Some reply) finds' in
         let p = ok.2 in
         let done : reply ≡ replies.Done = (let some : ◌≡◌ {A = Option Reply} (Some reply) (Some replies.Done) = p.done in cc) in
@@ -298,9 +298,9 @@ called-from s t c call reply plain h origin after there =
     let made = step-called s t c call reply plain h in
     let f = made.3 in
     let all = slice_set s.posts c.rank made.2.posts in
-    let told_there : slice_get (told s.limits.ranks c.rank made.0 call reply all) origin ≡ Some after = subst (λ (x : State). slice_get x.posts origin ≡ Some after) f.leaves there in
-    let from = told-from s.limits.ranks c.rank made.0 call reply all origin after told_there in
-    let later : made.2.posts ≡ posts_after s.limits c.rank made.0 c.thread call reply = ap (λ (x : Worked). x.posts) f.is.leaves in
+    let told_there : slice_get (registering s.limits.ranks c.rank made.0 call reply all) origin ≡ Some after = subst (λ (x : State). slice_get x.posts origin ≡ Some after) f.leaves there in
+    let from = registered-from s.limits.ranks c.rank made.0 call reply all origin after told_there in
+    let later : made.2.posts ≡ posts_after s.limits c.rank made.0 c.thread call reply = ap (λ (x : PostsAndMemory). x.posts) f.is.leaves in
     subst (λ (x : Posts). FromBefore s (Called c call reply) origin x) (sym from.3) (as-told s (Called c call reply) origin from.0 from.1
     (replaced s c.rank made.0 made.2.posts origin from.0 f.posts_there from.2
     (λ same now.
@@ -310,14 +310,14 @@ called-from s t c call reply plain h origin after there =
 
 -- where the posts of a rank come from after an event
 pub from-before : (s t : State) (e : Event) → step s e ≡ Ok t → (origin : ℕ) (after : Posts) → slice_get t.posts origin ≡ Some after → FromBefore s e origin after
-from-before s t (Joined c id args) h origin after there = met-event s t (Joined c id args) c.rank _ _ origin after (met-joined s t c id args h).2 refl there
+from-before s t (Joined c id args) h origin after there = met-event s t (Joined c id args) c.rank _ _ origin after (on_group-joined s t c id args h).2 refl there
 from-before s t (Called c call reply) h origin after there = by-group (row_of call).group refl
   where
     unposting : (id : ℕ) → (row_of call).group ≡ Some id → (row_of call).posting ≡ None
     unposting id named = group-posts-none call id named
 
     by-group : (o : Option ℕ) → (row_of call).group ≡ o → FromBefore s (Called c call reply) origin after
-    by-group (Some id) named = met-event s t (Called c call reply) c.rank _ _ origin after (met-called s t c id call reply named h).2 (post-plain origin c call reply (unposting id named)) there
+    by-group (Some id) named = met-event s t (Called c call reply) c.rank _ _ origin after (on_group-called s t c id call reply named h).2 (post-plain origin c call reply (unposting id named)) there
     by-group None plain = called-from s t c call reply plain h origin after there
 from-before s t (Take origin' queue target number Failed) h origin after there =
     let made = step-take s t origin' queue target number Failed h in
@@ -325,30 +325,30 @@ from-before s t (Take origin' queue target number Failed) h origin after there =
     let at = made.3 in
     quiet-event s t (Take origin' queue target number Failed) origin' made.0 made.2 origin after f.posts_there (ap (λ (x : State). x.posts) f.leaves) refl (ap (λ (x : Posts). x.next) f.is.leaves)
     (subst (λ (x : Posts). Shrinks made.0.queues x.queues) (sym f.is.leaves)
-    (found-shrinks made.0 queue target number at (with_phase at.lane at.place at.entry phases.Failed) (queue_with_failed target at) f.is.is (λ q. refl) (λ m kind i. lane-phase at.lane at.place at.entry phases.Failed m kind f.is.is.in_lane i))) there
+    (found-shrinks made.0 queue target number at (with_phase at.lane at.position at.entry phases.Failed) (queue_with_failed target at) f.is.is (λ q. refl) (λ m kind i. lane-phase at.lane at.position at.entry phases.Failed m kind f.is.is.in_lane i))) there
 from-before s t (Take origin' queue target number Applied) h origin after there =
     let made = step-take s t origin' queue target number Applied h in
     let f = made.4 in
     let at = made.3 in
-    let phase = phases.Carried (taken_bytes made.1 at.entry.kind) in
-    let lane = with_phase at.lane at.place at.entry phase in
+    let phase = phases.Carried (source_bytes made.1 at.entry.kind) in
+    let lane = with_phase at.lane at.position at.entry phase in
     quiet-event s t (Take origin' queue target number Applied) origin' made.0 made.2 origin after f.posts_there (ap (λ (x : State). x.posts) f.leaves) refl (ap (λ (x : Posts). x.next) f.is.leaves)
     (subst (λ (x : Posts). Shrinks made.0.queues x.queues) (sym f.is.leaves)
-    (found-shrinks made.0 queue target number at lane (λ (q : Queue). record q { lanes = slice_set q.lanes target lane }) f.is.is (λ q. refl) (λ m kind i. lane-phase at.lane at.place at.entry phase m kind f.is.is.in_lane i))) there
+    (found-shrinks made.0 queue target number at lane (λ (q : Queue). record q { lanes = slice_set q.lanes target lane }) f.is.is (λ q. refl) (λ m kind i. lane-phase at.lane at.position at.entry phase m kind f.is.is.in_lane i))) there
 from-before s t (Put origin' queue target number Failed) h origin after there =
     let made = step-put s t origin' queue target number Failed h in
     let f = made.4 in
     let at = made.3 in
-    quiet-event s t (Put origin' queue target number Failed) origin' made.0 made.2.posts origin after f.posts_there (ap (λ (x : State). x.posts) f.leaves) refl (ap (λ (x : Worked). x.posts.next) f.is.leaves)
-    (subst (λ (x : Worked). Shrinks made.0.queues x.posts.queues) (sym f.is.leaves)
-    (found-shrinks made.0 queue target number at (with_phase at.lane at.place at.entry phases.Failed) (queue_with_failed target at) f.is.is (λ q. refl) (λ m kind i. lane-phase at.lane at.place at.entry phases.Failed m kind f.is.is.in_lane i))) there
+    quiet-event s t (Put origin' queue target number Failed) origin' made.0 made.2.posts origin after f.posts_there (ap (λ (x : State). x.posts) f.leaves) refl (ap (λ (x : PostsAndMemory). x.posts.next) f.is.leaves)
+    (subst (λ (x : PostsAndMemory). Shrinks made.0.queues x.posts.queues) (sym f.is.leaves)
+    (found-shrinks made.0 queue target number at (with_phase at.lane at.position at.entry phases.Failed) (queue_with_failed target at) f.is.is (λ q. refl) (λ m kind i. lane-phase at.lane at.position at.entry phases.Failed m kind f.is.is.in_lane i))) there
 from-before s t (Put origin' queue target number Applied) h origin after there =
     let made = step-put s t origin' queue target number Applied h in
     let f = made.4 in
     let at = made.3 in
-    quiet-event s t (Put origin' queue target number Applied) origin' made.0 made.2.posts origin after f.posts_there (ap (λ (x : State). x.posts) f.leaves) refl (ap (λ (x : Worked). x.posts.next) f.is.leaves)
-    (subst (λ (x : Worked). Shrinks made.0.queues x.posts.queues) (sym f.is.leaves)
-    (found-shrinks made.0 queue target number at (remove at.lane at.place) (λ (q : Queue). record q { lanes = slice_set q.lanes target (remove at.lane at.place) }) f.is.is (λ q. refl) (λ m kind i. lane-removed at.lane at.place m kind i))) there
+    quiet-event s t (Put origin' queue target number Applied) origin' made.0 made.2.posts origin after f.posts_there (ap (λ (x : State). x.posts) f.leaves) refl (ap (λ (x : PostsAndMemory). x.posts.next) f.is.leaves)
+    (subst (λ (x : PostsAndMemory). Shrinks made.0.queues x.posts.queues) (sym f.is.leaves)
+    (found-shrinks made.0 queue target number at (remove at.lane at.position) (λ (q : Queue). record q { lanes = slice_set q.lanes target (remove at.lane at.position) }) f.is.is (λ q. refl) (λ m kind i. lane-removed at.lane at.position m kind i))) there
 
 -- An entry that an event posted: the entries of a post have numbers from its origin's next one on, its writes come first, and its
 -- notification last.
@@ -366,7 +366,7 @@ pub record IsNew (origin : ℕ) (e : Event) (queue target next m : ℕ) (kind : 
 row-entries : (call : Call) (to : Posting) → (row_of call).posting ≡ Some to → entries_of call ≡ to.entries
 row-entries call to posting = rw posting refl
 
-kinds-of : (limits : Limits) (origin : ℕ) (posts : Posts) (call : Call) (to : Posting) (kinds : List Kind) → (row_of call).posting ≡ Some to → call_asks limits origin posts call ≡ Ok kinds
+kinds-of : (limits : Limits) (origin : ℕ) (posts : Posts) (call : Call) (to : Posting) (kinds : List Kind) → (row_of call).posting ≡ Some to → requested_kinds limits origin posts call ≡ Ok kinds
     → AreKinds (writes_in call) to.entries (is_noted call) kinds
 kinds-of limits origin posts call to kinds posting asks =
     subst (λ (n : ℕ). AreKinds (writes_in call) n (is_noted call) kinds) (row-entries call to posting) (call-kinds limits.notes origin posts.segments call to kinds posting asks)

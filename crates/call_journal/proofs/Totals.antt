@@ -6,7 +6,7 @@ use Rattle.gaspi_types.specs.declared.calls.Call.TheVariants.{Reset}
 use Rattle.gaspi_types.specs.declared.events.Event.{Event}
 use Rattle.gaspi_types.specs.declared.events.Event.TheVariants.{Called, Joined, Take, Put}
 use Rattle.gaspi_types.specs.declared.replies.Reply.{Reply}
-use Rattle.gaspi_model.specs.Step.{own_calls}
+use Rattle.gaspi_model.specs.Step.{recorded_calls}
 use Rattle.rank_script.specs.Bench.{bench_bytes, left_of}
 use Rattle.call_journal.specs.Laws.{RanToTheEnd}
 use Rattle.call_journal.specs.Numbers.{is_call, is_notification, is_set_value}
@@ -31,9 +31,9 @@ rounds-count ranks rank bytes p x (suc round) pairs each are =
 
 -- what passes in the run of each rank, its end included
 own-count : (seed ranks rounds : ℕ) (journal : List Event) (p : Pair → Bool) (x : ℕ) → RanToTheEnd seed ranks rounds journal → ((rank : ℕ) → PassEach ranks rank p x) → (rank : ℕ) → rank < ranks
-    → count_by p (own_calls rank 0 journal) ≡ rounds * x + count_by p end_pair
+    → count_by p (recorded_calls rank 0 journal) ≡ rounds * x + count_by p end_pair
 own-count seed ranks rounds journal p x ran each rank less =
-    let run = run-rounds seed ranks rounds rank rounds (own_calls rank 0 journal) (ran.runs rank less) in
+    let run = run-rounds seed ranks rounds rank rounds (recorded_calls rank 0 journal) (ran.runs rank less) in
     let front = rounds-count ranks rank (bench_bytes seed ranks) p x rounds run.0 (each rank) run.2 in
     ap (count_by p) run.1 ∙ count-append p run.0 end_pair ∙ ap (λ (n : ℕ). n + count_by p end_pair) front
 
@@ -41,7 +41,7 @@ pub total-count : (seed ranks rounds : ℕ) (journal : List Event) (p : Pair →
     → count_by (pair_test p) journal ≡ ranks * (rounds * x + count_by p end_pair)
 total-count seed ranks rounds journal p x ran each =
     count-all p ranks journal (bench-first ranks rounds journal ran.state ran.leads)
-    ∙ sum-constant (λ (rank : ℕ). count_by p (own_calls rank 0 journal)) (rounds * x + count_by p end_pair) ranks (own-count seed ranks rounds journal p x ran each)
+    ∙ sum-constant (λ (rank : ℕ). count_by p (recorded_calls rank 0 journal)) (rounds * x + count_by p end_pair) ranks (own-count seed ranks rounds journal p x ran each)
 
 call-alike : (e : Event) → is_call e ≡ pair_test (λ (pair : Pair). true) e
 call-alike (Called c call reply) = refl

@@ -5,8 +5,8 @@ use Rattle.std.specs.Option.{option_map}
 use Rattle.std.proofs.lemmas.Bool.{eq-eqb, eqb-true}
 use Rattle.std.proofs.lemmas.Option.{get_or_from_slice_get, slice_get-map, slice_get_within}
 use Rattle.gaspi_types.proofs.Chains.{both}
-use Rattle.gaspi_types.proofs.Items.{map-at, append-parts, front-of-joined, behind-of-joined, same-or-not, there-within}
-use Rattle.gaspi_types.specs.World.{World, IsWorld}
+use Rattle.gaspi_types.proofs.Items.{map-at, append-parts, prefix-of-joined, behind-of-joined, same-or-not, there-within}
+use Rattle.gaspi_types.specs.World.{ShapeValue, IsShape}
 use Rattle.gaspi_types.specs.declared.events.Event.{Event}
 use Rattle.gaspi_types.specs.declared.events.Event.TheVariants.{Called, Joined, Take, Put}
 use Rattle.gaspi_types.specs.declared.events.Outcome.TheVariants.{Applied, Failed}
@@ -127,7 +127,7 @@ with_put-at (Some number) place writes k old at = record {
   number = (here-kept number place old).1;
 }
 
-module _ (w : World) (world : IsWorld w) (journal : List Event) (legal : is_legal w journal ≡ true) (place : ℕ) (e : Event) (there : slice_get journal place ≡ Some e) (at : EntryPut) (next : ℕ) (noted : Bool) (writes : List LaneWrite) (tracked : IsTracked w journal place at next noted writes) where
+module _ (w : ShapeValue) (world : IsShape w) (journal : List Event) (legal : is_legal w journal ≡ true) (place : ℕ) (e : Event) (there : slice_get journal place ≡ Some e) (at : EntryPut) (next : ℕ) (noted : Bool) (writes : List LaneWrite) (tracked : IsTracked w journal place at next noted writes) where
   abbrev purged : Bool
   purged = is_purge_of at.origin at.queue e
 
@@ -219,7 +219,7 @@ module _ (w : World) (world : IsWorld w) (journal : List Event) (legal : is_lega
   all-base false is post m less posted unpurged =
       let old = tracked.all post m less posted (λ k x after within h. unpurged k x after (omega arith) h) in
       let new = with_put-at put place writes old.0 old.1 old.2 in
-      (old.0, new.new, front-of-joined (with_put put place writes) more old.0 (slice_get_within (with_put put place writes) old.0 new.new new.there) ∙ new.there, new.post ∙ old.3, new.number ∙ old.4)
+      (old.0, new.new, prefix-of-joined (with_put put place writes) more old.0 (slice_get_within (with_put put place writes) old.0 new.new new.there) ∙ new.there, new.post ∙ old.3, new.number ∙ old.4)
 
   all-new : (m : ℕ) → IsPostedAt w journal place at.origin at.queue at.target m → (k : ℕ) × (x : LaneWrite) × (slice_get (base ++ more) k ≡ Some x) × (x.post ≡ place) × (x.number ≡ m)
   all-new m posted =
@@ -260,7 +260,7 @@ module _ (w : World) (world : IsWorld w) (journal : List Event) (legal : is_lega
       below false is o h = by-note o (rw is at h)
 
 -- at the beginning of a journal nothing is known
-pub tracked-first : (w : World) → IsWorld w → (journal : List Event) (at : EntryPut) → IsTracked w journal 0 at 0 false []
+pub tracked-first : (w : ShapeValue) → IsShape w → (journal : List Event) (at : EntryPut) → IsTracked w journal 0 at 0 false []
 tracked-first w world journal at = record {
   numbered = λ s posts leads there. first-next s posts leads there;
   listed = λ k x h. absurd (let no : ⊥ = cc in no);
@@ -286,6 +286,6 @@ event-at {A} xs place before x within is =
     let same : x ≡ y.0 = is ∙ get_or_from_slice_get (take place xs) before y.0 x y.1 in
     (taken-from place xs before y.0 y.1).1 ∙ ap (λ (z : A). Some z) (sym same)
 
-pub tracked-as : (w : World) (journal : List Event) (place : ℕ) (at : EntryPut) (next next' : ℕ) (noted noted' : Bool) (writes writes' : List LaneWrite) → next' ≡ next → noted' ≡ noted → writes' ≡ writes
+pub tracked-as : (w : ShapeValue) (journal : List Event) (place : ℕ) (at : EntryPut) (next next' : ℕ) (noted noted' : Bool) (writes writes' : List LaneWrite) → next' ≡ next → noted' ≡ noted → writes' ≡ writes
     → IsTracked w journal place at next noted writes → IsTracked w journal place at next' noted' writes'
 tracked-as w journal place at next next' noted noted' writes writes' a b c tracked = rw (a, b, c) tracked

@@ -7,13 +7,13 @@ use Rattle.gaspi_types.specs.declared.calls.Call.{Call}
 use Rattle.gaspi_types.specs.declared.replies.Reply.{Reply}
 use Rattle.gaspi_types.specs.declared.shapes.CallerId.{CallerId}
 use Rattle.gaspi_types.specs.CallRows.{is_end}
-use Rattle.rank_script.specs.Runs.{Progress, Going, Over, advanced, outcome_of, line_of}
+use Rattle.rank_script.specs.Runs.{RunPosition, AtLine, RunEnded, advanced, outcome_of, line_of}
 use Rattle.call_journal.specs.OwnCalls.{pairs_of}
 use Rattle.call_journal.specs.Transcripts.{transcript, call_line}
-use Rattle.call_journal.specs.declared.own_calls.OwnCall.{OwnCall}
+use Rattle.call_journal.specs.declared.own_calls.RecordedCall.{RecordedCall}
 
 -- what is told, with what the calls behind will tell, is all that is to be told
-abbrev pub HasTold : CallerId → Progress → Progress → List OwnCall → List ℕ → List ℕ → ℕ → Type 0
+abbrev pub HasTold : CallerId → RunPosition → RunPosition → List RecordedCall → List ℕ → List ℕ → ℕ → Type 0
 HasTold c start now calls old text done = text ++ transcript c now (pairs_of (drop done calls)) ≡ old ++ transcript c start (pairs_of calls)
 
 drop-suc : {A : Type 0} (xs : List A) (i : ℕ) (x : A) → slice_get xs i ≡ Some x → drop i xs ≡ x ∷ drop (suc i) xs
@@ -32,33 +32,33 @@ drop-all {A} (x ∷ xs) zero h = absurd (omega arith)
 drop-all {A} (x ∷ xs) (suc i) h = drop-all xs i (omega arith)
 
 -- a run that is over, or whose next call is the end, tells how it ended
-over-pair : (c : CallerId) (p : Progress) (pair : Call × Reply) (pairs : List (Call × Reply)) → (is_some (outcome_of p) || is_end pair.0) ≡ true → transcript c p (pair ∷ pairs) ≡ transcript c p []
-over-pair c (Over outcome) pair pairs over = refl
-over-pair c (Going line tried lines) pair pairs over = rw over refl
+over-pair : (c : CallerId) (p : RunPosition) (pair : Call × Reply) (pairs : List (Call × Reply)) → (is_some (outcome_of p) || is_end pair.0) ≡ true → transcript c p (pair ∷ pairs) ≡ transcript c p []
+over-pair c (RunEnded outcome) pair pairs over = refl
+over-pair c (AtLine line tried lines) pair pairs over = rw over refl
 
 -- another one tells its call, and then what the run after it tells
-next-pair : (c : CallerId) (p : Progress) (pair : Call × Reply) (pairs : List (Call × Reply)) → (is_some (outcome_of p) || is_end pair.0) ≡ false
+next-pair : (c : CallerId) (p : RunPosition) (pair : Call × Reply) (pairs : List (Call × Reply)) → (is_some (outcome_of p) || is_end pair.0) ≡ false
     → transcript c p (pair ∷ pairs) ≡ call_line c (line_of p) pair.1 ++ transcript c (advanced p pair.1) pairs
-next-pair c (Over outcome) pair pairs on = absurd (let no : ⊥ = cc in no)
-next-pair c (Going line tried lines) pair pairs on = rw on refl
+next-pair c (RunEnded outcome) pair pairs on = absurd (let no : ⊥ = cc in no)
+next-pair c (AtLine line tried lines) pair pairs on = rw on refl
 
 -- the next call
-call-at : (c : CallerId) (start now : Progress) (calls : List OwnCall) (old text : List ℕ) (done : ℕ) (own : OwnCall) → slice_get calls done ≡ Some own → HasTold c start now calls old text done
+call-at : (c : CallerId) (start now : RunPosition) (calls : List RecordedCall) (old text : List ℕ) (done : ℕ) (own : RecordedCall) → slice_get calls done ≡ Some own → HasTold c start now calls old text done
     → text ++ transcript c now ((own.call.now, own.reply.now) ∷ pairs_of (drop (done + 1) calls)) ≡ old ++ transcript c start (pairs_of calls)
 call-at c start now calls old text done own at told =
-    ap (λ (rest : List OwnCall). text ++ transcript c now (pairs_of rest)) (sym (drop-at calls done own at)) ∙ told
+    ap (λ (rest : List RecordedCall). text ++ transcript c now (pairs_of rest)) (sym (drop-at calls done own at)) ∙ told
 
 -- no more calls
-pub told-over : (c : CallerId) (start now : Progress) (calls : List OwnCall) (old text : List ℕ) (done : ℕ) (own : OwnCall) → slice_get calls done ≡ Some own
+pub answered-over : (c : CallerId) (start now : RunPosition) (calls : List RecordedCall) (old text : List ℕ) (done : ℕ) (own : RecordedCall) → slice_get calls done ≡ Some own
     → (is_some (outcome_of now) || is_end own.call.now) ≡ true → HasTold c start now calls old text done → text ++ transcript c now [] ≡ old ++ transcript c start (pairs_of calls)
-told-over c start now calls old text done own at over told =
+answered-over c start now calls old text done own at over told =
     ap (λ (more : List ℕ). text ++ more) (sym (over-pair c now (own.call.now, own.reply.now) (pairs_of (drop (done + 1) calls)) over)) ∙ call-at c start now calls old text done own at told
 
 -- a call after which the run goes on
-pub told-more : (c : CallerId) (start now : Progress) (calls : List OwnCall) (old text new : List ℕ) (done : ℕ) (own : OwnCall) → slice_get calls done ≡ Some own
+pub answered-more : (c : CallerId) (start now : RunPosition) (calls : List RecordedCall) (old text new : List ℕ) (done : ℕ) (own : RecordedCall) → slice_get calls done ≡ Some own
     → (is_some (outcome_of now) || is_end own.call.now) ≡ false → HasTold c start now calls old text done
     → new ≡ text ++ call_line c (line_of now) own.reply.now → HasTold c start (advanced now own.reply.now) calls old new (done + 1)
-told-more c start now calls old text new done own at on told added =
+answered-more c start now calls old text new done own at on told added =
     ap (λ (front : List ℕ). front ++ rest) added ∙ append_assoc text (call_line c (line_of now) own.reply.now) rest
     ∙ ap (λ (more : List ℕ). text ++ more) (sym (next-pair c now (own.call.now, own.reply.now) (pairs_of (drop (done + 1) calls)) on)) ∙ call-at c start now calls old text done own at told
   where
@@ -66,10 +66,10 @@ told-more c start now calls old text new done own at on told added =
     rest = transcript c (advanced now own.reply.now) (pairs_of (drop (done + 1) calls))
 
 -- no call is left
-pub told-all : (c : CallerId) (start now : Progress) (calls : List OwnCall) (old text : List ℕ) (done : ℕ) → length calls ≤ done → HasTold c start now calls old text done
+pub answered-all : (c : CallerId) (start now : RunPosition) (calls : List RecordedCall) (old text : List ℕ) (done : ℕ) → length calls ≤ done → HasTold c start now calls old text done
     → text ++ transcript c now [] ≡ old ++ transcript c start (pairs_of calls)
-told-all c start now calls old text done over told =
-    ap (λ (rest : List OwnCall). text ++ transcript c now (pairs_of rest)) (sym (drop-all calls done over)) ∙ told
+answered-all c start now calls old text done over told =
+    ap (λ (rest : List RecordedCall). text ++ transcript c now (pairs_of rest)) (sym (drop-all calls done over)) ∙ told
 
 pub on-ok : {A E P Q : Type 0} (r : Result A E) → (P → Q) → OnOk r P → OnOk r Q
 on-ok {A} {E} {P} {Q} (Ok x) f p = f p

@@ -11,7 +11,7 @@ use Rattle.gaspi_types.specs.declared.events.Event.{Event}
 use Rattle.gaspi_types.specs.declared.replies.Reply.{Reply}
 use Rattle.gaspi_model.specs.Settled.{AreLanesEmpty}
 use Rattle.gaspi_model.specs.State.{opening}
-use Rattle.gaspi_model.specs.Step.{reached, own_calls}
+use Rattle.gaspi_model.specs.Step.{reached, recorded_calls}
 use Rattle.gaspi_model.specs.declared.states.Posts.{Posts}
 use Rattle.gaspi_model.specs.declared.states.State.{State}
 use Rattle.rank_script.specs.Bench.{bench_shape, bench_bytes, bench_draw, left_of, right_of}
@@ -70,7 +70,7 @@ pub ring-journal : (seed ranks rounds : ℕ) (journal : List Event) (ran : RanTo
 ring-journal seed ranks rounds journal ran =
     let first = bench-first ranks rounds journal ran.state ran.leads in
     let are = ring-events ranks journal first (λ rank less.
-    (let run = run-rounds seed ranks rounds rank rounds (own_calls rank 0 journal) (ran.runs rank less) in
+    (let run = run-rounds seed ranks rounds rank rounds (recorded_calls rank 0 journal) (ran.runs rank less) in
     subst (AreRingPairs ranks rank) (sym run.1) (pairs-append ranks rank run.0 end_pair (rounds-ring seed ranks rounds rank rounds run.0 run.2) ((Ending, refl), tt)))) in
     let opens = bench-ring ranks rounds (bench-world ranks rounds ran.some_ranks ran.few_ranks ran.few_rounds) in
     record {
@@ -79,16 +79,16 @@ ring-journal seed ranks rounds journal ran =
       opens = opens;
       ring = after-ring ranks (opening (bench_shape ranks rounds)) ran.state journal opens are ran.leads;
       posts = λ rank less.
-          (let run = run-rounds seed ranks rounds rank rounds (own_calls rank 0 journal) (ran.runs rank less) in
+          (let run = run-rounds seed ranks rounds rank rounds (recorded_calls rank 0 journal) (ran.runs rank less) in
           let few = rounds-few ranks rank (bench_bytes seed ranks) is_post_pair rounds run.0 (posts-few ranks rank) run.2 in
           let own = own-posts rank ranks journal first in
-          let all : count_by is_post_pair (own_calls rank 0 journal) ≡ count_by is_post_pair run.0 + count_by is_post_pair end_pair = ap (count_by is_post_pair) run.1 ∙ count-append is_post_pair run.0 end_pair in
+          let all : count_by is_post_pair (recorded_calls rank 0 journal) ≡ count_by is_post_pair run.0 + count_by is_post_pair end_pair = ap (count_by is_post_pair) run.1 ∙ count-append is_post_pair run.0 end_pair in
           omega (arith, few, own, all));
       resets = λ rank less.
-          (let run = run-rounds seed ranks rounds rank rounds (own_calls rank 0 journal) (ran.runs rank less) in
+          (let run = run-rounds seed ranks rounds rank rounds (recorded_calls rank 0 journal) (ran.runs rank less) in
           let one = rounds-count ranks rank (bench_bytes seed ranks) is_found_pair 1 rounds run.0 (λ mine loaded stored posted waited met. refl) run.2 in
           let own = own-resets rank ranks journal first in
-          let all : count_by is_found_pair (own_calls rank 0 journal) ≡ count_by is_found_pair run.0 + count_by is_found_pair end_pair = ap (count_by is_found_pair) run.1 ∙ count-append is_found_pair run.0 end_pair in
+          let all : count_by is_found_pair (recorded_calls rank 0 journal) ≡ count_by is_found_pair run.0 + count_by is_found_pair end_pair = ap (count_by is_found_pair) run.1 ∙ count-append is_found_pair run.0 end_pair in
           omega (arith, one, own, all));
     }
 

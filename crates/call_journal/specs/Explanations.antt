@@ -1,11 +1,11 @@
 -- Which writes a notification stands for: those of its lane that were posted before it, and after the last purge of their queue.
 -- (GASPI: notification order, queue_purge)
 use Rattle.std.specs.Prelude.{◌≡◌, ℕ, ◌+◌, ◌<◌, true, false, List, take, Some, slice_get}
-use Rattle.gaspi_types.specs.World.{World}
+use Rattle.gaspi_types.specs.World.{ShapeValue}
 use Rattle.gaspi_types.specs.declared.events.Event.{Event}
 use Rattle.gaspi_types.specs.declared.events.Event.TheVariants.{Put}
 use Rattle.gaspi_types.specs.declared.events.Outcome.TheVariants.{Applied}
-use Rattle.gaspi_model.specs.Order.{IsWriteStanding, IsNotificationStanding, is_purge_of}
+use Rattle.gaspi_model.specs.Order.{IsWriteInLane, IsNotificationInLane, is_purge_of}
 use Rattle.gaspi_model.specs.Step.{is_legal}
 use Rattle.call_journal.specs.Verdicts.{IsIllegalAt}
 use Rattle.call_journal.specs.declared.answers.ArrivedWrite.{ArrivedWrite}
@@ -13,14 +13,14 @@ use Rattle.call_journal.specs.declared.answers.WhyAnswer.{WhyAnswer}
 use Rattle.call_journal.specs.declared.answers.WhyAnswer.TheVariants.{Writes, NoNotification, Illegal}
 
 -- a notification that stands in a lane is put at a place
-pub record IsNotificationPut (w : World) (history : List Event) (place origin queue target number : ℕ) : Type 0 where
+pub record IsNotificationPut (w : ShapeValue) (history : List Event) (place origin queue target number : ℕ) : Type 0 where
   pub there : slice_get history place ≡ Some (Put origin queue target number Applied)
-  pub stands : IsNotificationStanding w (take place history) origin queue target number
+  pub stands : IsNotificationInLane w (take place history) origin queue target number
 
 -- a write is posted by the event at a place: it stands in its lane after that event, and not before it
-pub record IsPostedAt (w : World) (history : List Event) (post origin queue target number : ℕ) : Type 0 where
-  pub after : IsWriteStanding w (take (post + 1) history) origin queue target number
-  pub before : IsWriteStanding w (take post history) origin queue target number → ⊥
+pub record IsPostedAt (w : ShapeValue) (history : List Event) (post origin queue target number : ℕ) : Type 0 where
+  pub after : IsWriteInLane w (take (post + 1) history) origin queue target number
+  pub before : IsWriteInLane w (take post history) origin queue target number → ⊥
 
 -- no event between two places is a purge of a queue
 abbrev pub IsUnpurged : List Event → (from to origin queue : ℕ) → Type 0
@@ -29,7 +29,7 @@ IsUnpurged history from to origin queue =
 
 -- a write for which the notification with a number stands that is put at a place: it has a smaller number, was posted before that
 -- place, and its queue was not purged in between
-pub record IsCovered (w : World) (history : List Event) (place origin queue target note post number : ℕ) : Type 0 where
+pub record IsCovered (w : ShapeValue) (history : List Event) (place origin queue target note post number : ℕ) : Type 0 where
   pub smaller : number < note
   pub earlier : post < place
   pub posted : IsPostedAt w history post origin queue target number
@@ -37,7 +37,7 @@ pub record IsCovered (w : World) (history : List Event) (place origin queue targ
 
 -- these are all the writes for which the notification stands that is put at a place, by rising number, and their puts stand where they
 -- say, before that place
-pub record IsExplained (w : World) (history : List Event) (place : ℕ) (writes : List ArrivedWrite) : Type 0 where
+pub record IsExplained (w : ShapeValue) (history : List Event) (place : ℕ) (writes : List ArrivedWrite) : Type 0 where
   pub origin : ℕ
   pub queue : ℕ
   pub target : ℕ
@@ -51,7 +51,7 @@ pub record IsExplained (w : World) (history : List Event) (place : ℕ) (writes 
       → (k : ℕ) × (x : ArrivedWrite) × (slice_get writes k ≡ Some x) × (x.post ≡ post) × (x.number ≡ m)
 
 -- the answer for a place of a journal
-abbrev pub IsWhyAnswer : World → List Event → ℕ → WhyAnswer → Type 0
+abbrev pub IsWhyAnswer : ShapeValue → List Event → ℕ → WhyAnswer → Type 0
 IsWhyAnswer w journal place (Writes writes) = (is_legal w journal ≡ true) × IsExplained w journal place writes
 IsWhyAnswer w journal place NoNotification =
     (is_legal w journal ≡ true) × ((origin queue target number : ℕ) → IsNotificationPut w journal place origin queue target number → ⊥)

@@ -2,7 +2,7 @@
 use Rattle.std.specs.Prelude.{◌≡◌, ℕ, zero, suc, ◌+◌, ◌<◌, ◌≤◌, List, Ok}
 use Rattle.gaspi_types.specs.declared.events.Event.{Event}
 use Rattle.gaspi_model.specs.Settled.{IsSettled}
-use Rattle.gaspi_model.specs.Step.{reached, own_calls}
+use Rattle.gaspi_model.specs.Step.{reached, recorded_calls}
 use Rattle.gaspi_model.specs.declared.states.State.{State}
 use Rattle.rank_script.specs.declared.scripts.RunOutcome.TheVariants.{Ended}
 use Rattle.rank_script.specs.Runs.{IsRun}
@@ -18,7 +18,7 @@ pub record RanToTheEnd (seed ranks rounds : ℕ) (journal : List Event) : Type 0
   pub state : State
   pub leads : reached (bench_shape ranks rounds) journal ≡ Ok state
   pub settled : IsSettled state
-  pub runs : (rank : ℕ) → rank < ranks → IsRun (bench_lines seed ranks rounds rank rounds) (own_calls rank 0 journal) Ended
+  pub runs : (rank : ℕ) → rank < ranks → IsRun (bench_lines seed ranks rounds rank rounds) (recorded_calls rank 0 journal) Ended
 
 -- the numbers that so many ranks send in a round, added
 abbrev pub draws_until : ℕ → ℕ → ℕ → ℕ → ℕ

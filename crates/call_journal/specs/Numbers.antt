@@ -1,6 +1,6 @@
 -- The numbers that are told of a journal. (own choice)
 use Rattle.std.specs.Prelude.{◌≡◌, ℕ, zero, suc, ◌+◌, ◌%◌, ◌^◌, Bool, true, false, ◌==◌, not, List, count_by, unwrap_or, Ok, Err}
-use Rattle.gaspi_types.specs.World.{World}
+use Rattle.gaspi_types.specs.World.{ShapeValue}
 use Rattle.gaspi_types.specs.declared.calls.Call.TheVariants.{Reset}
 use Rattle.gaspi_types.specs.declared.events.Event.{Event}
 use Rattle.gaspi_types.specs.declared.events.Event.TheVariants.{Called, Take, Put}
@@ -41,7 +41,7 @@ words_until s (suc rank) = words_until s rank + unwrap_or (word_in s rank 0 8) 0
 
 -- What the numbers of a legal journal are: its calls, its transfers, its resets that found a notification, and the sum of the words
 -- after it, modulo 2^64.
-pub record AreNumbers (w : World) (journal : List Event) (n : Numbers4) : Type 0 where
+pub record AreNumbers (w : ShapeValue) (journal : List Event) (n : Numbers4) : Type 0 where
   pub calls : n.calls ≡ count_by is_call journal
   pub transfers : n.transfers ≡ count_by is_transfer journal
   pub notifications : n.notifications ≡ count_by is_notification journal
@@ -50,6 +50,6 @@ pub record AreNumbers (w : World) (journal : List Event) (n : Numbers4) : Type 0
   pub sum : n.sum ≡ words_until state w.limits.ranks % 2 ^ 64
 
 -- why there are no numbers: the journal is not legal, for that cause, or memory was wanting
-abbrev pub IsIllegal : World → List Event → StepFault → Type 0
+abbrev pub IsIllegal : ShapeValue → List Event → StepFault → Type 0
 IsIllegal w journal (fault.Illegal why) = reached w journal ≡ Err why
 IsIllegal w journal fault.NoMemory = Unit {0}

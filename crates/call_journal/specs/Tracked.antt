@@ -1,12 +1,12 @@
 -- What is known of the writes of a lane at a place of a journal. (own choice)
 use Rattle.std.specs.Prelude.{◌≡◌, ℕ, ◌+◌, ◌<◌, ◌≤◌, Bool, true, List, [], ◌∷◌, take, Option, None, Some, Ok, slice_get}
 use Rattle.gaspi_types.specs.Lanes.{is_notify}
-use Rattle.gaspi_types.specs.World.{World}
+use Rattle.gaspi_types.specs.World.{ShapeValue}
 use Rattle.gaspi_types.specs.declared.entries.Entry.{Entry}
 use Rattle.gaspi_types.specs.declared.events.Event.{Event}
 use Rattle.gaspi_types.specs.declared.events.Event.TheVariants.{Put}
 use Rattle.gaspi_types.specs.declared.events.Outcome.TheVariants.{Applied}
-use Rattle.gaspi_model.specs.Shards.{standing}
+use Rattle.gaspi_model.specs.Shards.{entry_after}
 use Rattle.gaspi_model.specs.Step.{reached}
 use Rattle.gaspi_model.specs.declared.states.Posts.{Posts}
 use Rattle.gaspi_model.specs.declared.states.State.{State}
@@ -24,7 +24,7 @@ HasPut journal place at post number None = (k : ℕ) → post < k → k < place 
 HasPut journal place at post number (Some put) = (put < place) × IsPutAt journal at number put
 
 -- a write of a lane that was posted before a place, and not purged since
-pub record IsListed (w : World) (journal : List Event) (place : ℕ) (at : EntryPut) (x : LaneWrite) : Type 0 where
+pub record IsListed (w : ShapeValue) (journal : List Event) (place : ℕ) (at : EntryPut) (x : LaneWrite) : Type 0 where
   pub earlier : x.post < place
   pub posted : IsPostedAt w journal x.post at.origin at.queue at.target x.number
   pub unpurged : IsUnpurged journal x.post place at.origin at.queue
@@ -32,12 +32,12 @@ pub record IsListed (w : World) (journal : List Event) (place : ℕ) (at : Entry
 
 -- The writes of the lane of an entry at a place of a journal, the number of its origin's next entry, and whether the entry itself
 -- was posted as a notification.
-pub record IsTracked (w : World) (journal : List Event) (place : ℕ) (at : EntryPut) (next : ℕ) (noted : Bool) (writes : List LaneWrite) : Type 0 where
+pub record IsTracked (w : ShapeValue) (journal : List Event) (place : ℕ) (at : EntryPut) (next : ℕ) (noted : Bool) (writes : List LaneWrite) : Type 0 where
   pub numbered : (s : State) (posts : Posts) → reached w (take place journal) ≡ Ok s → slice_get s.posts at.origin ≡ Some posts → posts.next ≡ next
   pub listed : (k : ℕ) (x : LaneWrite) → slice_get writes k ≡ Some x → IsListed w journal place at x
   pub all : (post m : ℕ) → post < place → IsPostedAt w journal post at.origin at.queue at.target m → IsUnpurged journal post place at.origin at.queue
       → (k : ℕ) × (x : LaneWrite) × (slice_get writes k ≡ Some x) × (x.post ≡ post) × (x.number ≡ m)
-  pub note : (s : State) (e : Entry) → reached w (take place journal) ≡ Ok s → standing s at.origin at.queue at.target at.number ≡ Some e → is_notify e ≡ noted
+  pub note : (s : State) (e : Entry) → reached w (take place journal) ≡ Ok s → entry_after s at.origin at.queue at.target at.number ≡ Some e → is_notify e ≡ noted
   pub posted : noted ≡ true → at.number < next
 
 -- the numbers of writes rise from one on, and are below another

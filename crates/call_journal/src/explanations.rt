@@ -3,7 +3,7 @@
 ghost use Rattle.std.specs.Prelude.{◌≡◌, ◌*◌, ◌≤◌, true, length, IfOk};
 ghost use Rattle.call_journal.specs.Explanations.{IsWhyAnswer};
 ghost use Rattle.gaspi_model.specs.Step.{is_legal};
-ghost use Rattle.gaspi_types.specs.World.{World, IsWorld};
+ghost use Rattle.gaspi_types.specs.World.{ShapeValue, IsShape};
 
 use crate::answers::WhyAnswer;
 use crate::lane_writes::{arrived, lane_writes, put_at};
@@ -16,7 +16,7 @@ use std::alloc::Global;
 /// The answer for a place of a journal that is legal.
 fn explained(alloc: Global, journal: &Journal, place: u64) -> Result<WhyAnswer, NoMemory>
     requires { length journal.now ≤ 16 * 65536 }
-    ensures { IfOk result (λ answer. (w : World) → IsWorld w → is_legal w journal.now ≡ true → IsWhyAnswer w journal.now place answer) }
+    ensures { IfOk result (λ answer. (w : ShapeValue) → IsShape w → is_legal w journal.now ≡ true → IsWhyAnswer w journal.now place answer) }
 {
     let Some(at) = put_at(journal, place) else {
         return Ok(WhyAnswer::NoNotification);

@@ -4,13 +4,13 @@ ghost use Rattle.std.specs.Prelude.{◌≡◌, ℕ, ◌+◌, ◌*◌, ◌^◌, �
 ghost use Rattle.gaspi_model.specs.Order.{is_purge_of};
 ghost use Rattle.gaspi_model.specs.Step.{is_legal};
 ghost use Rattle.gaspi_types.specs.CallRows.{entries_of};
-ghost use Rattle.gaspi_types.specs.World.{World, IsWorld};
+ghost use Rattle.gaspi_types.specs.World.{ShapeValue, IsShape};
 ghost use Rattle.call_journal.specs.LaneWrites.{writes_in, is_noted, post_of, goes_to, entries_in, writes_to, is_note, put_in, put_of, put_at, with_put, new_writes, writes_after, arrived, arrived_one};
 ghost use Rattle.call_journal.specs.Tracked.{IsTracked, Rise};
 
 use crate::answers::ArrivedWrite;
 use gaspi_texts::Journal;
-use gaspi_types::{Call, Event, NoMemory, Outcome, Posting, QueueId, RankId, Reply, Rows};
+use gaspi_types::{Call, Event, NoMemory, Outcome, Posting, QueueId, RankId, Reply, Sequence};
 use std::alloc::Global;
 
 /// The put of an entry: its lane and its number.
@@ -249,7 +249,7 @@ pub fn lane_writes(
     requires there { place ≤ length journal.now }
     requires short { length journal.now ≤ 16 * 65536 }
     ensures rise { IfOk result (λ found. Rise 0 found.writes.items found.next) }
-    ensures tracked { IfOk result (λ found. (w : World) → IsWorld w → is_legal w journal.now ≡ true → IsTracked w journal.now place at.now found.next found.noted found.writes.items) }
+    ensures tracked { IfOk result (λ found. (w : ShapeValue) → IsShape w → is_legal w journal.now ≡ true → IsTracked w journal.now place at.now found.next found.noted found.writes.items) }
 {
     let mut found = LaneWrites {
         next: 0,
@@ -268,10 +268,10 @@ pub fn arrived(
     alloc: Global,
     writes: &[LaneWrite],
     number: u32,
-) -> Result<Rows<ArrivedWrite>, NoMemory>
+) -> Result<Sequence<ArrivedWrite>, NoMemory>
     ensures { IfOk result (λ list. list ≡ arrived number writes.now) }
 {
-    let mut list = Rows::new(alloc);
+    let mut list = Sequence::new(alloc);
     for write in writes {
         match write.put {
             Some(put) if write.number < number => list.push(ArrivedWrite {

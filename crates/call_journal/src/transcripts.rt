@@ -6,10 +6,10 @@ ghost use Rattle.gaspi_types.specs.declared.events.Event.{Event};
 ghost use Rattle.gaspi_types.specs.CallRows.{is_end};
 ghost use Rattle.call_journal.specs.OwnCalls.{pairs_of, HasCallers, IsCallTable};
 ghost use Rattle.gaspi_texts.specs.EventText.{caller_word};
-ghost use Rattle.rank_script.specs.Runs.{going_on, outcome_of};
+ghost use Rattle.rank_script.specs.Runs.{at_first_line, outcome_of};
 ghost use Rattle.call_journal.specs.Transcripts.{call_line, ended_line, outcome_line, transcript, thread_transcript, rank_transcripts, transcripts};
 
-use crate::own_calls::{CallTable, OwnCall, own_calls};
+use crate::own_calls::{RecordedCall, RecordedCalls, own_calls};
 use gaspi_texts::{Journal, write_number, write_reply};
 use gaspi_types::{Bytes, Call, CallerId, NoMemory, RankId, Reply, Shape, ThreadId};
 use rank_script::{Cursor, RunOutcome, Script, Scripts};
@@ -94,9 +94,9 @@ fn is_over(cursor: &Cursor<'_>, call: &Call) -> bool
 fn write_transcript(
     text: &mut Bytes,
     script: &Script,
-    calls: &[OwnCall<'_>],
+    calls: &[RecordedCall<'_>],
 ) -> Result<(), NoMemory>
-    ensures { OnOk result (text.new ≡ text.old ++ transcript script.now.caller (going_on script.now.lines) (pairs_of calls.now)) }
+    ensures { OnOk result (text.new ≡ text.old ++ transcript script.now.caller (at_first_line script.now.lines) (pairs_of calls.now)) }
 {
     let mut cursor = Cursor::new(text.allocator(), script)?;
     for own in calls {
@@ -114,7 +114,7 @@ fn write_thread(
     text: &mut Bytes,
     caller: CallerId,
     scripts: &Scripts,
-    table: &CallTable<'_>,
+    table: &RecordedCalls<'_>,
 ) -> Result<(), NoMemory>
     requires { HasCallers table.now }
     ensures { (history : List Event) → IsCallTable table.now history → OnOk result (text.new ≡ text.old ++ thread_transcript scripts.now history caller.rank caller.thread) }
@@ -132,7 +132,7 @@ fn write_rank(
     text: &mut Bytes,
     rank: u32,
     scripts: &Scripts,
-    table: &CallTable<'_>,
+    table: &RecordedCalls<'_>,
 ) -> Result<(), NoMemory>
     requires rank { rank < 16 }
     requires callers { HasCallers table.now }

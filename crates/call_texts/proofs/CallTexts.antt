@@ -3,7 +3,7 @@ use Rattle.std.proofs.Common.{◌≡◌, ◌≢◌, ◌<◌, ℕ, true, false, B
 use Rattle.std.specs.List.{AllByRecursion, list_all}
 use Rattle.std.proofs.lemmas.Option.{cond_some, option_and_then_some, same_Some, none-some}
 use Rattle.call_texts.specs.CallText.{Spelled, spelling_of, form_of, call_word_of, has_timeout, spelled, call_with, call_taken, with_nothing_left, call_by, call_of, is_end_text, recorded_call_of, call_of_text, end_word, words_of_spelled, words_of_call, call_text, IsSpelledInRange, IsWritable}
-use Rattle.call_texts.specs.Fields.{Fields, AreInRange, words_of_fields, fields_taken}
+use Rattle.call_texts.specs.Fields.{Fields, AreInRange, words_of_fields, fields_spelled}
 use Rattle.call_texts.specs.Words.{is_plain, IsPlainWord}
 use Rattle.gaspi_types.specs.CallRows.{row_of}
 use Rattle.gaspi_types.specs.declared.calls.Call.{Call}
@@ -65,7 +65,7 @@ taken-back : (word : CallWord) (fields : Fields (form_of word)) → AreInRange (
 unfolding call_taken
 taken-back word fields small =
     let back = form-back (form_of word) fields [] small in
-    let read : fields_taken (form_of word) (words_of_fields (form_of word) fields) ≡ Some (fields, []) = rw append-nil at back in
+    let read : fields_spelled (form_of word) (words_of_fields (form_of word) fields) ≡ Some (fields, []) = rw append-nil at back in
     rw read refl
 
 spelled-back : (s : Option Spelled) → IsSpelledInRange s → recorded_call_of (words_of_spelled s) ≡ Some (call_from s)
@@ -90,7 +90,7 @@ record HasWord (call : Call) : Type 0 where
 found-word : (word : CallWord) (words : List (List ℕ)) (taken : Call × List (List ℕ)) → call_taken word words ≡ Some taken → HasWord taken.0
 unfolding call_taken
 found-word word words taken is =
-    option_and_then_some _ (fields_taken (form_of word) words) taken is (λ found read same.
+    option_and_then_some _ (fields_spelled (form_of word) words) taken is (λ found read same.
     subst (λ (t : Call × List (List ℕ)). HasWord t.0) (same_Some (call_with word found.0, found.1) taken same)
     (record {
       what = record { word = word; fields = found.0 };

@@ -8,7 +8,7 @@ use Rattle.std.proofs.lemmas.Option.{option_and_then_some, cond_some, same_Some,
 use Rattle.hex.specs.Hex.{IsBytes}
 use Rattle.gaspi_types.specs.NumberTypes.{TypedNumbers}
 use Rattle.gaspi_types.specs.declared.calls.posts.Item.{Item}
-use Rattle.call_texts.specs.Fields.{IsNumber, FieldValue, IsItemInRange, IsInRange, words_of_item, words_of_field, first_spells, item_taken, items_taken, words_taken, elements_taken, field_taken, Fields, AreInRange, words_of_fields, fields_taken}
+use Rattle.call_texts.specs.Fields.{IsNumber, FieldValue, IsItemInRange, IsInRange, words_of_item, words_of_field, first_spells, item_spelled, items_spelled, words_split, elements_spelled, field_spelled, Fields, AreInRange, words_of_fields, fields_spelled}
 use Rattle.call_texts.specs.Elements.{type_of, elements_of}
 use Rattle.call_texts.specs.Hex.{bytes_of}
 use Rattle.call_texts.specs.Numbers.{number_of, value_of}
@@ -23,7 +23,7 @@ use Rattle.call_texts.proofs.WordRanges.{number_of-range, value_of-range, bytes_
 
 -- What is written is read back.
 
-item-back : (item : Item) (behind : List (List ℕ)) → IsItemInRange item → item_taken (words_of_item item ++ behind) ≡ Some (item, behind)
+item-back : (item : Item) (behind : List (List ℕ)) → IsItemInRange item → item_spelled (words_of_item item ++ behind) ≡ Some (item, behind)
 item-back item behind small =
     rw (
       number_of-decimal item.seg small.0,
@@ -34,28 +34,28 @@ item-back item behind small =
     ) refl
 
 items-back : (items : List Item) (behind : List (List ℕ)) → AllByRecursion IsItemInRange items
-    → items_taken (length items) (flat_map words_of_item items ++ behind) ≡ Some (items, behind)
+    → items_spelled (length items) (flat_map words_of_item items ++ behind) ≡ Some (items, behind)
 items-back [] behind small = refl
 items-back (item ∷ items) behind small =
     rw (item-back item (flat_map words_of_item items ++ behind) small.0, items-back items behind small.1) refl
 
-front-taken : (front behind : List (List ℕ)) (count : ℕ) → length front ≡ count → words_taken count (front ++ behind) ≡ Some (front, behind)
-front-taken front behind count long =
+prefix-spelled : (front behind : List (List ℕ)) (count : ℕ) → length front ≡ count → words_split count (front ++ behind) ≡ Some (front, behind)
+prefix-spelled front behind count long =
     let within : nat_le count (length (front ++ behind)) ≡ true = simp length-append (grind (arith, nat_tests)) in
     rw (within, take_at front behind count long, drop_at front behind count long) refl
 
 elements-back : (numbers : TypedNumbers) (behind : List (List ℕ)) → IsInRange Elements numbers
-    → elements_taken (words_of_field Elements numbers ++ behind) ≡ Some (numbers, behind)
+    → elements_spelled (words_of_field Elements numbers ++ behind) ≡ Some (numbers, behind)
 elements-back numbers behind small =
     rw (
       type_of-word numbers.num_type,
       number_of-decimal (length numbers.items) small.0,
-      front-taken (map signed_decimal numbers.items) behind (length numbers.items) (length-map numbers.items signed_decimal),
+      prefix-spelled (map signed_decimal numbers.items) behind (length numbers.items) (length-map numbers.items signed_decimal),
       elements_of-decimals numbers.num_type numbers.items small.1,
     ) refl
 
 field-back : (field : Field) (value : FieldValue field) (behind : List (List ℕ)) → IsInRange field value
-    → field_taken field (words_of_field field value ++ behind) ≡ Some (value, behind)
+    → field_spelled field (words_of_field field value ++ behind) ≡ Some (value, behind)
 field-back Number n behind small = rw (number_of-decimal n small) refl
 field-back Value n behind small = rw (value_of-decimal n small) refl
 field-back Bytes bytes behind small = rw (bytes_of-hex_text bytes small) refl
@@ -64,7 +64,7 @@ field-back Operation op behind small = rw (op_of-word op) refl
 field-back Elements numbers behind small = elements-back numbers behind small
 
 pub form-back : (form : List Field) (fields : Fields form) (behind : List (List ℕ)) → AreInRange form fields
-    → fields_taken form (words_of_fields form fields ++ behind) ≡ Some (fields, behind)
+    → fields_spelled form (words_of_fields form fields ++ behind) ≡ Some (fields, behind)
 form-back [] fields behind small = refl
 form-back (field ∷ form) (value, fields) behind small =
     rw (append_assoc, field-back field value (words_of_fields form fields ++ behind) small.0, form-back form fields behind small.1) refl
@@ -81,7 +81,7 @@ one-range {A = A} P read range (word ∷ words) taken is =
 number-range : (words : List (List ℕ)) (taken : ℕ × List (List ℕ)) → first_spells number_of words ≡ Some taken → IsNumber taken.0
 number-range words taken is = one-range (λ (n : ℕ). IsNumber n) number_of number_of-range words taken is
 
-item-range : (words : List (List ℕ)) (taken : Item × List (List ℕ)) → item_taken words ≡ Some taken → IsItemInRange taken.0
+item-range : (words : List (List ℕ)) (taken : Item × List (List ℕ)) → item_spelled words ≡ Some taken → IsItemInRange taken.0
 item-range words taken is =
     option_and_then_some _ (first_spells number_of words) taken is (λ seg first behind_seg.
     option_and_then_some _ (first_spells number_of seg.1) taken behind_seg (λ offset second behind_offset.
@@ -100,27 +100,27 @@ record AreItems (count : ℕ) (items : List Item) : Type 0 where
   counted : length items ≡ count
   range : AllByRecursion IsItemInRange items
 
-items-range : (count : ℕ) (words : List (List ℕ)) (taken : List Item × List (List ℕ)) → items_taken count words ≡ Some taken → AreItems count taken.0
+items-range : (count : ℕ) (words : List (List ℕ)) (taken : List Item × List (List ℕ)) → items_spelled count words ≡ Some taken → AreItems count taken.0
 items-range zero words taken is =
     subst (λ (t : List Item × List (List ℕ)). AreItems zero t.0) (same_Some ([], words) taken is) (record { counted = refl; range = tt })
 items-range (suc count) words taken is =
-    option_and_then_some _ (item_taken words) taken is (λ first spelled found.
-    option_and_then_some _ (items_taken count first.1) taken found (λ others read same.
+    option_and_then_some _ (item_spelled words) taken is (λ first spelled found.
+    option_and_then_some _ (items_spelled count first.1) taken found (λ others read same.
     let later = items-range count first.1 others read in
     subst (λ (t : List Item × List (List ℕ)). AreItems (suc count) t.0) (same_Some (first.0 ∷ others.0, others.1) taken same)
     (record { counted = ap suc later.counted; range = (item-range words first spelled, later.range) })))
 
-list-range : (words : List (List ℕ)) (taken : List Item × List (List ℕ)) → field_taken Items words ≡ Some taken → IsInRange Items taken.0
+list-range : (words : List (List ℕ)) (taken : List Item × List (List ℕ)) → field_spelled Items words ≡ Some taken → IsInRange Items taken.0
 list-range words taken is =
     option_and_then_some _ (first_spells number_of words) taken is (λ count spelled found.
     let items = items-range count.0 count.1 taken found in
     (subst (λ (n : ℕ). IsNumber n) (sym items.counted) (number-range words count spelled), items.range))
 
-elements-range : (words : List (List ℕ)) (taken : TypedNumbers × List (List ℕ)) → elements_taken words ≡ Some taken → IsInRange Elements taken.0
+elements-range : (words : List (List ℕ)) (taken : TypedNumbers × List (List ℕ)) → elements_spelled words ≡ Some taken → IsInRange Elements taken.0
 elements-range words taken is =
     option_and_then_some _ (first_spells type_of words) taken is (λ num_type first behind_type.
     option_and_then_some _ (first_spells number_of num_type.1) taken behind_type (λ count second behind_count.
-    option_and_then_some _ (words_taken count.0 count.1) taken behind_count (λ front third behind_front.
+    option_and_then_some _ (words_split count.0 count.1) taken behind_count (λ front third behind_front.
     option_and_then_some _ (elements_of num_type.0 front.0) taken behind_front (λ items fourth same.
     let cut = cond_some (nat_le count.0 (length count.1)) (take count.0 count.1, drop count.0 count.1) front third in
     let within : count.0 ≤ length count.1 = grind (arith, nat_tests, cut.0) in
@@ -131,7 +131,7 @@ elements-range words taken is =
       elements_of-range num_type.0 front.0 items fourth,
     )))))
 
-field-range : (field : Field) (words : List (List ℕ)) (taken : FieldValue field × List (List ℕ)) → field_taken field words ≡ Some taken
+field-range : (field : Field) (words : List (List ℕ)) (taken : FieldValue field × List (List ℕ)) → field_spelled field words ≡ Some taken
     → IsInRange field taken.0
 field-range Number words taken is = number-range words taken is
 field-range Value words taken is = one-range (λ (n : ℕ). n < 2 ^ 32) value_of value_of-range words taken is
@@ -140,12 +140,12 @@ field-range Items words taken is = list-range words taken is
 field-range Operation words taken is = tt
 field-range Elements words taken is = elements-range words taken is
 
-pub form-range : (form : List Field) (words : List (List ℕ)) (taken : Fields form × List (List ℕ)) → fields_taken form words ≡ Some taken
+pub form-range : (form : List Field) (words : List (List ℕ)) (taken : Fields form × List (List ℕ)) → fields_spelled form words ≡ Some taken
     → AreInRange form taken.0
 form-range [] words taken is = tt
 form-range (field ∷ form) words taken is =
-    option_and_then_some _ (field_taken field words) taken is (λ first spelled found.
-    option_and_then_some _ (fields_taken form first.1) taken found (λ others read same.
+    option_and_then_some _ (field_spelled field words) taken is (λ first spelled found.
+    option_and_then_some _ (fields_spelled form first.1) taken found (λ others read same.
     subst (λ (t : (FieldValue field × Fields form) × List (List ℕ)). AreInRange (field ∷ form) t.0) (same_Some ((first.0, others.0), others.1) taken same)
     (field-range field words first spelled, form-range form first.1 others read)))
 

@@ -3,7 +3,7 @@ use Rattle.std.proofs.Common.{◌≡◌, ℕ, zero, suc, ◌+◌, ◌-◌, ◌<�
 use Rattle.std.specs.List.{AllByRecursion}
 use Rattle.std.specs.Option.{option_map}
 use Rattle.gaspi_types.specs.declared.calls.posts.Item.{Item}
-use Rattle.call_texts.specs.Fields.{item_taken, items_taken}
+use Rattle.call_texts.specs.Fields.{item_spelled, items_spelled}
 use Rattle.call_texts.specs.Steps.{◌>>=◌}
 
 -- what is read behind items that were read
@@ -14,25 +14,25 @@ pub items-first : (later : Option (List Item × List (List ℕ))) → later ≡ 
 items-first None = refl
 items-first (Some taken) = refl
 
-pub items-next : (count done : ℕ) (words rest : List (List ℕ)) (items : List Item) (item : Item) → done < count → Some (item, rest) ≡ item_taken words
-    → behind_items items (items_taken (count - done) words) ≡ behind_items (items ++ item ∷ []) (items_taken (count - (done + 1)) rest)
+pub items-next : (count done : ℕ) (words rest : List (List ℕ)) (items : List Item) (item : Item) → done < count → Some (item, rest) ≡ item_spelled words
+    → behind_items items (items_spelled (count - done) words) ≡ behind_items (items ++ item ∷ []) (items_spelled (count - (done + 1)) rest)
 items-next count done words rest items item more is =
     let one : count - done ≡ suc (count - (done + 1)) = omega arith in
-    rw (one, sym is) (others (items_taken (count - (done + 1)) rest))
+    rw (one, sym is) (others (items_spelled (count - (done + 1)) rest))
   where
     others : (later : Option (List Item × List (List ℕ)))
         → behind_items items (later >>= (λ (taken : List Item × List (List ℕ)). Some (item ∷ taken.0, taken.1))) ≡ behind_items (items ++ item ∷ []) later
     others None = refl
     others (Some taken) = rw append_assoc refl
 
-pub items-stop : (count done : ℕ) (words : List (List ℕ)) (items : List Item) → done < count → None ≡ item_taken words
-    → behind_items items (items_taken (count - done) words) ≡ None
+pub items-stop : (count done : ℕ) (words : List (List ℕ)) (items : List Item) → done < count → None ≡ item_spelled words
+    → behind_items items (items_spelled (count - done) words) ≡ None
 items-stop count done words items more is =
     let one : count - done ≡ suc (count - (done + 1)) = omega arith in
     rw (one, sym is) refl
 
 pub items-all : (count done : ℕ) (words : List (List ℕ)) (items : List Item) → count ≤ done
-    → behind_items items (items_taken (count - done) words) ≡ Some (items, words)
+    → behind_items items (items_spelled (count - done) words) ≡ Some (items, words)
 items-all count done words items over =
     let none : count - done ≡ 0 = omega arith in
     rw (none, append-nil) refl

@@ -26,8 +26,8 @@ value-behind n [] other = refl
 value-behind n (c ∷ word) other = value-behind (n * 10 + digit_value c) word other
 
 -- the digits in front are worth no more than all of them
-pub front-value : (word : List ℕ) (i : ℕ) → digits_value 10 (take i word) ≤ digits_value 10 word
-front-value word i =
+pub prefix-value : (word : List ℕ) (i : ℕ) → digits_value 10 (take i word) ≤ digits_value 10 word
+prefix-value word i =
     let whole = ap (digits_value 10) (sym (take-append-drop i word)) ∙ value-behind 0 (take i word) (drop i word) in
     rw whole (grows _ (drop i word))
 
@@ -42,7 +42,7 @@ next-value word i n inside digit value =
 pub number_of-large : (word : List ℕ) (i : ℕ) → 2 ^ 64 ≤ digits_value 10 (take i word) → number_of word ≡ None
 unfolding number_of
 number_of-large word i large =
-    let whole = front-value word i in
+    let whole = prefix-value word i in
     let over : nat_le (digits_value 10 word) 18446744073709551615 ≡ false = grind (arith, nat_tests) in
     rw (and_right (is_numeral word) _ over) refl
 

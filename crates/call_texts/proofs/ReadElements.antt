@@ -14,14 +14,14 @@ behind z items (Some rest) = refl
 behind z items None = refl
 
 -- the same with one word before them
-front : (t : NumType) (word : List ℕ) (words others : List (List ℕ)) (items : List ℤ) (one : Option ℤ) (more : Option (List ℤ))
+prefix : (t : NumType) (word : List ℕ) (words others : List (List ℕ)) (items : List ℤ) (one : Option ℤ) (more : Option (List ℤ))
     → element_of t word ≡ one
     → ((rest : List ℤ) → more ≡ Some rest → elements_of t (words ++ others) ≡ (elements_of t others >>= λ after. Some (rest ++ after)))
     → (one >>= λ z. more >>= λ rest. Some (z ∷ rest)) ≡ Some items
     → elements_of t (word ∷ words ++ others) ≡ (elements_of t others >>= λ rest. Some (items ++ rest))
-front t word words others items None more first next e = cc e
-front t word words others items (Some z) None first next e = cc e
-front t word words others items (Some z) (Some rest) first next e =
+prefix t word words others items None more first next e = cc e
+prefix t word words others items (Some z) None first next e = cc e
+prefix t word words others items (Some z) (Some rest) first next e =
     let is : items ≡ z ∷ rest = cc in
     rw (first, next rest refl, is) (behind z rest (elements_of t others))
 
@@ -32,7 +32,7 @@ elements_of-append t [] others items e =
     let is : items ≡ [] = cc in
     rw is (unchanged (elements_of t others))
 elements_of-append t (word ∷ words) others items e =
-    front t word words others items (element_of t word) (elements_of t words) refl (λ rest next. elements_of-append t words others rest next) e
+    prefix t word words others items (element_of t word) (elements_of t words) refl (λ rest next. elements_of-append t words others rest next) e
 
 -- one more element
 pub elements_of_push : (t : NumType) (words : List (List ℕ)) (word : List ℕ) (items : List ℤ) (z : ℤ)

@@ -4,7 +4,7 @@ use Rattle.std.specs.List.{join_with_byte}
 use Rattle.std.specs.Str.{bytes_eq}
 use Rattle.std.specs.Option.{option_map_or}
 use Rattle.call_texts.specs.Words.{words_of}
-use Rattle.call_texts.specs.Fields.{Fields, AreInRange, words_of_fields, fields_taken, form_words, has_list}
+use Rattle.call_texts.specs.Fields.{Fields, AreInRange, words_of_fields, fields_spelled, form_words, has_list}
 use Rattle.call_texts.specs.Steps.{◌>>=◌}
 use Rattle.gaspi_types.specs.declared.calls.Call.{Call}
 use Rattle.gaspi_types.specs.declared.calls.Call.TheVariants as calls
@@ -238,7 +238,7 @@ call_with State end = calls.State
 -- the call of a word whose fields the words in front spell, and the words behind them
 unfoldable pub call_taken : CallWord → List (List ℕ) → Option (Call × List (List ℕ))
 call_taken word words = do
-  taken ← fields_taken (form_of word) words
+  taken ← fields_spelled (form_of word) words
   Some (call_with word taken.0, taken.1)
 
 -- a value behind which no word is left

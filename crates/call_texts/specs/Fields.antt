@@ -65,8 +65,8 @@ first_spells read (word ∷ words) = do
   Some (value, words)
 
 -- the item that the words in front spell, and the words behind them
-abbrev pub item_taken : List (List ℕ) → Option (Item × List (List ℕ))
-item_taken words = do
+abbrev pub item_spelled : List (List ℕ) → Option (Item × List (List ℕ))
+item_spelled words = do
   seg ← first_spells number_of words
   offset ← first_spells number_of seg.1
   rseg ← first_spells number_of offset.1
@@ -75,36 +75,36 @@ item_taken words = do
   Some (record { seg = seg.0; offset = offset.0; rseg = rseg.0; roffset = roffset.0; size = size.0 }, size.1)
 
 -- so many items that the words in front spell, one after the other, and the words behind them
-abbrev pub items_taken : ℕ → List (List ℕ) → Option (List Item × List (List ℕ))
-items_taken zero words = Some ([], words)
-items_taken (suc count) words = do
-  first ← item_taken words
-  others ← items_taken count first.1
+abbrev pub items_spelled : ℕ → List (List ℕ) → Option (List Item × List (List ℕ))
+items_spelled zero words = Some ([], words)
+items_spelled (suc count) words = do
+  first ← item_spelled words
+  others ← items_spelled count first.1
   Some (first.0 ∷ others.0, others.1)
 
 -- so many words in front, where there are as many, and the words behind them
-abbrev pub words_taken : ℕ → List (List ℕ) → Option (List (List ℕ) × List (List ℕ))
-words_taken count words = if nat_le count (length words) then Some (take count words, drop count words) else None
+abbrev pub words_split : ℕ → List (List ℕ) → Option (List (List ℕ) × List (List ℕ))
+words_split count words = if nat_le count (length words) then Some (take count words, drop count words) else None
 
 -- a type, the number of elements, and so many elements of the type that the words in front spell, and the words behind them
-abbrev pub elements_taken : List (List ℕ) → Option (TypedNumbers × List (List ℕ))
-elements_taken words = do
+abbrev pub elements_spelled : List (List ℕ) → Option (TypedNumbers × List (List ℕ))
+elements_spelled words = do
   num_type ← first_spells type_of words
   count ← first_spells number_of num_type.1
-  front ← words_taken count.0 count.1
+  front ← words_split count.0 count.1
   items ← elements_of num_type.0 front.0
   Some (record { num_type = num_type.0; items = items }, front.1)
 
 -- the value that the words in front spell, and the words behind them
-abbrev pub field_taken : (field : Field) → List (List ℕ) → Option (FieldValue field × List (List ℕ))
-field_taken Number words = first_spells number_of words
-field_taken Value words = first_spells value_of words
-field_taken Bytes words = first_spells bytes_of words
-field_taken Items words = do
+abbrev pub field_spelled : (field : Field) → List (List ℕ) → Option (FieldValue field × List (List ℕ))
+field_spelled Number words = first_spells number_of words
+field_spelled Value words = first_spells value_of words
+field_spelled Bytes words = first_spells bytes_of words
+field_spelled Items words = do
   count ← first_spells number_of words
-  items_taken count.0 count.1
-field_taken Operation words = first_spells op_of words
-field_taken Elements words = elements_taken words
+  items_spelled count.0 count.1
+field_spelled Operation words = first_spells op_of words
+field_spelled Elements words = elements_spelled words
 
 -- whether it is a list, which takes memory as it is read
 abbrev pub is_list : Field → Bool
@@ -140,11 +140,11 @@ words_of_fields [] fields = []
 words_of_fields (field ∷ form) fields = words_of_field field fields.0 ++ words_of_fields form fields.1
 
 -- the values that the words in front spell, one after the other, and the words behind them
-abbrev pub fields_taken : (form : List Field) → List (List ℕ) → Option (Fields form × List (List ℕ))
-fields_taken [] words = Some (tt, words)
-fields_taken (field ∷ form) words = do
-  first ← field_taken field words
-  others ← fields_taken form first.1
+abbrev pub fields_spelled : (form : List Field) → List (List ℕ) → Option (Fields form × List (List ℕ))
+fields_spelled [] words = Some (tt, words)
+fields_spelled (field ∷ form) words = do
+  first ← field_spelled field words
+  others ← fields_spelled form first.1
   Some ((first.0, others.0), others.1)
 
 abbrev pub has_list : List Field → Bool

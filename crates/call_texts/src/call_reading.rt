@@ -19,7 +19,7 @@ use gaspi_types::{Call, NoMemory};
 use std::alloc::Global;
 
 /// The call of a word whose fields the words in front spell, which are taken. Only a list takes memory.
-fn take_call(
+fn read_call_from(
     alloc: Global,
     word: CallWord,
     fields: &mut FieldWords,
@@ -72,7 +72,7 @@ pub fn read_arguments(
     ensures memory { OnErr result (holds_list word ≡ true) }
 {
     let mut fields = FieldWords::new(arguments);
-    let Some(call) = take_call(alloc, word, &mut fields)? else {
+    let Some(call) = read_call_from(alloc, word, &mut fields)? else {
         return Ok(None);
     };
     if fields.is_empty() {

@@ -9,7 +9,7 @@ ghost use Rattle.call_texts.specs.declared.fields.Field.TheVariants.{Elements};
 
 use crate::numbers::read_number;
 use crate::words_written::{append_numbers, append_word};
-use gaspi_types::{Bytes, NoMemory, NumType, Numbers, Op, Rows, is_in_type};
+use gaspi_types::{Bytes, NoMemory, NumType, Numbers, Op, Sequence, is_in_type};
 use itoa::Buffer;
 use std::alloc::Global;
 
@@ -103,11 +103,11 @@ pub fn read_elements(
     alloc: Global,
     num_type: NumType,
     words: &[&[u8]],
-) -> Result<Option<Rows<i128>>, NoMemory>
+) -> Result<Option<Sequence<i128>>, NoMemory>
     ensures value { IfOk result (λ elements. elements ≡ elements_of num_type (map (λ word. word.now) words.now)) }
     ensures range { IfOk result (λ elements. IfSome elements (λ items. AreInType num_type items)) }
 {
-    let mut elements = Rows::with_room(alloc, words.len())?;
+    let mut elements = Sequence::with_capacity(alloc, words.len())?;
     for word in words {
         let Some(element) = read_element(num_type, word) else {
             return Ok(None);

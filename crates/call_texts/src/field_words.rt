@@ -3,14 +3,14 @@
 ghost use Rattle.std.specs.Prelude.{◌≡◌, ◌==◌, map, length, IfOk, OnErr, true};
 ghost use Rattle.std.specs.Option.{option_map};
 ghost use Rattle.call_texts.specs.Elements.{type_of};
-ghost use Rattle.call_texts.specs.Fields.{first_spells, item_taken, words_taken, field_taken};
+ghost use Rattle.call_texts.specs.Fields.{first_spells, item_spelled, words_split, field_spelled};
 ghost use Rattle.call_texts.specs.FieldWords.{words_in};
 ghost use Rattle.call_texts.specs.declared.fields.Field.TheVariants.{Number, Value, Bytes, Items, Operation, Elements};
 
 use crate::elements::{read_elements, read_op, read_type};
 use crate::hexes::read_bytes;
 use crate::numbers::{read_number, read_value};
-use gaspi_types::{Bytes, Item, NoMemory, NumType, Numbers, Op, Rows};
+use gaspi_types::{Bytes, Item, NoMemory, NumType, Numbers, Op, Sequence};
 use std::alloc::Global;
 
 /// The words of fields that were not taken yet.
@@ -36,7 +36,7 @@ impl<'b, 'a> FieldWords<'b, 'a> {
 
     /// The number that the first word spells, which is taken.
     pub(crate) fn number(&mut self) -> Option<u64>
-        ensures { option_map (λ n. (n, words_in self.new)) result ≡ field_taken Number (words_in self.old) }
+        ensures { option_map (λ n. (n, words_in self.new)) result ≡ field_spelled Number (words_in self.old) }
     {
         let [word, words @ ..] = self.words else {
             return None;
@@ -47,7 +47,7 @@ impl<'b, 'a> FieldWords<'b, 'a> {
 
     /// The notification value that the first word spells, which is taken.
     pub(crate) fn value(&mut self) -> Option<u32>
-        ensures { option_map (λ n. (n, words_in self.new)) result ≡ field_taken Value (words_in self.old) }
+        ensures { option_map (λ n. (n, words_in self.new)) result ≡ field_spelled Value (words_in self.old) }
     {
         let [word, words @ ..] = self.words else {
             return None;
@@ -58,7 +58,7 @@ impl<'b, 'a> FieldWords<'b, 'a> {
 
     /// The bytes that the first word spells, which is taken.
     pub(crate) fn bytes(&mut self, alloc: Global) -> Result<Option<Bytes>, NoMemory>
-        ensures { IfOk result (λ bytes. option_map (λ b. (b, words_in self.new)) bytes ≡ field_taken Bytes (words_in self.old)) }
+        ensures { IfOk result (λ bytes. option_map (λ b. (b, words_in self.new)) bytes ≡ field_spelled Bytes (words_in self.old)) }
     {
         let [word, words @ ..] = self.words else {
             return Ok(None);
@@ -69,7 +69,7 @@ impl<'b, 'a> FieldWords<'b, 'a> {
 
     /// The item that the first five words spell, which are taken.
     fn item(&mut self) -> Option<Item>
-        ensures { option_map (λ item. (item, words_in self.new)) result ≡ item_taken (words_in self.old) }
+        ensures { option_map (λ item. (item, words_in self.new)) result ≡ item_spelled (words_in self.old) }
     {
         Some(Item {
             seg: self.number()?,
@@ -82,14 +82,14 @@ impl<'b, 'a> FieldWords<'b, 'a> {
 
     /// The items that the words behind their number spell, which are taken. However large the number is, memory is taken
     /// for no more items than there are words.
-    pub(crate) fn items(&mut self, alloc: Global) -> Result<Option<Rows<Item>>, NoMemory>
-        ensures { IfOk result (λ items. option_map (λ i. (i, words_in self.new)) items ≡ field_taken Items (words_in self.old)) }
+    pub(crate) fn items(&mut self, alloc: Global) -> Result<Option<Sequence<Item>>, NoMemory>
+        ensures { IfOk result (λ items. option_map (λ i. (i, words_in self.new)) items ≡ field_spelled Items (words_in self.old)) }
     {
         let Some(count) = self.number() else {
             return Ok(None);
         };
         let room = self.words.len() / 5;
-        let mut items = Rows::with_room(alloc, room.min(count as usize))?;
+        let mut items = Sequence::with_capacity(alloc, room.min(count as usize))?;
         for _ in 0..count {
             let Some(item) = self.item() else {
                 return Ok(None);
@@ -101,7 +101,7 @@ impl<'b, 'a> FieldWords<'b, 'a> {
 
     /// The operation that the first word stands for, which is taken.
     pub(crate) fn operation(&mut self) -> Option<Op>
-        ensures { option_map (λ op. (op, words_in self.new)) result ≡ field_taken Operation (words_in self.old) }
+        ensures { option_map (λ op. (op, words_in self.new)) result ≡ field_spelled Operation (words_in self.old) }
     {
         let [word, words @ ..] = self.words else {
             return None;
@@ -123,7 +123,7 @@ impl<'b, 'a> FieldWords<'b, 'a> {
 
     /// So many words in front, which are taken, where there are as many.
     fn front(&mut self, count: u64) -> Option<&'b [&'a [u8]]>
-        ensures { option_map (λ front. (map (λ word. word.now) front.now, words_in self.new)) result ≡ words_taken count (words_in self.old) }
+        ensures { option_map (λ front. (map (λ word. word.now) front.now, words_in self.new)) result ≡ words_split count (words_in self.old) }
     {
         if count > self.words.len() as u64 {
             return None;
@@ -136,7 +136,7 @@ impl<'b, 'a> FieldWords<'b, 'a> {
     /// The numbers that the words behind their type and their number spell, which are taken. However large the number is,
     /// memory is taken for no more numbers than there are words.
     pub(crate) fn elements(&mut self, alloc: Global) -> Result<Option<Numbers>, NoMemory>
-        ensures { IfOk result (λ numbers. option_map (λ n. (n, words_in self.new)) numbers ≡ field_taken Elements (words_in self.old)) }
+        ensures { IfOk result (λ numbers. option_map (λ n. (n, words_in self.new)) numbers ≡ field_spelled Elements (words_in self.old)) }
     {
         let Some(num_type) = self.num_type() else {
             return Ok(None);

@@ -3,7 +3,7 @@
 ghost use Rattle.std.specs.Prelude.{◌≡◌, ◌++◌, ◌<◌, ◌%◌, length, IfOk, OnOk, OnErr};
 ghost use Rattle.call_texts.specs.Hex.{bytes_of, hex_text};
 
-use gaspi_types::{Bytes, NoMemory, Rows};
+use gaspi_types::{Bytes, NoMemory, Sequence};
 use hex::FromHexError;
 use std::alloc::Global;
 
@@ -15,13 +15,13 @@ pub fn read_bytes(alloc: Global, word: &[u8]) -> Result<Option<Bytes>, NoMemory>
     ensures memory { OnErr result ((0 < length word.now) × (length word.now % 2 ≡ 0)) }
 {
     if word == b"-".as_slice() {
-        return Ok(Some(Rows::new(alloc)));
+        return Ok(Some(Sequence::new(alloc)));
     }
     if word.is_empty() {
         return Ok(None);
     }
     match hex::decode(alloc, word) {
-        Ok(bytes) => Ok(Some(Rows::from_vec(bytes))),
+        Ok(bytes) => Ok(Some(Sequence::from_vec(bytes))),
         Err(FromHexError::OutOfMemory) => Err(NoMemory),
         Err(_) => Ok(None),
     }

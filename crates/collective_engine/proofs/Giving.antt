@@ -6,7 +6,7 @@ use Rattle.std.proofs.lemmas.Bool.{lt-ltb, ltb-true, eqb-true, eq-eqb}
 use Rattle.std.proofs.lemmas.List.{get_or-set_other, get_or-set_same, length-set}
 use Rattle.gaspi_types.proofs.Items.{slice_get-set_same, slice_get-set_other, there-within}
 use Rattle.gaspi_types.specs.declared.groups.Contribution.{Contribution}
-use Rattle.collective_engine.specs.Turns.{joined_by, buffer_of, given_by, with_given, HasRoom}
+use Rattle.collective_engine.specs.RoundBuffers.{joined_by, buffer_of, contribution_by, with_contribution, HasCapacity}
 use Rattle.collective_engine.specs.declared.buffers.Buffers.{Buffers}
 
 -- tests of numbers
@@ -37,11 +37,11 @@ tested : (t : Bool) (o : Option Contribution) → is_some (if t then o else None
 tested true o h = refl
 tested false o h = absurd (let no : ⊥ = cc in no)
 
-pub some_joined : (b : Buffers) (turn m : ℕ) → is_some (given_by b turn m) ≡ true → turn < joined_by b m
+pub some_joined : (b : Buffers) (turn m : ℕ) → is_some (contribution_by b turn m) ≡ true → turn < joined_by b m
 some_joined b turn m h = ltb-true turn (joined_by b m) (tested (nat_lt turn (joined_by b m)) (slice_get (buffer_of b turn) m) h)
 
-pub given_joined : (b : Buffers) (turn m : ℕ) (c : Contribution) → given_by b turn m ≡ Some c → turn < joined_by b m
-given_joined b turn m c at = some_joined b turn m (ap is_some at)
+pub contributed_joined : (b : Buffers) (turn m : ℕ) (c : Contribution) → contribution_by b turn m ≡ Some c → turn < joined_by b m
+contributed_joined b turn m c at = some_joined b turn m (ap is_some at)
 
 -- the other buffer is that of the turn before
 turned : (turn k : ℕ) → turn + 1 ≡ k → (t u : Bool) → (turn % 2 == 0) ≡ t → (k % 2 == 0) ≡ u → t ≡ u → ⊥
@@ -74,51 +74,51 @@ any_parity false true even odd rank r c apart = refl
 any_parity false false even odd rank r c apart = slice_get-set_other odd rank r c (λ e. apart (sym e))
 
 -- a slot for each rank
-pub slot : (b : Buffers) → HasRoom b → (turn rank : ℕ) → rank < 16 → (old : Contribution) × (slice_get (buffer_of b turn) rank ≡ Some old)
+pub slot : (b : Buffers) → HasCapacity b → (turn rank : ℕ) → rank < 16 → (old : Contribution) × (slice_get (buffer_of b turn) rank ≡ Some old)
 slot b room turn rank below = pick (turn % 2 == 0)
   where
     pick : (t : Bool) → (old : Contribution) × (slice_get (if t then b.even else b.odd) rank ≡ Some old)
     pick true = there-within b.even rank (let long = room.even in omega arith)
     pick false = there-within b.odd rank (let long = room.odd in omega arith)
 
-module _ (b : Buffers) (room : HasRoom b) (rank : ℕ) (c : Contribution) (below : rank < 16) where
+module _ (b : Buffers) (room : HasCapacity b) (rank : ℕ) (c : Contribution) (below : rank < 16) where
   -- counts
-  pub joined-now : joined_by (with_given b rank c) rank ≡ joined_by b rank + 1
+  pub joined-now : joined_by (with_contribution b rank c) rank ≡ joined_by b rank + 1
   joined-now = get_or-set_same b.joined rank (joined_by b rank + 1) 0 (let long = room.joined in omega arith)
 
-  pub joined-other : (r : ℕ) → r ≢ rank → joined_by (with_given b rank c) r ≡ joined_by b r
+  pub joined-other : (r : ℕ) → r ≢ rank → joined_by (with_contribution b rank c) r ≡ joined_by b r
   joined-other r apart = get_or-set_other b.joined rank r (joined_by b rank + 1) 0 apart
 
   -- what other ranks have given
-  pub given-other : (turn r : ℕ) → r ≢ rank → given_by (with_given b rank c) turn r ≡ given_by b turn r
-  given-other turn r apart =
+  pub contributed-other : (turn r : ℕ) → r ≢ rank → contribution_by (with_contribution b rank c) turn r ≡ contribution_by b turn r
+  contributed-other turn r apart =
       let count = joined-other r apart in
       rw count (ap (λ (o : Option Contribution). if nat_lt turn (joined_by b r) then o else None) (any_parity (turn % 2 == 0) (joined_by b rank % 2 == 0) b.even b.odd rank r c apart))
 
   -- what the rank gives now, has given to the turn before, and has not given yet
-  pub given-now : given_by (with_given b rank c) (joined_by b rank) rank ≡ Some c
-  given-now =
+  pub contributed-now : contribution_by (with_contribution b rank c) (joined_by b rank) rank ≡ Some c
+  contributed-now =
       let count = joined-now in
       let test = less (joined_by b rank) (joined_by b rank + 1) (omega arith) in
       let there = slot b room (joined_by b rank) rank below in
       rw (count, test) (ap (λ (items : List Contribution). slice_get items rank) (same_parity (joined_by b rank % 2 == 0) b.even b.odd rank c) ∙ slice_get-set_same (buffer_of b (joined_by b rank)) rank there.0 c there.1)
 
-  pub given-before : (turn : ℕ) → turn + 1 ≡ joined_by b rank → given_by (with_given b rank c) turn rank ≡ given_by b turn rank
-  given-before turn next =
+  pub contributed-before : (turn : ℕ) → turn + 1 ≡ joined_by b rank → contribution_by (with_contribution b rank c) turn rank ≡ contribution_by b turn rank
+  contributed-before turn next =
       let count = joined-now in
       let test = less turn (joined_by b rank + 1) (omega arith) in
       let was = less turn (joined_by b rank) (omega arith) in
       rw (count, test, was) (ap (λ (items : List Contribution). slice_get items rank) (other_parity (turn % 2 == 0) (joined_by b rank % 2 == 0) b.even b.odd rank c (turned turn (joined_by b rank) next (turn % 2 == 0) (joined_by b rank % 2 == 0) refl refl)))
 
-  pub given-later : (turn : ℕ) → joined_by b rank < turn → given_by (with_given b rank c) turn rank ≡ None
-  given-later turn later =
+  pub contributed-later : (turn : ℕ) → joined_by b rank < turn → contribution_by (with_contribution b rank c) turn rank ≡ None
+  contributed-later turn later =
       let count = joined-now in
       let test = not_less turn (joined_by b rank + 1) (omega arith) in
       rw (count, test) refl
 
   -- room stays
-  pub room-given : HasRoom (with_given b rank c)
-  room-given = record {
+  pub room-contributed : HasCapacity (with_contribution b rank c)
+  room-contributed = record {
     joined = length-set b.joined rank (joined_by b rank + 1) ∙ room.joined;
     completed = room.completed;
     even = kept (joined_by b rank % 2 == 0) b.even room.even;

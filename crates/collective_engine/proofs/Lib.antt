@@ -3,5 +3,5 @@ pub mod Answering
 pub mod Giving
 pub mod Members
 pub mod Opening
-pub mod Standing
-pub mod Turning
+pub mod StandsFor
+pub mod RoundSteps

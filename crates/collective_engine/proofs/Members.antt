@@ -1,12 +1,12 @@
 -- The members of a group, each by itself and all of them.
 use Rattle.std.proofs.Common.{◌≡◌, ℕ, zero, suc, ◌+◌, ◌≤◌, ◌<◌, Bool, true, false, List, [], ◌∷◌, filter, Option, None, Some, refl, ◌∙◌, arith}
 use Rattle.std.specs.List.{AllByRecursion, list_all, range_with_len}
-use Rattle.gaspi_types.specs.Collectives.{or_later, first_given}
+use Rattle.gaspi_types.specs.Collectives.{or_later, first_contribution}
 use Rattle.gaspi_types.specs.Masks.{is_member}
 use Rattle.gaspi_types.specs.declared.groups.Contribution.{Contribution}
 use Rattle.gaspi_types.proofs.Chains.{both}
 use Rattle.gaspi_types.proofs.Items.{same-or-not}
-use Rattle.collective_engine.specs.Turns.{ranks_of, IsMember}
+use Rattle.collective_engine.specs.RoundBuffers.{ranks_of, IsMember}
 
 -- one number more before others
 add : (P : ℕ → Type 0) (p : ℕ → Bool) (x : ℕ) (xs : List ℕ) (b : Bool) → p x ≡ b → (p x ≡ true → P x) → AllByRecursion P (filter p xs) → AllByRecursion P (filter p (x ∷ xs))
@@ -48,15 +48,15 @@ first_step : (given : ℕ → Option Contribution) (P : ℕ → Type 0) (x : ℕ
 first_step given P x later c None at is here next = next is
 first_step given P x later c (Some d) at is here next = (x, here, at ∙ is)
 
-pub first_from : (given : ℕ → Option Contribution) (P : ℕ → Type 0) (xs : List ℕ) (c : Contribution) → first_given given xs ≡ Some c → AllByRecursion P xs → (m : ℕ) × (P m) × (given m ≡ Some c)
+pub first_from : (given : ℕ → Option Contribution) (P : ℕ → Type 0) (xs : List ℕ) (c : Contribution) → first_contribution given xs ≡ Some c → AllByRecursion P xs → (m : ℕ) × (P m) × (given m ≡ Some c)
 first_from given P [] c is all = absurd (let no : ⊥ = cc in no)
-first_from given P (x ∷ xs) c is all = first_step given P x (first_given given xs) c (given x) refl is all.0 (λ later. first_from given P xs c later all.1)
+first_from given P (x ∷ xs) c is all = first_step given P x (first_contribution given xs) c (given x) refl is all.0 (λ later. first_from given P xs c later all.1)
 
 -- where the first has given nothing, none has
 none_step : (o later : Option Contribution) → or_later o later ≡ None → (o ≡ None) × (later ≡ None)
 none_step None later is = (refl, is)
 none_step (Some c) later is = absurd (let no : ⊥ = cc in no)
 
-pub none_given : (given : ℕ → Option Contribution) (xs : List ℕ) → first_given given xs ≡ None → AllByRecursion (λ m. given m ≡ None) xs
-none_given given [] is = tt
-none_given given (x ∷ xs) is = let parts = none_step (given x) (first_given given xs) is in (parts.0, none_given given xs parts.1)
+pub none_contributed : (given : ℕ → Option Contribution) (xs : List ℕ) → first_contribution given xs ≡ None → AllByRecursion (λ m. given m ≡ None) xs
+none_contributed given [] is = tt
+none_contributed given (x ∷ xs) is = let parts = none_step (given x) (first_contribution given xs) is in (parts.0, none_contributed given xs parts.1)

@@ -2,16 +2,16 @@
 use Rattle.std.proofs.Common.{◌≡◌, ℕ, zero, suc, List, replicate, Option, refl, ◌∙◌, ap, arith}
 use Rattle.std.specs.Prelude.{slice_index}
 use Rattle.collective_engine.specs.Rounds.{IsRounds}
-use Rattle.collective_engine.specs.Turns.{ranks_of, joined_by, completed_by, HasRoom}
+use Rattle.collective_engine.specs.RoundBuffers.{ranks_of, joined_by, completed_by, HasCapacity}
 use Rattle.collective_engine.specs.declared.buffers.Buffers.{Buffers}
-use Rattle.collective_engine.proofs.Giving.{given_joined}
+use Rattle.collective_engine.proofs.Giving.{contributed_joined}
 
 zeros : (n i : ℕ) → slice_index (replicate n 0) i ≡ 0
 zeros zero i = refl
 zeros (suc n) zero = refl
 zeros (suc n) (suc i) = zeros n i
 
-pub opens : (members : Option ℕ) (ranks : List ℕ) (b : Buffers) → ranks ≡ ranks_of members → HasRoom b → b.joined ≡ replicate 16 0 → b.completed ≡ replicate 16 0
+pub opens : (members : Option ℕ) (ranks : List ℕ) (b : Buffers) → ranks ≡ ranks_of members → HasCapacity b → b.joined ≡ replicate 16 0 → b.completed ≡ replicate 16 0
     → IsRounds (record { members = members; ranks = ranks; buffers = b })
 opens members ranks b listed room joined completed = record {
   ranks = listed;
@@ -24,8 +24,8 @@ opens members ranks b listed room joined completed = record {
       near = λ m n its theirs. let none = left_none m in omega arith;
     };
     agree = record {
-      alike = λ turn m n c d its theirs one two at there. absurd (let some = given_joined b turn m c at in let none = joined_none m in let no : ⊥ = omega arith in no);
-      whole = λ turn m c its one at. absurd (let some = given_joined b turn m c at in let none = joined_none m in let no : ⊥ = omega arith in no);
+      alike = λ turn m n c d its theirs one two at there. absurd (let some = contributed_joined b turn m c at in let none = joined_none m in let no : ⊥ = omega arith in no);
+      whole = λ turn m c its one at. absurd (let some = contributed_joined b turn m c at in let none = joined_none m in let no : ⊥ = omega arith in no);
     };
   };
 }

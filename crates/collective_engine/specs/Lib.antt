@@ -1,3 +1,3 @@
 pub mod Rounds
 pub mod Slots
-pub mod Turns
+pub mod RoundBuffers

@@ -1,6 +1,6 @@
 -- The contribution that a slot keeps. (GASPI: collectives)
 use Rattle.std.specs.Prelude.{◌≡◌, ℕ, ◌≤◌, length, take, Option, None, Some}
-use Rattle.gaspi_types.specs.Collectives.{AreWhole}
+use Rattle.gaspi_types.specs.Collectives.{HaveOwnValues}
 use Rattle.gaspi_types.specs.NumberTypes.{AreInType}
 use Rattle.gaspi_types.specs.declared.collectives.Coll.{Coll}
 use Rattle.gaspi_types.specs.declared.collectives.Coll.TheVariants.{Allreduce}
@@ -23,7 +23,7 @@ pub record IsSlot (s : Inside) : Type 0 where
 
 -- whole arguments, whose values a slot has room for
 abbrev pub HasItsValues : Args → Type 0
-HasItsValues args = AreWhole args × (length args.values.items ≤ 255)
+HasItsValues args = HaveOwnValues args × (length args.values.items ≤ 255)
 
 -- a contribution of so many numbers of a type is there
 abbrev pub GivesNumbers : NumType → ℕ → Option Contribution → Type 0

@@ -2,10 +2,10 @@
 
 ghost use Rattle.std.specs.Prelude.{◌≡◌, ◌+◌, ◌<◌, ◌≤◌, length, replicate, IfOk};
 ghost use Rattle.std.specs.Option.{option_copied};
-ghost use Rattle.collective_engine.specs.Turns.{joined_by, completed_by, buffer_of, given_by, with_given, with_left, HasRoom};
+ghost use Rattle.collective_engine.specs.RoundBuffers.{joined_by, completed_by, buffer_of, contribution_by, with_contribution, with_round_completed, HasCapacity};
 
 use crate::slots::Slot;
-use gaspi_types::{Args, NoMemory, RankId, Rows};
+use gaspi_types::{Args, NoMemory, RankId, Sequence};
 use std::alloc::Global;
 
 /// Who has joined which turn of a group with what: of each rank the number of turns that it has joined, and of those that it has
@@ -14,15 +14,15 @@ use std::alloc::Global;
 pub struct Buffers {
     pub(crate) joined: [u32; 16],
     pub(crate) completed: [u32; 16],
-    pub(crate) even: Rows<Slot>,
-    pub(crate) odd: Rows<Slot>,
+    pub(crate) even: Sequence<Slot>,
+    pub(crate) odd: Sequence<Slot>,
 }
 
 /// A slot for each rank.
-fn slots(alloc: Global) -> Result<Rows<Slot>, NoMemory>
+fn slots(alloc: Global) -> Result<Sequence<Slot>, NoMemory>
     ensures { IfOk result (λ slots. length slots ≡ 16) }
 {
-    let mut slots = Rows::with_room(alloc, 16)?;
+    let mut slots = Sequence::with_capacity(alloc, 16)?;
     for _rank in 0..16u32 {
         slots.push(Slot::empty(alloc)?)?;
     }
@@ -31,7 +31,7 @@ fn slots(alloc: Global) -> Result<Rows<Slot>, NoMemory>
 
 /// Buffers of turns that no rank has joined.
 pub(crate) fn opening(alloc: Global) -> Result<Buffers, NoMemory>
-    ensures room { IfOk result HasRoom }
+    ensures room { IfOk result HasCapacity }
     ensures joined { IfOk result (λ buffers. buffers.joined ≡ replicate 16 0) }
     ensures completed { IfOk result (λ buffers. buffers.completed ≡ replicate 16 0) }
 {
@@ -55,7 +55,7 @@ pub(crate) fn counts(buffers: &Buffers, rank: RankId) -> (u32, u32)
 }
 
 /// The buffer of a turn.
-fn buffer_of(buffers: &Buffers, turn: u32) -> &Rows<Slot>
+fn buffer_of(buffers: &Buffers, turn: u32) -> &Sequence<Slot>
     ensures { result.now ≡ buffer_of buffers.now turn }
 {
     if turn % 2 == 0 {
@@ -67,7 +67,7 @@ fn buffer_of(buffers: &Buffers, turn: u32) -> &Rows<Slot>
 
 /// What a rank has given to a turn, of its last two.
 pub(crate) fn given(buffers: &Buffers, turn: u32, rank: RankId) -> Option<&Slot>
-    ensures { option_copied result ≡ given_by buffers.now turn rank }
+    ensures { option_copied result ≡ contribution_by buffers.now turn rank }
 {
     if turn < buffers.joined[rank.index()] {
         buffer_of(buffers, turn).get(rank.index())
@@ -78,10 +78,10 @@ pub(crate) fn given(buffers: &Buffers, turn: u32, rank: RankId) -> Option<&Slot>
 
 /// A rank gives to its turn. What it overwrites is its contribution of two turns before.
 pub(crate) fn give(buffers: &mut Buffers, rank: RankId, args: &Args, generation: u32)
-    requires room { HasRoom buffers.old }
+    requires room { HasCapacity buffers.old }
     requires count { joined_by buffers.old rank < 4294967295 }
     requires values { length args.now.values.items ≤ 255 }
-    ensures { buffers.new ≡ with_given buffers.old rank (record { args = args.now; generation = generation }) }
+    ensures { buffers.new ≡ with_contribution buffers.old rank (record { args = args.now; generation = generation }) }
 {
     let turn = buffers.joined[rank.index()];
     match turn % 2 {
@@ -95,7 +95,7 @@ pub(crate) fn give(buffers: &mut Buffers, rank: RankId, args: &Args, generation:
 pub(crate) fn leave(buffers: &mut Buffers, rank: usize)
     requires bound { rank < 16 }
     requires joined { joined_by buffers.old rank ≡ completed_by buffers.old rank + 1 }
-    ensures { buffers.new ≡ with_left buffers.old rank }
+    ensures { buffers.new ≡ with_round_completed buffers.old rank }
 {
     buffers.completed[rank] = buffers.joined[rank];
 }

@@ -2,20 +2,20 @@
 
 ghost use Rattle.std.specs.Prelude.{◌≡◌, ◌≤◌, IsSome, length};
 ghost use Rattle.std.specs.List.{AllByRecursion};
-ghost use Rattle.gaspi_types.specs.Collectives.{values_in, folded_onto, fold_of};
+ghost use Rattle.gaspi_types.specs.Collectives.{values_in, reduced_onto, reduction_of};
 ghost use Rattle.gaspi_types.specs.NumberTypes.{AreInType};
 ghost use Rattle.collective_engine.specs.Slots.{GivesNumbers, AreInRange};
-ghost use Rattle.collective_engine.specs.Turns.{given_by};
+ghost use Rattle.collective_engine.specs.RoundBuffers.{contribution_by};
 
 use crate::buffers::{Buffers, given};
 use gaspi_model::reduce;
-use gaspi_types::{NumType, Numbers, Op, RankId, Rows};
+use gaspi_types::{NumType, Numbers, Op, RankId, Sequence};
 
 /// The numbers that a rank has given to a turn.
 fn values(buffers: &Buffers, turn: u32, rank: RankId) -> &[i128]
-    requires { IsSome (given_by buffers.now turn rank) }
-    ensures items { result.now ≡ values_in (given_by buffers.now turn rank) }
-    ensures range { AreInRange (given_by buffers.now turn rank) }
+    requires { IsSome (contribution_by buffers.now turn rank) }
+    ensures items { result.now ≡ values_in (contribution_by buffers.now turn rank) }
+    ensures range { AreInRange (contribution_by buffers.now turn rank) }
 {
     given(buffers, turn, rank).unwrap().values()
 }
@@ -30,8 +30,8 @@ fn fold_onto(
     members: &[RankId],
 )
     requires range { AreInType num_type total.old }
-    requires given { AllByRecursion (λ m. GivesNumbers num_type (length total.old) (given_by buffers.now turn m)) members.now }
-    ensures folded { total.new ≡ folded_onto (given_by buffers.now turn) op num_type total.old members.now }
+    requires given { AllByRecursion (λ m. GivesNumbers num_type (length total.old) (contribution_by buffers.now turn m)) members.now }
+    ensures folded { total.new ≡ reduced_onto (contribution_by buffers.now turn) op num_type total.old members.now }
     ensures range { AreInType num_type total.new }
 {
     match members {
@@ -51,13 +51,13 @@ pub(crate) fn fold(
     op: Op,
     num_type: NumType,
     count: u32,
-    mut room: Rows<i128>,
+    mut room: Sequence<i128>,
     members: &[RankId],
 ) -> Numbers
     requires room { count ≤ length room }
-    requires given { AllByRecursion (λ m. GivesNumbers num_type count (given_by buffers.now turn m)) members.now }
+    requires given { AllByRecursion (λ m. GivesNumbers num_type count (contribution_by buffers.now turn m)) members.now }
     ensures fits { length result.items ≤ length room }
-    ensures numbers { result ≡ fold_of (given_by buffers.now turn) op num_type members.now }
+    ensures numbers { result ≡ reduction_of (contribution_by buffers.now turn) op num_type members.now }
 {
     match members {
         [] => {
@@ -69,7 +69,7 @@ pub(crate) fn fold(
             room.overwrite(0, values(buffers, turn, *first));
             let mut items = room.into_vec();
             fold_onto(buffers, turn, op, num_type, items.as_mut_slice(), others);
-            Numbers::new(num_type, Rows::from_vec(items))
+            Numbers::new(num_type, Sequence::from_vec(items))
         }
     }
 }

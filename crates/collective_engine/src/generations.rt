@@ -2,21 +2,21 @@
 
 ghost use Rattle.std.specs.Prelude.{◌≡◌};
 
-use gaspi_types::Made;
+use gaspi_types::MemberSegment;
 use std::marker::Model;
 
 /// In which generation each member has made its segment, by rising rank. Contracts see the list.
 #[derive(Debug, Drop)]
 pub struct Generations {
-    pub(crate) made: [Made; 16],
+    pub(crate) made: [MemberSegment; 16],
     pub(crate) count: usize,
 }
 
 impl Model for Generations {
     ghost use Rattle.std.specs.Prelude.{◌≤◌, List, take};
-    ghost use Rattle.gaspi_types.specs.declared.groups.Made.{Made};
+    ghost use Rattle.gaspi_types.specs.declared.groups.MemberSegment.{MemberSegment};
 
-    ghost Value = { List Made };
+    ghost Value = { List MemberSegment };
 
     ghost view = { λ generations. take generations.count generations.made };
 
@@ -25,7 +25,7 @@ impl Model for Generations {
 
 impl Generations {
     /// The generations, by rising rank.
-    pub fn as_slice(&self) -> &[Made]
+    pub fn as_slice(&self) -> &[MemberSegment]
         ensures { result.now ≡ self.now }
     {
         &self.made[..self.count]

@@ -1,19 +1,19 @@
 //! What a turn comes to, read from the buffers. (GASPI: collectives)
 
 ghost use Rattle.std.specs.Prelude.{◌≡◌, ◌<◌, ◌≤◌, Some, OnOk, length};
-ghost use Rattle.gaspi_types.specs.Collectives.{first_given, fits, is_full, generation_in, made_by};
+ghost use Rattle.gaspi_types.specs.Collectives.{first_contribution, fits, is_full, generation_in, made_by};
 ghost use Rattle.gaspi_model.specs.RoundRules.{coll_in};
-ghost use Rattle.collective_engine.specs.Turns.{completed_by, given_by};
+ghost use Rattle.collective_engine.specs.RoundBuffers.{completed_by, contribution_by};
 ghost use Rattle.gaspi_types.specs.declared.collectives.Coll.{Coll};
 
 use crate::buffers::{Buffers, given};
 use crate::generations::Generations;
 use gaspi_model::check_fits;
-use gaspi_types::{Coll, Made, RankId, Refusal};
+use gaspi_types::{Coll, MemberSegment, RankId, Refusal};
 
 /// What the first of some members that has joined a turn has joined it with.
 pub(crate) fn first_coll(buffers: &Buffers, turn: u32, members: &[RankId]) -> Option<Coll>
-    ensures { result ≡ coll_in (first_given (given_by buffers.now turn) members.now) }
+    ensures { result ≡ coll_in (first_contribution (contribution_by buffers.now turn) members.now) }
 {
     match members {
         [] => None,
@@ -33,8 +33,8 @@ pub(crate) fn check(
     coll: Coll,
 ) -> Result<(), Refusal>
     requires { rank < 16 }
-    ensures answer { result ≡ fits (first_given (given_by buffers.now (completed_by buffers.now rank)) members.now) coll }
-    ensures equal { OnOk result ((kept : Coll) → coll_in (first_given (given_by buffers.now (completed_by buffers.now rank)) members.now) ≡ Some kept → kept ≡ coll) }
+    ensures answer { result ≡ fits (first_contribution (contribution_by buffers.now (completed_by buffers.now rank)) members.now) coll }
+    ensures equal { OnOk result ((kept : Coll) → coll_in (first_contribution (contribution_by buffers.now (completed_by buffers.now rank)) members.now) ≡ Some kept → kept ≡ coll) }
 {
     let turn = buffers.completed[rank];
     check_fits(first_coll(buffers, turn, members), coll)
@@ -42,7 +42,7 @@ pub(crate) fn check(
 
 /// What a rank has joined its turn with.
 pub(crate) fn own_coll(buffers: &Buffers, rank: RankId) -> Option<Coll>
-    ensures { result ≡ coll_in (given_by buffers.now (completed_by buffers.now rank) rank) }
+    ensures { result ≡ coll_in (contribution_by buffers.now (completed_by buffers.now rank) rank) }
 {
     let turn = buffers.completed[rank.index()];
     let slot = given(buffers, turn, rank)?;
@@ -51,7 +51,7 @@ pub(crate) fn own_coll(buffers: &Buffers, rank: RankId) -> Option<Coll>
 
 /// Whether each of some members has joined a turn.
 pub(crate) fn is_full(buffers: &Buffers, turn: u32, members: &[RankId]) -> bool
-    ensures { result ≡ is_full (given_by buffers.now turn) members.now }
+    ensures { result ≡ is_full (contribution_by buffers.now turn) members.now }
 {
     members
         .iter()
@@ -60,7 +60,7 @@ pub(crate) fn is_full(buffers: &Buffers, turn: u32, members: &[RankId]) -> bool
 
 /// The generation that a rank has given to a turn.
 fn generation(buffers: &Buffers, turn: u32, rank: RankId) -> u32
-    ensures { result ≡ generation_in (given_by buffers.now turn rank) }
+    ensures { result ≡ generation_in (contribution_by buffers.now turn rank) }
 {
     match given(buffers, turn, rank) {
         Some(slot) => slot.generation(),
@@ -71,14 +71,14 @@ fn generation(buffers: &Buffers, turn: u32, rank: RankId) -> u32
 /// The generations that some members have given to a turn.
 pub(crate) fn generations(buffers: &Buffers, turn: u32, members: &[RankId]) -> Generations
     requires { length members.now ≤ 16 }
-    ensures { result ≡ made_by (given_by buffers.now turn) members.now }
+    ensures { result ≡ made_by (contribution_by buffers.now turn) members.now }
 {
-    let mut made = [Made {
+    let mut made = [MemberSegment {
         rank: RankId::of(0),
         generation: 0,
     }; 16];
     for (place, member) in members.iter().enumerate() {
-        made[place] = Made {
+        made[place] = MemberSegment {
             rank: *member,
             generation: generation(buffers, turn, *member),
         };

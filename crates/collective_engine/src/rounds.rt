@@ -1,20 +1,20 @@
 //! The turns of one group. (GASPI: collectives)
 
 ghost use Rattle.std.specs.Prelude.{◌≡◌, ℕ, ◌<◌, ◌≤◌, true, Some, length, IfOk, OnOk, OnErr};
-ghost use Rattle.gaspi_types.specs.Collectives.{given_in, turn_of, fixed_by, is_turn_full, turn_checks, turn_fold, turn_made, with_joined, with_completed};
+ghost use Rattle.gaspi_types.specs.Collectives.{contribution_in, round_of, fixed_by, is_round_full, round_checks, round_reduction, round_segments, with_joined, with_completed};
 ghost use Rattle.gaspi_types.specs.declared.collectives.Coll.TheVariants.{Allreduce};
 ghost use Rattle.gaspi_types.specs.declared.collectives.NumType.{NumType};
 ghost use Rattle.gaspi_types.specs.declared.collectives.Op.{Op};
 ghost use Rattle.gaspi_types.specs.declared.groups.Group.{Group};
 ghost use Rattle.gaspi_model.specs.RoundRules.{coll_in};
-ghost use Rattle.collective_engine.specs.Turns.{ranks_of};
+ghost use Rattle.collective_engine.specs.RoundBuffers.{ranks_of};
 
 use crate::buffers::{Buffers, counts, give, leave, opening};
 use crate::folding::fold;
 use crate::generations::Generations;
 use crate::reading::{check, generations, is_full, own_coll};
 use gaspi_model::{Members, members_of};
-use gaspi_types::{Args, Coll, NoMemory, Numbers, RankId, Refusal, Rows, is_member};
+use gaspi_types::{Args, Coll, NoMemory, Numbers, RankId, Refusal, Sequence, is_member};
 use std::alloc::Global;
 use std::marker::Model;
 
@@ -29,13 +29,13 @@ pub struct Rounds {
 }
 
 impl Model for Rounds {
-    ghost use Rattle.collective_engine.specs.Turns.{Turns};
+    ghost use Rattle.collective_engine.specs.RoundBuffers.{RoundBuffers};
 
-    ghost Value = { Turns };
+    ghost Value = { RoundBuffers };
 
-    ghost use Rattle.collective_engine.specs.Rounds.{turns_of, IsRounds};
+    ghost use Rattle.collective_engine.specs.Rounds.{round_buffers, IsRounds};
 
-    ghost view = { turns_of };
+    ghost view = { round_buffers };
 
     ghost invariant = { IsRounds };
 }
@@ -61,7 +61,7 @@ fn fix(members: &mut Option<u32>, ranks: &mut Members, coll: Coll)
 
 impl Rounds {
     ghost use Rattle.collective_engine.specs.Slots.{HasItsValues, elements_of, TakesFold};
-    ghost use Rattle.collective_engine.specs.Turns.{is_in, may_join, own_given, is_full_for, StandsFor, IsOpening};
+    ghost use Rattle.collective_engine.specs.RoundBuffers.{is_in, may_join, own_contribution, is_full_for, StandsFor, IsOpening};
 
     /// A group that no rank has joined. Of group 0 the members are told, bit r for rank r; of another they are fixed by its first
     /// join. All memory is taken here. (GASPI: groups)
@@ -79,7 +79,7 @@ impl Rounds {
     /// join, as `may_join` tells. (GASPI: collectives)
     pub fn fits(&self, rank: RankId, args: &Args) -> Result<(), Refusal>
         requires { may_join self.now rank args.now.coll ≡ true }
-        ensures { (g : Group) → StandsFor g self.now → result ≡ turn_checks g rank args.now.coll }
+        ensures { (g : Group) → StandsFor g self.now → result ≡ round_checks g rank args.now.coll }
     {
         check(&self.buffers, self.ranks.ranks(), rank.index(), args.coll)
     }
@@ -91,8 +91,8 @@ impl Rounds {
     pub fn join(&mut self, rank: RankId, args: &Args, generation: u32) -> Result<(), Refusal>
         requires rank { may_join self.old rank args.now.coll ≡ true }
         requires values { HasItsValues args.now }
-        ensures answer { (g : Group) → StandsFor g self.old → result ≡ turn_checks g rank args.now.coll }
-        ensures joined { OnOk result ((g : Group) → StandsFor g self.old → rank < length g.parts
+        ensures answer { (g : Group) → StandsFor g self.old → result ≡ round_checks g rank args.now.coll }
+        ensures joined { OnOk result ((g : Group) → StandsFor g self.old → rank < length g.contributions
             → StandsFor (with_joined g rank (record { args = args.now; generation = generation })) self.new) }
         ensures refused { OnErr result (self.new ≡ self.old) }
     {
@@ -128,8 +128,8 @@ impl Rounds {
     /// Whether every member has joined the turn of a rank, the first that it has not left. (GASPI: collectives)
     pub fn full(&self, rank: RankId) -> bool
         ensures value { result ≡ is_full_for self.now rank }
-        ensures group { (g : Group) → StandsFor g self.now → result ≡ is_turn_full g rank }
-        ensures own { (g : Group) → StandsFor g self.now → given_in g (turn_of g rank) rank ≡ own_given self.now rank }
+        ensures group { (g : Group) → StandsFor g self.now → result ≡ is_round_full g rank }
+        ensures own { (g : Group) → StandsFor g self.now → contribution_in g (round_of g rank) rank ≡ own_contribution self.now rank }
     {
         let turn = self.buffers.completed[rank.index()];
         is_full(&self.buffers, turn, self.ranks.ranks())
@@ -137,7 +137,7 @@ impl Rounds {
 
     /// How many numbers the turn of a rank comes to, which the rank has joined with an allreduce; else None.
     pub fn elements(&self, rank: RankId) -> Option<u32>
-        ensures { result ≡ elements_of (coll_in (own_given self.now rank)) }
+        ensures { result ≡ elements_of (coll_in (own_contribution self.now rank)) }
     {
         match own_coll(&self.buffers, rank) {
             Some(Coll::Allreduce(_op, _num_type, count)) => Some(count),
@@ -148,13 +148,13 @@ impl Rounds {
     /// What the turn of a rank comes to, which is a member: the numbers of all members, reduced in the order of their ranks. Every
     /// member has joined the turn, which is an allreduce, and the result is put into a room that is large enough, as `elements`
     /// tells: it has no more numbers than that room. It takes no memory. (GASPI: allreduce)
-    pub fn result(&self, rank: RankId, room: Rows<i128>) -> Numbers
+    pub fn result(&self, rank: RankId, room: Sequence<i128>) -> Numbers
         requires member { is_in self.now.members rank ≡ true }
         requires full { is_full_for self.now rank ≡ true }
-        requires room { TakesFold (elements_of (coll_in (own_given self.now rank))) (length room) }
+        requires room { TakesFold (elements_of (coll_in (own_contribution self.now rank))) (length room) }
         ensures fits { length result.items ≤ length room }
         ensures numbers { (g : Group) (op : Op) (t : NumType) (n : ℕ) → StandsFor g self.now
-            → coll_in (given_in g (turn_of g rank) rank) ≡ Some (Allreduce op t n) → result ≡ turn_fold g rank op t }
+            → coll_in (contribution_in g (round_of g rank) rank) ≡ Some (Allreduce op t n) → result ≡ round_reduction g rank op t }
     {
         let turn = self.buffers.completed[rank.index()];
         match own_coll(&self.buffers, rank) {
@@ -170,7 +170,7 @@ impl Rounds {
     /// (GASPI: segment_create)
     pub fn generations(&self, rank: RankId) -> Generations
         requires { is_in self.now.members rank ≡ true }
-        ensures { (g : Group) → StandsFor g self.now → result ≡ turn_made g rank }
+        ensures { (g : Group) → StandsFor g self.now → result ≡ round_segments g rank }
     {
         let turn = self.buffers.completed[rank.index()];
         generations(&self.buffers, turn, self.ranks.ranks())

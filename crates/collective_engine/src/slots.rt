@@ -3,7 +3,7 @@
 ghost use Rattle.std.specs.Prelude.{◌≡◌, ◌≤◌, length, IfOk};
 ghost use Rattle.gaspi_types.specs.NumberTypes.{AreInType};
 
-use gaspi_types::{Args, Coll, NoMemory, NumType, Rows};
+use gaspi_types::{Args, Coll, NoMemory, NumType, Sequence};
 use std::alloc::Global;
 use std::marker::Model;
 
@@ -13,7 +13,7 @@ pub(crate) struct Slot {
     coll: Coll,
     num_type: NumType,
     /// 255 numbers, of which the first `count` are those of the contribution.
-    room: Rows<i128>,
+    room: Sequence<i128>,
     count: usize,
     generation: u32,
 }
@@ -36,7 +36,7 @@ impl Slot {
         Ok(Slot {
             coll: Coll::Barrier,
             num_type: NumType::Int,
-            room: Rows::from_vec(vec![in alloc; 0; 255]?),
+            room: Sequence::from_vec(vec![in alloc; 0; 255]?),
             count: 0,
             generation: 0,
         })

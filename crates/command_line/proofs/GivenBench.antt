@@ -11,8 +11,8 @@ use Rattle.clap.specs.Walk.{Row, Text, Walk, finished, nothing_held, rows_after,
 use Rattle.clap.specs.Simple.{subcommand_of}
 use Rattle.clap.specs.declared.builder.value_parser.ValueParser.TheVariants.{Signed}
 use Rattle.clap.proofs.OnLiterals.{clap_on_literals}
-use Rattle.command_line.proofs.Ranges.{taken, three_given}
-use Rattle.command_line.proofs.TakenNumbers.{bench_shape}
+use Rattle.command_line.proofs.Ranges.{accepted_in_range, three_given}
+use Rattle.command_line.proofs.AcceptedNumbers.{bench_shape}
 use Rattle.command_line.proofs.GivenNumbers.{IsPlainWord, accepted, after_option, after_value, fault_more, level_passes, plain_numeral, read, row_given}
 use Rattle.command_line.specs.Words.{command_of, needed_seed_rule, number_of, ranks_rule, rounds_rule, the_app, words_in}
 use Rattle.command_line.specs.declared.words.Command.TheVariants.{Bench}
@@ -156,7 +156,7 @@ module _ (a b c : Text) (plain_a : IsPlainWord a) (plain_b : IsPlainWord b) (pla
     given_words : (l m n : ℕ) → number_of 32 (without_minus a) ≡ Some l → number_of 32 (without_minus b) ≡ Some m → number_of 32 (without_minus c) ≡ Some n
         → command_of (codes "bench" ∷ given) ≡ Some (Bench l m n)
     given_words l m n seed ranks rounds =
-        sym (taken (codes "bench" ∷ given) (all_pass ∙ ap (λ (kinds : Kinds). or_else kinds []) level_is_free))
+        sym (accepted_in_range (codes "bench" ∷ given) (all_pass ∙ ap (λ (kinds : Kinds). or_else kinds []) level_is_free))
         ∙ ap words_in (is_entered ∙ ap (λ (rows : List Row). Some (codes "bench", rows)) rows_are) ∙ rows_read l m n seed ranks rounds
 
 pub given_bench : (seed ranks rounds : ℕ) → seed ≤ 4294967295 → 1 ≤ ranks → ranks ≤ 16 → 1 ≤ rounds → rounds ≤ 5000

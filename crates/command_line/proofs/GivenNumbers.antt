@@ -15,8 +15,8 @@ use Rattle.clap.specs.Simple.{App, Shape, built, new_shape, rows_at, subcommand_
 use Rattle.clap.specs.declared.builder.value_parser.ValueParser.TheVariants.{Signed}
 use Rattle.clap.specs.declared.parser.matches.ValueSource.TheVariants.{CommandLine}
 use Rattle.clap.proofs.OnLiterals.{clap_on_literals}
-use Rattle.command_line.proofs.Ranges.{both_given, taken}
-use Rattle.command_line.proofs.TakenNumbers.{run_shape, step_shape}
+use Rattle.command_line.proofs.Ranges.{both_given, accepted_in_range}
+use Rattle.command_line.proofs.AcceptedNumbers.{run_shape, step_shape}
 use Rattle.command_line.proofs.Reading.{number_given, numeral_passes}
 use Rattle.command_line.specs.Words.{brief_rule, command_of, limit_rule, number_of, seed_rule, the_app, words_in, workers_rule}
 use Rattle.command_line.specs.declared.words.Command.{Command}
@@ -246,7 +246,7 @@ module _ (f l : Text) (fp : IsPlainWord f) (lp : IsPlainWord l) where
     given_words : (m n : ℕ) → number_of 32 (without_minus f) ≡ Some m → number_of 32 (without_minus l) ≡ Some n
         → command_of (name_of c ∷ given c) ≡ Some (command_by c m n)
     given_words m n first limit =
-        sym (taken (name_of c ∷ given c) (all_pass c ∙ ap (λ (kinds : Kinds). or_else kinds []) level_is_free))
+        sym (accepted_in_range (name_of c ∷ given c) (all_pass c ∙ ap (λ (kinds : Kinds). or_else kinds []) level_is_free))
         ∙ ap words_in (is_entered c ∙ ap (λ (rows : List Row). Some (name_of c, rows)) rows_are) ∙ rows_read c m n first limit
 
 -- ---- numbers in decimal

@@ -11,8 +11,8 @@ use Rattle.clap.specs.Walk.{Row, Text, Walk, finished, nothing_held, rows_after,
 use Rattle.clap.specs.Simple.{subcommand_of}
 use Rattle.clap.specs.declared.builder.value_parser.ValueParser.TheVariants.{Unsigned}
 use Rattle.clap.proofs.OnLiterals.{clap_on_literals}
-use Rattle.command_line.proofs.Ranges.{taken}
-use Rattle.command_line.proofs.TakenNumbers.{why_shape}
+use Rattle.command_line.proofs.Ranges.{accepted_in_range}
+use Rattle.command_line.proofs.AcceptedNumbers.{why_shape}
 use Rattle.command_line.proofs.Reading.{number_given, numeral_passes}
 use Rattle.command_line.proofs.GivenNumbers.{IsPlainWord, after_option, after_value, fault_more, level_passes, no_plus, plain_numeral, row_given}
 use Rattle.command_line.specs.Words.{command_of, number_of, place_rule, the_app, words_in}
@@ -92,7 +92,7 @@ module _ (t : Text) (plain : IsPlainWord t) where
 
     given_words : (n : ℕ) → number_of 64 t ≡ Some n → command_of (codes "why" ∷ given) ≡ Some (Why n)
     given_words n place =
-        sym (taken (codes "why" ∷ given) (all_pass ∙ ap (λ (kinds : Kinds). or_else kinds []) level_is_free))
+        sym (accepted_in_range (codes "why" ∷ given) (all_pass ∙ ap (λ (kinds : Kinds). or_else kinds []) level_is_free))
         ∙ ap words_in (is_entered ∙ ap (λ (rows : List Row). Some (codes "why", rows)) rows_are) ∙ rows_read n place
 
 module _ (t : Text) (h : IsNumeral 10 t) (n : ℕ) (is : digits_value 10 t ≡ n) (most : n ≤ 18446744073709551615) where

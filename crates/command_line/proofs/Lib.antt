@@ -1,5 +1,5 @@
 pub mod Reading
-pub mod TakenNumbers
+pub mod AcceptedNumbers
 pub mod NeededNumbers
 pub mod Ranges
 pub mod FirstWords

@@ -17,7 +17,7 @@ use Rattle.clap.specs.Walk.{Held, Row, Rule, Text, default_rows, finished, has_r
 use Rattle.clap.specs.Simple.{Shape, filled, with_index}
 use Rattle.clap.specs.declared.builder.value_parser.ValueParser.TheVariants.{Unsigned}
 use Rattle.clap.proofs.WalkLemmas.{both}
-use Rattle.command_line.proofs.TakenNumbers.{HasLongNamesAlone, Holds, IsOption, IsTaken, Keeps, all_keep, bench_shape, cons≢nil, either_false, first_taken, found, none_second, number_built, other_number_keeps, own_keeps, set_keeps, settled_rows_keep, why_shape}
+use Rattle.command_line.proofs.AcceptedNumbers.{HasLongNamesAlone, Holds, IsOption, IsTaken, Keeps, all_keep, bench_shape, cons≢nil, either_false, first_accepted, found, none_second, number_built, other_number_keeps, own_keeps, set_keeps, settled_rows_keep, why_shape}
 use Rattle.command_line.specs.Words.{number_of, place_rule}
 
 -- ---- options without a default
@@ -100,9 +100,9 @@ module _ (P : Row → Type 0) (again : Bool) where
   all_needed (b ∷ rs) all = (all.0.needed, all_needed rs all.1)
 
 module _ (bits : ℕ) (id : Text) (low high : ℕ) where
-  needed_taken : (s : Shape) → HasLongNamesAlone s → ChecksOptionsAlone s → AllByRecursion (IsNeeded (Holds bits id low high) s.args_override_self) s.rules
+  needed_accepted : (s : Shape) → HasLongNamesAlone s → ChecksOptionsAlone s → AllByRecursion (IsNeeded (Holds bits id low high) s.args_override_self) s.rules
       → list_any (λ b. bytes_eq b.id id) s.rules ≡ true → IsTaken id low high bits s
-  needed_taken s named alone all has words e =
+  needed_accepted s named alone all has words e =
       let end : Held = (walk s.rules [] nothing_held words).held in
       let rows : List Row = (settled s.rules end).rows in
       let checks : Kinds = check_fault s (finished s.rules end) false in
@@ -156,11 +156,11 @@ place_keeps [] rows e all = absurd (cons≢nil e)
 place_keeps (v ∷ vs) rows e all =
     set_keeps (Holds 64 (codes "place") 0 18446744073709551615) place_built (v ∷ vs) rows
     (none_second (range_kinds 1 1 (length (v ∷ vs))) (set_fault false place_built (v ∷ vs) rows) e)
-    (λ f same. place_accepted v (first_taken (Unsigned 0 18446744073709551615) v vs f)) all
+    (λ f same. place_accepted v (first_accepted (Unsigned 0 18446744073709551615) v vs f)) all
 
 pub place_of_why : IsTaken (codes "place") 0 18446744073709551615 64 why_shape
 place_of_why =
-    needed_taken 64 (codes "place") 0 18446744073709551615 why_shape why_names why_checks
+    needed_accepted 64 (codes "place") 0 18446744073709551615 why_shape why_names why_checks
     (record { keeps = place_keeps; bare = refl; needed = refl }, tt) refl
 
 -- ---- the numbers of `bench`
@@ -173,21 +173,21 @@ bench_checks = record { help = refl; subcommand = refl; negates = refl }
 
 pub seed_of_bench : IsTaken (codes "seed") 0 4294967295 32 bench_shape
 seed_of_bench =
-    needed_taken 32 (codes "seed") 0 4294967295 bench_shape bench_names bench_checks (
+    needed_accepted 32 (codes "seed") 0 4294967295 bench_shape bench_names bench_checks (
       own_needed (codes "seed") 0 4294967295 (omega arith),
       (other_needed (codes "seed") 0 4294967295 (codes "ranks") 1 16 refl, (other_needed (codes "seed") 0 4294967295 (codes "rounds") 1 5000 refl, tt)),
     ) refl
 
 pub ranks_of_bench : IsTaken (codes "ranks") 1 16 32 bench_shape
 ranks_of_bench =
-    needed_taken 32 (codes "ranks") 1 16 bench_shape bench_names bench_checks (
+    needed_accepted 32 (codes "ranks") 1 16 bench_shape bench_names bench_checks (
       other_needed (codes "ranks") 1 16 (codes "seed") 0 4294967295 refl,
       (own_needed (codes "ranks") 1 16 (omega arith), (other_needed (codes "ranks") 1 16 (codes "rounds") 1 5000 refl, tt)),
     ) refl
 
 pub rounds_of_bench : IsTaken (codes "rounds") 1 5000 32 bench_shape
 rounds_of_bench =
-    needed_taken 32 (codes "rounds") 1 5000 bench_shape bench_names bench_checks (
+    needed_accepted 32 (codes "rounds") 1 5000 bench_shape bench_names bench_checks (
       other_needed (codes "rounds") 1 5000 (codes "seed") 0 4294967295 refl,
       (other_needed (codes "rounds") 1 5000 (codes "ranks") 1 16 refl, (own_needed (codes "rounds") 1 5000 (omega arith), tt)),
     ) refl

@@ -13,7 +13,7 @@ use Rattle.clap.specs.declared.error.kind.ErrorKind.{ErrorKind}
 use Rattle.clap.specs.declared.error.kind.ErrorKind.TheVariants.{OutOfMemory}
 use Rattle.clap.proofs.OnLiterals.{clap_on_literals}
 use Rattle.command_line.proofs.NeededNumbers.{place_of_why, ranks_of_bench, rounds_of_bench, seed_of_bench}
-use Rattle.command_line.proofs.TakenNumbers.{bench_shape, check_shape, cons≢nil, limit_of_run, limit_of_step, none_first, none_second, run_shape, seed_of_step, step_shape, why_shape, workers_of_run}
+use Rattle.command_line.proofs.AcceptedNumbers.{bench_shape, check_shape, cons≢nil, limit_of_run, limit_of_step, none_first, none_second, run_shape, seed_of_step, step_shape, why_shape, workers_of_run}
 use Rattle.command_line.specs.Words.{bench_of, command_of, flag_at, number_at, run_of, step_of, the_app, why_of, words_in}
 use Rattle.command_line.specs.declared.words.Command.{Command}
 use Rattle.command_line.specs.declared.words.Command.TheVariants.{Run, Step, Check, Why, Bench}
@@ -35,9 +35,9 @@ fails_for kinds e has not_memory = elim has [
   | inr h ↦ h
 ]
 
-pub taken : (words : List Text) → fault_of the_app words ≡ [] → words_in (subcommand_of the_app words) ≡ command_of words
+pub accepted_in_range : (words : List Text) → fault_of the_app words ≡ [] → words_in (subcommand_of the_app words) ≡ command_of words
 unfolding command_of
-taken words e = sym (rw e refl)
+accepted_in_range words e = sym (rw e refl)
 
 pub refused : (words : List Text) (k : ErrorKind) → IsAmong k (fault_of the_app words) → None ≡ command_of words
 unfolding command_of
@@ -165,12 +165,12 @@ app_has a words help required e =
 
 read : (words : List Text) → fault_of the_app words ≡ [] → IsRead (command_of words)
 read words e =
-    subst IsRead (taken words e)
+    subst IsRead (accepted_in_range words e)
     (entered_read (stop_after (built the_app).top.rules (names_of (built the_app)) (argument_words the_app words)) (app_range the_app words e)
     (app_has the_app words refl refl e))
 
-pub taken_is_read : (words : List Text) → fault_of the_app words ≡ [] → is_some (command_of words) ≡ true
-taken_is_read words e = some_of (command_of words) (read words e)
+pub accepted_is_read : (words : List Text) → fault_of the_app words ≡ [] → is_some (command_of words) ≡ true
+accepted_is_read words e = some_of (command_of words) (read words e)
 
 pub command_read : (words : List Text) (command : Command) → command_of words ≡ Some command → IsRead (Some command)
 command_read words command e = go (fault_of the_app words) refl

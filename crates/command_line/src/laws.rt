@@ -9,7 +9,7 @@ use crate::words::Command;
 
 /// These words are taken, with these values.
 #[tactic(auto, unfolding(crate::specs::Words::command_of, clap::proofs::OnLiterals::clap_on_literals))]
-pub fn words_that_are_taken()
+pub fn words_that_are_accepted()
     ensures run_plain { command_of (codes "run" ∷ []) ≡ Some (Command.Run 1 1000000 false) }
     ensures run_brief { command_of (codes "run" ∷ codes "--brief" ∷ [])
         ≡ Some (Command.Run 1 1000000 true) }
@@ -148,7 +148,7 @@ pub fn help_and_version_are_refused()
 
 /// A number may have a plus and leading zeros, and 0 a minus where `=` joins it; `--` at the end says nothing.
 #[tactic(auto, unfolding(crate::specs::Words::command_of, clap::proofs::OnLiterals::clap_on_literals))]
-pub fn other_forms_that_are_taken()
+pub fn other_forms_that_are_accepted()
     ensures run_plus { command_of (codes "run" ∷ codes "--workers" ∷ codes "+3" ∷ []) ≡ Some (Command.Run 3 1000000 false) }
     ensures run_zeros { command_of (codes "run" ∷ codes "--workers" ∷ codes "04" ∷ []) ≡ Some (Command.Run 4 1000000 false) }
     ensures run_dashes { command_of (codes "run" ∷ codes "--" ∷ []) ≡ Some (Command.Run 1 1000000 false) }
@@ -188,6 +188,6 @@ pub fn numbers_are_read()
 {}
 
 /// What clap takes is never refused: None stands for the words in which clap finds a fault, and for no others.
-pub fn words_without_a_fault_are_taken()
+pub fn words_without_a_fault_are_accepted()
     ensures { (words : List (List ℕ)) → fault_of the_app words ≡ [] → is_some (command_of words) ≡ true }
 {}

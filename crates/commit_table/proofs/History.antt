@@ -12,15 +12,15 @@ use Rattle.std.proofs.Math.ListN.{length-set}
 use Rattle.std.specs.List.{list_any}
 use Rattle.atomic_table.specs.Table.{State, Me, keeps, Allows, step}
 use Rattle.atomic_table.proofs.Lists.{at_set, set_else}
-use Rattle.commit_table.specs.declared.views.Known.{Known}
-use Rattle.commit_table.specs.declared.views.View.{View}
+use Rattle.commit_table.specs.declared.views.PassView.{PassView}
+use Rattle.commit_table.specs.declared.views.SeatView.{SeatView}
 use Rattle.commit_table.specs.Machine.{Machine, Laws, is_party, events_by}
 use Rattle.commit_table.specs.Calls.{word_of}
-use Rattle.commit_table.specs.Views.{held_at, mine_after, looked, committed, at_rest, recalling}
-use Rattle.commit_table.specs.Rule.{Held, IsShard, Answers, IsParty, Fits, Rule}
-use Rattle.commit_table.specs.Steps.{Sees, Adds, looks, adds}
+use Rattle.commit_table.specs.Views.{held_at, mine_after, after_look, after_commit, at_rest, with_kept_history}
+use Rattle.commit_table.specs.Rule.{Held, IsShard, AccountsForParty, IsParty, ViewFits, Rule}
+use Rattle.commit_table.specs.Steps.{SeesHistory, AddsEvent, looks, commits}
 use Rattle.commit_table.proofs.Lists.{prefix_self, prefix_none, prefix_trans, prefix_more, prefix_length, at_here, one_there, events_by-append, held_among, held_apart}
-use Rattle.commit_table.proofs.Turning.{turned_kept}
+use Rattle.commit_table.proofs.LockHistories.{turned_kept}
 use Rattle.commit_table.proofs.Moves.{with_view, still}
 use Rattle.commit_table.proofs.Holding.{rest_fits, told, own_shard}
 
@@ -48,43 +48,43 @@ pub by_own : {E : Type 0} (party : E → Option ℕ) (p : ℕ) (h : List E) (e :
 by_own party p h e f = events_by-append party p h (e ∷ []) ∙ own_party p (party e) (events_by party p h) e f
 
 module _ {S X E : Type 0} (of : S → Machine X E) (laws : (s : S) → Laws (of s)) (start : S) (n : ℕ) where
-  look_rest : (slots id : ℕ) (v : Known S E) (heard : List E)
-      → Allows (Rule (of start) start n) slots id (recalling v heard, []) 0 (λ x. x) (looks of n (step slots 0 0 0 none) (recalling v heard, []))
+  look_rest : (slots id : ℕ) (v : PassView S E) (heard : List E)
+      → Allows (Rule (of start) start n) slots id (with_kept_history v heard, []) 0 (λ x. x) (looks of n (step slots 0 0 0 none) (with_kept_history v heard, []))
   look_rest slots id v heard s r wide at _ =
       let h = r.history in
-      let f = r.views id (recalling v heard) at in
-      let w = at_rest (looked v h) in
+      let f = r.views id (with_kept_history v heard) at in
+      let w = at_rest (after_look v h) in
       let longer : length v.seen ≤ length h = prefix_length v.seen h f.seen in
       let seen : All (λ k. k ≤ length h) (v.looks ++ length h ∷ []) = All-append (λ k. k ≤ length h) v.looks (length h ∷ []) (λ k d lt. let a = f.looks k d lt in omega arith) (all_one (λ k. k ≤ length h) (length h) (omega arith)) in
-      let fits = rest_fits of laws start n h r.holder r.seat id (looked v h) None [] f.begun (prefix_self h) (prefix_none h) seen (λ p e. (f.party p e).2) f.party f.held f.none in (
+      let fits = rest_fits of laws start n h r.holder r.seat id (after_look v h) None [] f.begun (prefix_self h) (prefix_none h) seen (λ p e. (f.party p e).2) f.party f.held f.none in (
         w,
         keeps,
         tt,
-        still (of start) start n s r id (recalling v heard) w at 0 refl refl (λ _. refl) (λ q a. a) fits (λ q its. its) (λ q a. a) (r.turned.met id (recalling v heard) at),
+        still (of start) start n s r id (with_kept_history v heard) w at 0 refl refl (λ _. refl) (λ q a. a) fits (λ q its. its) (λ q a. a) (r.turned.met id (with_kept_history v heard) at),
         (
           h,
           refl,
-          told of laws start n s r id (recalling v heard) at (λ z. Sees of z v heard (get_or s.words 0 0) h) (record {
+          told of laws start n s r id (with_kept_history v heard) at (λ z. SeesHistory of z v heard (get_or s.words 0 0) h) (record {
             number = r.word;
             legal = r.legal;
             seen = f.seen;
-            told = prefix_trans heard v.seen h f.heard f.seen;
+            told = prefix_trans heard v.seen h f.note_history f.seen;
             own = λ p e. (f.party p e).2;
-            held = λ i g e. let own = own_shard of laws start n s r id (recalling v heard) at i g e in (own.2, own.3);
+            held = λ i g e. let own = own_shard of laws start n s r id (with_kept_history v heard) at i g e in (own.2, own.3);
           }),
           λ p e. (f.party p e).0,
         ),
       )
 
-  pub look_allowed : (slots id k : ℕ) (me : Me (Option X) (View S E)) → me ≡ (recalling me.0.known me.0.heard, []) → k ≡ n
+  pub look_allowed : (slots id k : ℕ) (me : Me (Option X) (SeatView S E)) → me ≡ (with_kept_history me.0.known me.0.note_history, []) → k ≡ n
       → Allows (Rule (of start) start n) slots id me 0 (λ x. x) (looks of k (step slots 0 0 0 none) me)
   look_allowed slots id k me ready count = subst (λ c. Allows (Rule (of start) start n) slots id me 0 (λ x. x) (looks of c (step slots 0 0 0 none) me)) (sym count)
-      (subst (λ z. Allows (Rule (of start) start n) slots id z 0 (λ x. x) (looks of n (step slots 0 0 0 none) z)) (sym ready) (look_rest slots id me.0.known me.0.heard))
+      (subst (λ z. Allows (Rule (of start) start n) slots id z 0 (λ x. x) (looks of n (step slots 0 0 0 none) z)) (sym ready) (look_rest slots id me.0.known me.0.note_history))
 
   -- a shard apart from the event's, or one of them, after the event
-  shard_apart : (s : State (Option X) (View S E)) (h : List E) (e : E) (ws : List ℕ) (id : ℕ) (v w : View S E) (j : ℕ)
+  shard_apart : (s : State (Option X) (SeatView S E)) (h : List E) (e : E) (ws : List ℕ) (id : ℕ) (v w : SeatView S E) (j : ℕ)
       → get_elem? s.views id ≡ some v → get_or ws (word_of j) 0 ≡ get_or s.words (word_of j) 0 → (of start).Agree j h (h ++ e ∷ [])
-      → held_at w.known.held j ≡ held_at v.known.held j → w.out ≡ v.out
+      → held_at w.known.held j ≡ held_at v.known.held j → w.slot_out ≡ v.slot_out
       → (o : Option ℕ) → IsShard (of start) start n s h j o → IsShard (of start) start n (with_view (of start) start n s ws s.homes id w) (h ++ e ∷ []) j o
   shard_apart s h e ws id v w j at word agree held out None r = record { word = word ∙ r.word; value = r.value; slot = r.slot; stands = (laws start).stands j r.value h (h ++ e ∷ []) r.stands agree }
   shard_apart s h e ws id v w j at word agree held out (Some k) r = dite (ℕ_discrete k id)
@@ -95,10 +95,10 @@ module _ {S X E : Type 0} (of : S → Machine X E) (laws : (s : S) → Laws (of 
         view = w;
         there = subst (λ (z : ℕ). get_elem? (set s.views id w) z ≡ some w) (sym same) (at_here s.views id w v at);
         upto = r.upto;
-        held = held ∙ subst (λ (z : View S E). held_at z.known.held j ≡ Some r.upto) (sym is) r.held;
+        held = held ∙ subst (λ (z : SeatView S E). held_at z.known.held j ≡ Some r.upto) (sym is) r.held;
         begins = prefix_more r.upto h (e ∷ []) r.begins;
         agrees = (laws start).agree_through j r.upto h (h ++ e ∷ []) r.agrees agree;
-        slot = ⊎_elim (λ a. inl (out ∙ subst (λ (z : View S E). z.out ≡ Some j) (sym is) a)) (λ b. inr b) r.slot;
+        slot = ⊎_elim (λ a. inl (out ∙ subst (λ (z : SeatView S E). z.slot_out ≡ Some j) (sym is) a)) (λ b. inr b) r.slot;
       })
       (λ ne. record {
         word = word ∙ r.word;
@@ -111,50 +111,50 @@ module _ {S X E : Type 0} (of : S → Machine X E) (laws : (s : S) → Laws (of 
         slot = r.slot;
       })
 
-  party_added : (s : State (Option X) (View S E)) (h : List E) (e : E) (ws : List ℕ) (id : ℕ) (v w : View S E) (p : ℕ) (seat : ℕ → Option ℕ)
-      → get_elem? s.views id ≡ some v → (Answers (of start) start n v p → Answers (of start) start n w p)
+  party_added : (s : State (Option X) (SeatView S E)) (h : List E) (e : E) (ws : List ℕ) (id : ℕ) (v w : SeatView S E) (p : ℕ) (seat : ℕ → Option ℕ)
+      → get_elem? s.views id ≡ some v → (AccountsForParty (of start) start n v p → AccountsForParty (of start) start n w p)
       → ((q : ℕ) → (of start).party e ≡ Some q → seat q ≡ Some id)
       → (o : Option ℕ) → seat p ≡ o → IsParty (of start) start n s h p o → IsParty (of start) start n (with_view (of start) start n s ws s.homes id w) (h ++ e ∷ []) p o
   party_added s h e ws id v w p seat at answers by None is r = by_other (of start).party p h e (λ q own same. let a = by q own in let b : seat q ≡ None = ap seat same ∙ is in absurd cc) ∙ r
   party_added s h e ws id v w p seat at answers by (Some k) is r = dite (ℕ_discrete k id)
       (λ same.
       let be : v ≡ r.0 = one_there s.views id v r.0 at (subst (λ (z : ℕ). get_elem? s.views z ≡ some r.0) same r.1) in
-      (w, subst (λ (z : ℕ). get_elem? (set s.views id w) z ≡ some w) (sym same) (at_here s.views id w v at), answers (subst (λ (z : View S E). Answers (of start) start n z p) (sym be) r.2)))
+      (w, subst (λ (z : ℕ). get_elem? (set s.views id w) z ≡ some w) (sym same) (at_here s.views id w v at), answers (subst (λ (z : SeatView S E). AccountsForParty (of start) start n z p) (sym be) r.2)))
       (λ ne. (r.0, set_else s.views id k w ne ∙ r.1, r.2))
 
   -- the view of another seat, after an event of a pass that is there
-  fits_added : (h : List E) (e : E) (holder seat : ℕ → Option ℕ) (id k p : ℕ) (u : View S E) → k ≢ id
+  fits_added : (h : List E) (e : E) (holder seat : ℕ → Option ℕ) (id k p : ℕ) (u : SeatView S E) → k ≢ id
       → p < n → seat p ≡ Some id → ((q : ℕ) → (of start).party e ≡ Some q → q ≡ p)
-      → Fits (of start) start n h holder seat k u → Fits (of start) start n (h ++ e ∷ []) holder seat k u
+      → ViewFits (of start) start n h holder seat k u → ViewFits (of start) start n (h ++ e ∷ []) holder seat k u
   fits_added h e holder seat id k p u ne lt is by f =
       let apart : (q : ℕ) → seat q ≡ Some k → events_by (of start).party q (h ++ e ∷ []) ≡ events_by (of start).party q h =
       λ q its. by_other (of start).party q h e (λ x own same. let a : x ≡ p = by x own in let b : seat p ≡ Some k = ap seat (sym a ∙ same) ∙ its in ne cc) in
       record {
         begun = f.begun;
         seen = prefix_more u.known.seen h (e ∷ []) f.seen;
-        heard = f.heard;
+        note_history = f.note_history;
         looks = f.looks;
         own_seen = f.own_seen;
         party = λ q own. let a = f.party q own in (a.0, a.1, apart q a.1 ∙ a.2);
         makes = λ q low high. let a = f.makes q low high in (a.0, a.1, apart q a.1 ∙ a.2, a.3);
         held = f.held;
         none = f.none;
-        gathers = f.gathers;
-        gathered = λ on j w there. let a = f.gathered on j w there in record { seen = a.seen; party = λ q own. let b = a.party q own in (b.0, b.1, apart q b.1 ∙ b.2) };
-        closed = λ on. let a = f.closed on in let there = a.2 p lt in let b = (f.gathered a.0 there.0 there.1 there.2).party p there.3 in absurd (ne (let c = b.1 in cc));
+        is_closer = f.is_closer;
+        joined_passes = λ on j w there. let a = f.joined_passes on j w there in record { seen = a.seen; party = λ q own. let b = a.party q own in (b.0, b.1, apart q b.1 ∙ b.2) };
+        closed = λ on. let a = f.closed on in let there = a.2 p lt in let b = (f.joined_passes a.0 there.0 there.1 there.2).party p there.3 in absurd (ne (let c = b.1 in cc));
       }
 
   -- a history that agrees with what was seen on the shards of an event that may follow that
-  agrees_there : (s : State (Option X) (View S E)) (r : Rule (of start) start n s) (id : ℕ) (v : Known S E) (e : E) → get_elem? s.views id ≡ some (at_rest v)
+  agrees_there : (s : State (Option X) (SeatView S E)) (r : Rule (of start) start n s) (id : ℕ) (v : PassView S E) (e : E) → get_elem? s.views id ≡ some (at_rest v)
       → ((i : ℕ) → list_any (eqb i) ((of start).shards_of v.seen e) ≡ true → (g : List E) × (held_at v.held i ≡ Some g) × (of start).Agree i v.seen g)
       → (i : ℕ) → list_any (eqb i) ((of start).shards_of v.seen e) ≡ true → (of start).Agree i v.seen r.history
   agrees_there s r id v e at holds i among = let a = holds i among in let own = own_shard of laws start n s r id (at_rest v) at i a.0 a.1 in (laws start).agree_through i v.seen a.0 r.history a.2 own.3
 
-  add_rest : (slots id : ℕ) (v : Known S E) (e : E) (p : ℕ) → v.party ≡ Some p
+  add_rest : (slots id : ℕ) (v : PassView S E) (e : E) (p : ℕ) → v.party ≡ Some p
       → ((q : ℕ) → (of start).party e ≡ Some q → v.party ≡ Some q)
       → (of start).Legal (v.seen ++ e ∷ [])
       → ((i : ℕ) → list_any (eqb i) ((of start).shards_of v.seen e) ≡ true → (g : List E) × (held_at v.held i ≡ Some g) × (of start).Agree i v.seen g)
-      → Allows (Rule (of start) start n) slots id (at_rest v, []) 0 (λ x. (x + 1) % 2 ^ 64) (adds of (e ∷ []) (step slots 0 1 0 none) (at_rest v, []))
+      → Allows (Rule (of start) start n) slots id (at_rest v, []) 0 (λ x. (x + 1) % 2 ^ 64) (commits of (e ∷ []) (step slots 0 1 0 none) (at_rest v, []))
   add_rest slots id v e p party may follows holds s r wide at _ =
       let m = of start in
       let l = laws start in
@@ -170,7 +170,7 @@ module _ {S X E : Type 0} (of : S → Machine X E) (laws : (s : S) → Laws (of 
       let same : is ≡ m.shards_of h e = l.same_shards v.seen h e before r.legal owner in
       let own = f.party p party in
       let by : (q : ℕ) → m.party e ≡ Some q → q ≡ p = λ q its. let a = may q its in cc in
-      let w' = committed v h e (m.party e) is in
+      let w' = after_commit v h e (m.party e) is in
       let w = at_rest w' in
       let ws = set s.words 0 ((x + 1) % 2 ^ 64) in
       let y : ℕ = length h in
@@ -199,7 +199,7 @@ module _ {S X E : Type 0} (of : S → Machine X E) (laws : (s : S) → Laws (of 
         history = h';
         holder = r.holder;
         seat = r.seat;
-        turns = r.turns;
+        turns = r.lock_history;
         size = length-set s.words 0 ((x + 1) % 2 ^ 64) ∙ r.size;
         legal = legal;
         word = get_or-set_same s.words 0 ((x + 1) % 2 ^ 64) 0 (omega arith) ∙ counted;
@@ -224,23 +224,23 @@ module _ {S X E : Type 0} (of : S → Machine X E) (laws : (s : S) → Laws (of 
             (either_way (list_any (eqb j) is));
         parties = λ q. party_added s h e ws id (at_rest v) w q r.seat at (λ a. a) (λ z its. ap r.seat (by z its) ∙ own.1) (r.seat q) refl (r.parties q);
         views = λ k u there. ⊎_elim
-            (λ t. subst (λ (z : ℕ). Fits m start n h' r.holder r.seat z u) (sym t.0) (subst (λ (z : View S E). Fits m start n h' r.holder r.seat id z) t.1 fits))
+            (λ t. subst (λ (z : ℕ). ViewFits m start n h' r.holder r.seat z u) (sym t.0) (subst (λ (z : SeatView S E). ViewFits m start n h' r.holder r.seat id z) t.1 fits))
             (λ t. fits_added h e r.holder r.seat id k p u t.0 own.0 own.1 by (r.views k u t.1))
             (at_set s.views id k w u there);
-        turned = turned_kept m.shards s.views r.turns r.holder r.holder r.seat id (at_rest v) w at (λ j lt. refl) (λ j lt its q a. a) (λ q a. a) (r.turned.met id (at_rest v) at) r.turned;
+        turned = turned_kept m.shards s.views r.lock_history r.holder r.holder r.seat id (at_rest v) w at (λ j lt. refl) (λ j lt its q a. a) (λ q a. a) (r.turned.met id (at_rest v) at) r.turned;
       } in (
         w,
         keeps,
         tt,
         rule,
-        (e, refl, (h, w', refl, told of laws start n s r id (at_rest v) at (λ z. Adds of z v e x h w') (record { is = refl; number = r.word; legal = legal; seen = f.seen; agrees = agree; own = λ q its. (mine_of q (let a : p ≡ q = cc in a)).2; held = held }))),
+        (e, refl, (h, w', refl, told of laws start n s r id (at_rest v) at (λ z. AddsEvent of z v e x h w') (record { is = refl; number = r.word; legal = legal; seen = f.seen; agrees = agree; own = λ q its. (mine_of q (let a : p ≡ q = cc in a)).2; held = held }))),
       )
 
-  pub add_allowed : (slots id : ℕ) (me : Me (Option X) (View S E)) (told : List E) (e : E) → me ≡ (at_rest me.0.known, []) → told ≡ e ∷ [] → (p : ℕ) → me.0.known.party ≡ Some p
+  pub add_allowed : (slots id : ℕ) (me : Me (Option X) (SeatView S E)) (told : List E) (e : E) → me ≡ (at_rest me.0.known, []) → told ≡ e ∷ [] → (p : ℕ) → me.0.known.party ≡ Some p
       → ((q : ℕ) → (of start).party e ≡ Some q → me.0.known.party ≡ Some q)
       → (of start).Legal (me.0.known.seen ++ e ∷ [])
       → ((i : ℕ) → list_any (eqb i) ((of start).shards_of me.0.known.seen e) ≡ true → (g : List E) × (held_at me.0.known.held i ≡ Some g) × (of start).Agree i me.0.known.seen g)
-      → Allows (Rule (of start) start n) slots id me 0 (λ x. (x + 1) % 2 ^ 64) (adds of told (step slots 0 1 0 none) me)
+      → Allows (Rule (of start) start n) slots id me 0 (λ x. (x + 1) % 2 ^ 64) (commits of told (step slots 0 1 0 none) me)
   add_allowed slots id me told e ready is p party may follows holds =
-      subst (λ t. Allows (Rule (of start) start n) slots id me 0 (λ x. (x + 1) % 2 ^ 64) (adds of t (step slots 0 1 0 none) me)) (sym is)
-      (subst (λ z. Allows (Rule (of start) start n) slots id z 0 (λ x. (x + 1) % 2 ^ 64) (adds of (e ∷ []) (step slots 0 1 0 none) z)) (sym ready) (add_rest slots id me.0.known e p party may follows holds))
+      subst (λ t. Allows (Rule (of start) start n) slots id me 0 (λ x. (x + 1) % 2 ^ 64) (commits of t (step slots 0 1 0 none) me)) (sym is)
+      (subst (λ z. Allows (Rule (of start) start n) slots id z 0 (λ x. (x + 1) % 2 ^ 64) (commits of (e ∷ []) (step slots 0 1 0 none) z)) (sym ready) (add_rest slots id me.0.known e p party may follows holds))

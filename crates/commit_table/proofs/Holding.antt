@@ -9,18 +9,18 @@ use prog.Atomic.{either}
 use Rattle.std.proofs.lemmas.List.{get_or-set_same}
 use Rattle.atomic_table.specs.Table.{State, Me, Act, keeps, takes as carries, gives, Valid, stepped, carried_after, Allows, step}
 use Rattle.atomic_table.proofs.Lists.{set_here, set_else, exchanged}
-use Rattle.commit_table.specs.declared.views.Known.{Known}
-use Rattle.commit_table.specs.declared.views.View.{View}
+use Rattle.commit_table.specs.declared.views.PassView.{PassView}
+use Rattle.commit_table.specs.declared.views.SeatView.{SeatView}
 use Rattle.commit_table.specs.Machine.{Machine, Laws, events_by, IsOwn}
-use Rattle.commit_table.specs.declared.views.Turn.{Turn}
+use Rattle.commit_table.specs.declared.views.LockRecord.{LockRecord}
 use Rattle.commit_table.specs.declared.views.LockOp.TheVariants as lock_op
-use Rattle.commit_table.specs.Turns.{IsTaken}
-use Rattle.commit_table.specs.Views.{held_at, took, missed, gave_back, at_rest, reaching}
-use Rattle.commit_table.specs.Rule.{Free, Held, IsShard, Fits, Rule}
-use Rattle.commit_table.specs.Calls.{word_of, slot_of, IsSound, Met}
-use Rattle.commit_table.specs.Steps.{Of, Takes, Reaches, takes, parks, reaches, frees}
+use Rattle.commit_table.specs.LockHistory.{HolderAgrees}
+use Rattle.commit_table.specs.Views.{held_at, after_take, after_miss, after_give_back, at_rest, with_slot_out}
+use Rattle.commit_table.specs.Rule.{Free, Held, IsShard, ViewFits, Rule}
+use Rattle.commit_table.specs.Calls.{word_of, slot_of, HasSoundView, MissWitness}
+use Rattle.commit_table.specs.Steps.{Of, TakesShard, FetchesSlot, takes, returns_slot, fetches_slot, frees_word}
 use Rattle.commit_table.proofs.Lists.{prefix_self, at_here, one_there, held_here, held_else}
-use Rattle.commit_table.proofs.Turning.{own_turns, turn_made, turn_missed, turned_kept}
+use Rattle.commit_table.proofs.LockHistories.{own_lock_records, lock_record_made, lock_record_missed, turned_kept}
 use Rattle.commit_table.proofs.Moves.{with_view, still_with, moved, updated, updated_here, updated_else}
 
 module _ {S X E : Type 0} (of : S → Machine X E) (laws : (s : S) → Laws (of s)) (start : S) (n : ℕ) where
@@ -28,48 +28,48 @@ module _ {S X E : Type 0} (of : S → Machine X E) (laws : (s : S) → Laws (of 
   m = of start
 
   abbrev pub K : Type 0
-  K = Known S E
+  K = PassView S E
 
   abbrev pub St : Type 0
-  St = State (Option X) (View S E)
+  St = State (Option X) (SeatView S E)
 
   abbrev pub R : St → Type 0
   R = Rule m start n
 
   abbrev pub Mine : Type 0
-  Mine = Me (Option X) (View S E)
+  Mine = Me (Option X) (SeatView S E)
 
   -- a view between two calls, or within one
-  abbrev pub resting : K → Option ℕ → List E → View S E
-  resting v out heard = record { known = v; out = out; heard = heard; gives = 0; ends = 0; gathers = false; gathered = []; closed = false }
+  abbrev pub resting : K → Option ℕ → List E → SeatView S E
+  resting v out heard = record { known = v; slot_out = out; note_history = heard; first_party = 0; end_party = 0; is_closer = false; joined_passes = []; closed = false }
 
   pub rest_fits : (h : List E) (holder seat : ℕ → Option ℕ) (id : ℕ) (v : K) (out : Option ℕ) (heard : List E)
       → ((s : S) → v.start ≡ Some s → s ≡ start) → IsPrefix v.seen h → IsPrefix heard v.seen → All (λ k. k ≤ length v.seen) v.looks → IsOwn m v.party v.seen v.mine
       → ((p : ℕ) → v.party ≡ Some p → (p < n) × (seat p ≡ Some id) × (events_by m.party p h ≡ v.mine))
       → ((i : ℕ) (g : List E) → held_at v.held i ≡ Some g → (i < m.shards) × (holder i ≡ Some id))
       → (v.party ≡ None → (i : ℕ) → held_at v.held i ≡ None)
-      → Fits m start n h holder seat id (resting v out heard)
+      → ViewFits m start n h holder seat id (resting v out heard)
   rest_fits h holder seat id v out heard begun seen told looks own party held bare = record {
     begun = begun;
     seen = seen;
-    heard = told;
+    note_history = told;
     looks = looks;
     own_seen = own;
     party = party;
     makes = λ p low high. absurd (omega arith);
     held = held;
     none = bare;
-    gathers = λ e. absurd cc;
-    gathered = λ e. absurd cc;
+    is_closer = λ e. absurd cc;
+    joined_passes = λ e. absurd cc;
     closed = λ e. absurd cc;
   }
 
   -- a fact about the machine of the table's start is one about the machine of the view's
-  pub told : (s : St) (r : R s) (id : ℕ) (v : View S E) → get_elem? s.views id ≡ some v → (P : Machine X E → Type 0) → P m → Of of v.known P
+  pub told : (s : St) (r : R s) (id : ℕ) (v : SeatView S E) → get_elem? s.views id ≡ some v → (P : Machine X E → Type 0) → P m → Of of v.known P
   told s r id v at P p st e = subst (λ z. P (of z)) (sym ((r.views id v at).begun st e)) p
 
   -- what a view has seen is legal, and has its own events
-  pub sound : (s : St) (r : R s) (id : ℕ) (v : View S E) → get_elem? s.views id ≡ some v → IsSound m v.known
+  pub sound : (s : St) (r : R s) (id : ℕ) (v : SeatView S E) → get_elem? s.views id ≡ some v → HasSoundView m v.known
   sound s r id v at =
       let f = r.views id v at in
       record { legal = (laws start).beginning v.known.seen f.seen.0 (subst (λ h. m.Legal h) (sym f.seen.1) r.legal); own = f.own_seen }
@@ -83,19 +83,19 @@ module _ {S X E : Type 0} (of : S → Machine X E) (laws : (s : S) → Laws (of 
   held_word s h i (Some k) f z = f.word
 
   -- what the rule says of a shard that the seat holds
-  pub own_shard : (s : St) (r : R s) (id : ℕ) (v : View S E) → get_elem? s.views id ≡ some v → (i : ℕ) (g : List E) → held_at v.known.held i ≡ Some g
-      → (i < m.shards) × (r.holder i ≡ Some id) × IsPrefix g r.history × m.Agree i g r.history × (get_or s.words (word_of i) 0 ≡ 1) × ((v.out ≡ Some i) ⊎ ((y : Option X) × (get_elem? s.homes (slot_of i) ≡ some (some y))))
+  pub own_shard : (s : St) (r : R s) (id : ℕ) (v : SeatView S E) → get_elem? s.views id ≡ some v → (i : ℕ) (g : List E) → held_at v.known.held i ≡ Some g
+      → (i < m.shards) × (r.holder i ≡ Some id) × IsPrefix g r.history × m.Agree i g r.history × (get_or s.words (word_of i) 0 ≡ 1) × ((v.slot_out ≡ Some i) ⊎ ((y : Option X) × (get_elem? s.homes (slot_of i) ≡ some (some y))))
   own_shard s r id v at i g held =
       let own = (r.views id v at).held i g held in
       let d : Held m start n s r.history i id = subst (λ o. IsShard m start n s r.history i o) own.1 (r.shards i own.0) in
       let same : v ≡ d.view = one_there s.views id v d.view at d.there in
-      let upto : d.upto ≡ g = (let a = d.held in let b : held_at d.view.known.held i ≡ Some g = subst (λ (z : View S E). held_at z.known.held i ≡ Some g) same held in cc) in (
+      let upto : d.upto ≡ g = (let a = d.held in let b : held_at d.view.known.held i ≡ Some g = subst (λ (z : SeatView S E). held_at z.known.held i ≡ Some g) same held in cc) in (
         own.0,
         own.1,
         subst (λ z. IsPrefix z r.history) upto d.begins,
         subst (λ z. m.Agree i z r.history) upto d.agrees,
         d.word,
-        subst (λ (z : View S E). (z.out ≡ Some i) ⊎ ((y : Option X) × (get_elem? s.homes (slot_of i) ≡ some (some y)))) (sym same) d.slot,
+        subst (λ (z : SeatView S E). (z.slot_out ≡ Some i) ⊎ ((y : Option X) × (get_elem? s.homes (slot_of i) ≡ some (some y)))) (sym same) d.slot,
       )
 
   -- who holds a shard holds it still
@@ -105,29 +105,29 @@ module _ {S X E : Type 0} (of : S → Machine X E) (laws : (s : S) → Laws (of 
       (λ ne. updated_else m start n r.holder i j (Some id) ne)
 
   -- the party that holds a shard, for the view that holds it
-  own_taker : (s : St) (r : R s) (id : ℕ) (v : View S E) → get_elem? s.views id ≡ some v → (i : ℕ) → i < m.shards → r.holder i ≡ Some id → (p : ℕ) × (v.known.party ≡ Some p)
+  own_taker : (s : St) (r : R s) (id : ℕ) (v : SeatView S E) → get_elem? s.views id ≡ some v → (i : ℕ) → i < m.shards → r.holder i ≡ Some id → (p : ℕ) × (v.known.party ≡ Some p)
   own_taker s r id v at i lt mine =
-      let t : IsTaken s.views r.turns i (Some id) = subst (λ o. IsTaken s.views r.turns i o) mine (r.turned.takers i lt) in
+      let t : HolderAgrees s.views r.lock_history i (Some id) = subst (λ o. HolderAgrees s.views r.lock_history i o) mine (r.turned.holders i lt) in
       let be : v ≡ t.0 = one_there s.views id v t.0 at t.2 in
-      (t.1, subst (λ (z : View S E). z.known.party ≡ Some t.1) (sym be) t.3)
+      (t.1, subst (λ (z : SeatView S E). z.known.party ≡ Some t.1) (sym be) t.3)
 
   -- a shard whose word is not 0 is held by a pass
-  taker_of : (s : St) (turns : List Turn) (h : List E) (i : ℕ) (o : Option ℕ) → IsShard m start n s h i o → IsTaken s.views turns i o → get_or s.words (word_of i) 0 ≢ 0 → (k : ℕ) × (o ≡ Some k) × IsTaken s.views turns i (Some k)
+  taker_of : (s : St) (turns : List LockRecord) (h : List E) (i : ℕ) (o : Option ℕ) → IsShard m start n s h i o → HolderAgrees s.views turns i o → get_or s.words (word_of i) 0 ≢ 0 → (k : ℕ) × (o ≡ Some k) × HolderAgrees s.views turns i (Some k)
   taker_of s turns h i None f t z = absurd (z f.word)
   taker_of s turns h i (Some k) f t z = (k, refl, t)
 
   -- another pass holds a shard that was missed
-  met_other : (s : St) (r : R s) (id i p : ℕ) (v : K) → get_elem? s.views id ≡ some (at_rest v) → i < m.shards → v.party ≡ Some p → held_at v.held i ≡ None → get_or s.words (word_of i) 0 ≢ 0 → Met v i (record { shard = i; party = p; op = lock_op.Missed } ∷ r.turns)
-  met_other s r id i p v at lt party free miss =
+  lock_history_other : (s : St) (r : R s) (id i p : ℕ) (v : K) → get_elem? s.views id ≡ some (at_rest v) → i < m.shards → v.party ≡ Some p → held_at v.held i ≡ None → get_or s.words (word_of i) 0 ≢ 0 → MissWitness v i (record { shard = i; party = p; op = lock_op.Missed } ∷ r.lock_history)
+  lock_history_other s r id i p v at lt party free miss =
       let f = r.views id (at_rest v) at in
-      let t = taker_of s r.turns r.history i (r.holder i) (r.shards i lt) (r.turned.takers i lt) miss in
+      let t = taker_of s r.lock_history r.history i (r.holder i) (r.shards i lt) (r.turned.holders i lt) miss in
       let other = t.2 in
       record {
         has_party = (p, party);
-        before = r.turns;
-        first = λ q its. let same : p ≡ q = cc in ap (λ (z : ℕ). let t : Turn = record { shard = i; party = z; op = lock_op.Missed } in t ∷ r.turns) same;
+        before = r.lock_history;
+        first = λ q its. let same : p ≡ q = cc in ap (λ (z : ℕ). let t : LockRecord = record { shard = i; party = z; op = lock_op.Missed } in t ∷ r.lock_history) same;
         goes_on = r.turned.met id (at_rest v) at;
-        own = λ q its. own_turns s.views r.turns q id (at_rest v) at refl refl (r.seat q) (f.party q its).1 (r.turned.parties q);
+        own = λ q its. own_lock_records s.views r.lock_history q id (at_rest v) at refl refl (r.seat q) (f.party q its).1 (r.turned.parties q);
         other = other.1;
         holds = other.4;
         apart = λ its.
@@ -136,15 +136,15 @@ module _ {S X E : Type 0} (of : S → Machine X E) (laws : (s : S) → Laws (of 
             let same : t.0 ≡ id = cc in
             let d : Held m start n s r.history i id = subst (λ o. IsShard m start n s r.history i o) (t.1 ∙ ap Some same) (r.shards i lt) in
             let be : at_rest v ≡ d.view = one_there s.views id (at_rest v) d.view at d.there in
-            let held : held_at v.held i ≡ Some d.upto = subst (λ (z : View S E). held_at z.known.held i ≡ Some d.upto) (sym be) d.held in
+            let held : held_at v.held i ≡ Some d.upto = subst (λ (z : SeatView S E). held_at z.known.held i ≡ Some d.upto) (sym be) d.held in
             absurd cc;
       }
 
   abbrev pub Goes : St → ℕ → ℕ → Mine → (Mine → Type 0) → ℕ → Type 0
-  Goes s k id me then y = (w : View S E) × (a : Act (Option X)) × Valid s.homes me.1 a × R (stepped s k y id me.1 w a) × then (w, carried_after me.1 a)
+  Goes s k id me then y = (w : SeatView S E) × (a : Act (Option X)) × Valid s.homes me.1 a × R (stepped s k y id me.1 w a) × then (w, carried_after me.1 a)
 
-  same_takes : (i j x : ℕ) (v : K) (after : Mine) → Takes of i v x after → word_of i ≡ word_of j → Takes of j v x after
-  same_takes i j x v after t e = subst (λ z. Takes of z v x after) (let q : i ≡ j = omega arith in q) t
+  same_takes : (i j x : ℕ) (v : K) (after : Mine) → TakesShard of i v x after → word_of i ≡ word_of j → TakesShard of j v x after
+  same_takes i j x v after t e = subst (λ z. TakesShard of z v x after) (let q : i ≡ j = omega arith in q) t
 
   take_rest : (slots id i : ℕ) (v : K) (p : ℕ) → i < m.shards → v.party ≡ Some p → held_at v.held i ≡ None
       → Allows R slots id (at_rest v, []) (word_of i) (λ x. either (eqb x 0) 1 x) (takes of (step slots (word_of i) 0 1 none) (at_rest v, []))
@@ -152,12 +152,12 @@ module _ {S X E : Type 0} (of : S → Machine X E) (laws : (s : S) → Laws (of 
       let h = r.history in
       let f = r.views id (at_rest v) at in
       let x : ℕ = get_or s.words (word_of i) 0 in
-      let known : Of of v (λ z. IsSound z v) = told s r id (at_rest v) at (λ z. IsSound z v) (sound s r id (at_rest v) at) in
+      let known : Of of v (λ z. HasSoundView z v) = told s r id (at_rest v) at (λ z. HasSoundView z v) (sound s r id (at_rest v) at) in
       let then : Mine → Type 0 = takes of (step slots (word_of i) 0 1 none) (at_rest v, []) x in
       exchanged x 0 1 (λ y. Goes s (word_of i) id (at_rest v, []) then y)
       (λ hit.
       let is = free_shard s h i (r.holder i) (r.shards i lt) hit in
-      let w = reaching (took v i h) i in
+      let w = with_slot_out (after_take v i h) i in
       let here : Held m start n (with_view m start n s (set s.words (word_of i) 1) (set s.homes (slot_of i) none) id w) h i id = record {
         word = get_or-set_same s.words (word_of i) 1 0 (let z = r.size in omega (arith, z));
         view = w;
@@ -168,7 +168,7 @@ module _ {S X E : Type 0} (of : S → Machine X E) (laws : (s : S) → Laws (of 
         agrees = (laws start).agree_self i h;
         slot = inl refl;
       } in
-      let fits = rest_fits h (updated m start n r.holder i (Some id)) r.seat id (took v i h) (Some i) [] f.begun f.seen f.heard f.looks f.own_seen f.party
+      let fits = rest_fits h (updated m start n r.holder i (Some id)) r.seat id (after_take v i h) (Some i) [] f.begun f.seen f.note_history f.looks f.own_seen f.party
       (λ j g e. dite (ℕ_discrete j i)
       (λ same. (subst (λ z. z < m.shards) (sym same) lt, updated_here m start n r.holder i j (Some id) same))
       (λ ne. let old = f.held j g (sym (held_else v.held i j (Some h) ne) ∙ e) in (old.0, updated_else m start n r.holder i j (Some id) ne ∙ old.1)))
@@ -178,65 +178,65 @@ module _ {S X E : Type 0} (of : S → Machine X E) (laws : (s : S) → Laws (of 
         is.1.slot,
         moved m start n s r id (at_rest v) w at i 1 (set s.homes (slot_of i) none) (Some id) (inl is.0)
             (λ j ne. set_else s.homes (slot_of i) (slot_of j) none (λ e. ne (omega arith))) (λ j ne. held_else v.held i j (Some h) ne) (λ j ne e. absurd cc) (λ e. e) (λ q a. a) here fits
-            (record { shard = i; party = p; op = lock_op.Took } ∷ r.turns) (turn_made m.shards s.views r.turns r.holder r.seat i p id (at_rest v) w true at party party refl refl refl refl (f.party p party).1 r.turned),
+            (record { shard = i; party = p; op = lock_op.Took } ∷ r.lock_history) (lock_record_made m.shards s.views r.lock_history r.holder r.seat i p id (at_rest v) w true at party party refl refl refl refl (f.party p party).1 r.turned),
         λ j e. same_takes i j x v (w, (slot_of i, Some is.1.value) ∷ []) (known, inl (hit, (is.1.value, h, refl, f.seen, told s r id (at_rest v) at (λ z. z.Legal h × z.Stands i is.1.value h) (r.legal, is.1.stands)))) e,
       ))
       (λ miss.
-      let turns : List Turn = record { shard = i; party = p; op = lock_op.Missed } ∷ r.turns in
-      let w = at_rest (missed v i turns) in
-      let fits = rest_fits h r.holder r.seat id (missed v i turns) None [] f.begun f.seen f.heard f.looks f.own_seen f.party f.held f.none in (
+      let turns : List LockRecord = record { shard = i; party = p; op = lock_op.Missed } ∷ r.lock_history in
+      let w = at_rest (after_miss v i turns) in
+      let fits = rest_fits h r.holder r.seat id (after_miss v i turns) None [] f.begun f.seen f.note_history f.looks f.own_seen f.party f.held f.none in (
         w,
         keeps,
         tt,
         still_with m start n s r id (at_rest v) w at (word_of i) refl refl (λ e. e) (λ q a. a) fits turns
-            (turn_missed m.shards s.views r.turns r.holder r.seat i p id (at_rest v) w at party party refl refl refl refl (f.party p party).1 r.turned),
-        λ j e. same_takes i j x v (w, []) (known, inr (held_word s h i (r.holder i) (r.shards i lt) miss, (turns, refl, met_other s r id i p v at lt party free miss))) e,
+            (lock_record_missed m.shards s.views r.lock_history r.holder r.seat i p id (at_rest v) w at party party refl refl refl refl (f.party p party).1 r.turned),
+        λ j e. same_takes i j x v (w, []) (known, inr (held_word s h i (r.holder i) (r.shards i lt) miss, (turns, refl, lock_history_other s r id i p v at lt party free miss))) e,
       ))
 
   park_rest : (slots id i : ℕ) (v : K) (y : Option X) (g : List E) → slots ≡ slot_of m.shards → held_at v.held i ≡ Some g
-      → Allows R slots id (reaching v i, (slot_of i, y) ∷ []) (word_of i) (λ x. x) (parks of (step slots (word_of i) 0 0 none) (reaching v i, (slot_of i, y) ∷ []))
+      → Allows R slots id (with_slot_out v i, (slot_of i, y) ∷ []) (word_of i) (λ x. x) (returns_slot of (step slots (word_of i) 0 0 none) (with_slot_out v i, (slot_of i, y) ∷ []))
   park_rest slots id i v y g sized held s r wide at _ =
       let h = r.history in
-      let f = r.views id (reaching v i) at in
-      let own = own_shard s r id (reaching v i) at i g held in
+      let f = r.views id (with_slot_out v i) at in
+      let own = own_shard s r id (with_slot_out v i) at i g held in
       let x : ℕ = get_or s.words (word_of i) 0 in
       let w = at_rest v in
       let room : slot_of i < length s.homes = let lt = own.0 in omega (arith, wide, sized) in
       let here : Held m start n (with_view m start n s (set s.words (word_of i) x) (set s.homes (slot_of i) (some y)) id w) h i id = record {
         word = get_or-set_same s.words (word_of i) x 0 (let lt = own.0 in let z = r.size in omega (arith, z)) ∙ own.4;
         view = w;
-        there = at_here s.views id w (reaching v i) at;
+        there = at_here s.views id w (with_slot_out v i) at;
         upto = g;
         held = held;
         begins = own.2;
         agrees = own.3;
         slot = inr (y, set_here s.homes (slot_of i) (some y) room);
       } in
-      let fits = rest_fits h (updated m start n r.holder i (Some id)) r.seat id v None [] f.begun f.seen f.heard f.looks f.own_seen f.party
+      let fits = rest_fits h (updated m start n r.holder i (Some id)) r.seat id v None [] f.begun f.seen f.note_history f.looks f.own_seen f.party
       (λ j k e. let old = f.held j k e in (old.0, dite (ℕ_discrete j i) (λ same. updated_here m start n r.holder i j (Some id) same) (λ ne. updated_else m start n r.holder i j (Some id) ne ∙ old.1)))
       f.none in (
         w,
         gives,
         tt,
-        moved m start n s r id (reaching v i) w at i x (set s.homes (slot_of i) (some y)) (Some id) (inr own.1)
+        moved m start n s r id (with_slot_out v i) w at i x (set s.homes (slot_of i) (some y)) (Some id) (inr own.1)
             (λ j ne. set_else s.homes (slot_of i) (slot_of j) (some y) (λ e. ne (omega arith))) (λ j ne. refl) (λ j ne e. absurd (ne (cc))) (λ e. e) (λ q a. a) here fits
-            r.turns (turned_kept m.shards s.views r.turns r.holder (updated m start n r.holder i (Some id)) r.seat id (reaching v i) w at (held_still s r id i own.1) (λ j lt e q its. its) (λ q a. a) (r.turned.met id (reaching v i) at) r.turned),
+            r.lock_history (turned_kept m.shards s.views r.lock_history r.holder (updated m start n r.holder i (Some id)) r.seat id (with_slot_out v i) w at (held_still s r id i own.1) (λ j lt e q its. its) (λ q a. a) (r.turned.met id (with_slot_out v i) at) r.turned),
         refl,
       )
 
-  reach_home : (s : St) (i : ℕ) (v : K) → (((at_rest v).out ≡ Some i) ⊎ ((y : Option X) × (get_elem? s.homes (slot_of i) ≡ some (some y)))) → (y : Option X) × (get_elem? s.homes (slot_of i) ≡ some (some y))
-  reach_home s i v (inl e) = absurd cc
-  reach_home s i v (inr y) = y
+  fetch_home : (s : St) (i : ℕ) (v : K) → (((at_rest v).slot_out ≡ Some i) ⊎ ((y : Option X) × (get_elem? s.homes (slot_of i) ≡ some (some y)))) → (y : Option X) × (get_elem? s.homes (slot_of i) ≡ some (some y))
+  fetch_home s i v (inl e) = absurd cc
+  fetch_home s i v (inr y) = y
 
-  reach_rest : (slots id i : ℕ) (v : K) (g : List E) → held_at v.held i ≡ Some g
-      → Allows R slots id (at_rest v, []) (word_of i) (λ x. x) (reaches of (step slots (word_of i) 0 0 none) (at_rest v, []))
-  reach_rest slots id i v g held s r wide at _ =
+  fetch_rest : (slots id i : ℕ) (v : K) (g : List E) → held_at v.held i ≡ Some g
+      → Allows R slots id (at_rest v, []) (word_of i) (λ x. x) (fetches_slot of (step slots (word_of i) 0 0 none) (at_rest v, []))
+  fetch_rest slots id i v g held s r wide at _ =
       let h = r.history in
       let f = r.views id (at_rest v) at in
       let own = own_shard s r id (at_rest v) at i g held in
       let x : ℕ = get_or s.words (word_of i) 0 in
-      let w = reaching v i in
-      let home = reach_home s i v own.5 in
+      let w = with_slot_out v i in
+      let home = fetch_home s i v own.5 in
       let here : Held m start n (with_view m start n s (set s.words (word_of i) x) (set s.homes (slot_of i) none) id w) h i id = record {
         word = get_or-set_same s.words (word_of i) x 0 (let lt = own.0 in let z = r.size in omega (arith, z)) ∙ own.4;
         view = w;
@@ -247,7 +247,7 @@ module _ {S X E : Type 0} (of : S → Machine X E) (laws : (s : S) → Laws (of 
         agrees = own.3;
         slot = inl refl;
       } in
-      let fits = rest_fits h (updated m start n r.holder i (Some id)) r.seat id v (Some i) [] f.begun f.seen f.heard f.looks f.own_seen f.party
+      let fits = rest_fits h (updated m start n r.holder i (Some id)) r.seat id v (Some i) [] f.begun f.seen f.note_history f.looks f.own_seen f.party
       (λ j k e. let old = f.held j k e in (old.0, dite (ℕ_discrete j i) (λ same. updated_here m start n r.holder i j (Some id) same) (λ ne. updated_else m start n r.holder i j (Some id) ne ∙ old.1)))
       f.none in (
         w,
@@ -255,18 +255,18 @@ module _ {S X E : Type 0} (of : S → Machine X E) (laws : (s : S) → Laws (of 
         home.1,
         moved m start n s r id (at_rest v) w at i x (set s.homes (slot_of i) none) (Some id) (inr own.1)
             (λ j ne. set_else s.homes (slot_of i) (slot_of j) none (λ e. ne (omega arith))) (λ j ne. refl) (λ j ne e. absurd cc) (λ e. e) (λ q a. a) here fits
-            r.turns (turned_kept m.shards s.views r.turns r.holder (updated m start n r.holder i (Some id)) r.seat id (at_rest v) w at (held_still s r id i own.1) (λ j lt e q its. its) (λ q a. a) (r.turned.met id (at_rest v) at) r.turned),
-        λ j e. subst (λ z. Reaches of z v (w, (slot_of i, home.0) ∷ [])) (let q : i ≡ j = omega arith in q) (home.0, refl),
+            r.lock_history (turned_kept m.shards s.views r.lock_history r.holder (updated m start n r.holder i (Some id)) r.seat id (at_rest v) w at (held_still s r id i own.1) (λ j lt e q its. its) (λ q a. a) (r.turned.met id (at_rest v) at) r.turned),
+        λ j e. subst (λ z. FetchesSlot of z v (w, (slot_of i, home.0) ∷ [])) (let q : i ≡ j = omega arith in q) (home.0, refl),
       )
 
   free_rest : (slots id i : ℕ) (v : K) (x : X) (g : List E) → slots ≡ slot_of m.shards → held_at v.held i ≡ Some g → m.Stands i x g
-      → Allows R slots id (reaching v i, (slot_of i, Some x) ∷ []) (word_of i) (λ _. 0) (λ _. frees of (step slots (word_of i) 0 0 none) (reaching v i, (slot_of i, Some x) ∷ []) 0)
+      → Allows R slots id (with_slot_out v i, (slot_of i, Some x) ∷ []) (word_of i) (λ _. 0) (λ _. frees_word of (step slots (word_of i) 0 0 none) (with_slot_out v i, (slot_of i, Some x) ∷ []) 0)
   free_rest slots id i v x g sized held stands s r wide at _ =
       let h = r.history in
-      let f = r.views id (reaching v i) at in
-      let own = own_shard s r id (reaching v i) at i g held in
-      let w = at_rest (gave_back v i) in
-      let taker = own_taker s r id (reaching v i) at i own.0 own.1 in
+      let f = r.views id (with_slot_out v i) at in
+      let own = own_shard s r id (with_slot_out v i) at i g held in
+      let w = at_rest (after_give_back v i) in
+      let taker = own_taker s r id (with_slot_out v i) at i own.0 own.1 in
       let room : slot_of i < length s.homes = let lt = own.0 in omega (arith, wide, sized) in
       let here : Free m start n (with_view m start n s (set s.words (word_of i) 0) (set s.homes (slot_of i) (some (Some x))) id w) h i = record {
         word = get_or-set_same s.words (word_of i) 0 0 (let lt = own.0 in let z = r.size in omega (arith, z));
@@ -274,7 +274,7 @@ module _ {S X E : Type 0} (of : S → Machine X E) (laws : (s : S) → Laws (of 
         slot = set_here s.homes (slot_of i) (some (Some x)) room;
         stands = (laws start).stands i x g h stands own.3;
       } in
-      let fits = rest_fits h (updated m start n r.holder i None) r.seat id (gave_back v i) None [] f.begun f.seen f.heard f.looks f.own_seen f.party
+      let fits = rest_fits h (updated m start n r.holder i None) r.seat id (after_give_back v i) None [] f.begun f.seen f.note_history f.looks f.own_seen f.party
       (λ j k e. dite (ℕ_discrete j i)
       (λ same. let z : held_at ((i, None) ∷ v.held) j ≡ None = subst (λ q. held_at ((i, None) ∷ v.held) q ≡ None) (sym same) (held_here v.held i None) in absurd cc)
       (λ ne. let old = f.held j k (sym (held_else v.held i j None ne) ∙ e) in (old.0, updated_else m start n r.holder i j None ne ∙ old.1)))
@@ -284,10 +284,10 @@ module _ {S X E : Type 0} (of : S → Machine X E) (laws : (s : S) → Laws (of 
         w,
         gives,
         tt,
-        moved m start n s r id (reaching v i) w at i 0 (set s.homes (slot_of i) (some (Some x))) None (inr own.1)
+        moved m start n s r id (with_slot_out v i) w at i 0 (set s.homes (slot_of i) (some (Some x))) None (inr own.1)
             (λ j ne. set_else s.homes (slot_of i) (slot_of j) (some (Some x)) (λ e. ne (omega arith))) (λ j ne. held_else v.held i j None ne) (λ j ne e. absurd (ne (cc))) (λ e. e) (λ q a. a) here fits
-            (record { shard = i; party = taker.0; op = lock_op.GaveBack } ∷ r.turns) (turn_made m.shards s.views r.turns r.holder r.seat i taker.0 id (reaching v i) w false at taker.1 taker.1 refl refl refl refl (f.party taker.0 taker.1).1 r.turned),
-        λ j e. let P : ℕ → Type 0 = λ z. ◌≡◌ {A = Mine} (w, []) (at_rest (gave_back v z), []) in subst P (let q : i ≡ j = omega arith in q) refl,
+            (record { shard = i; party = taker.0; op = lock_op.GaveBack } ∷ r.lock_history) (lock_record_made m.shards s.views r.lock_history r.holder r.seat i taker.0 id (with_slot_out v i) w false at taker.1 taker.1 refl refl refl refl (f.party taker.0 taker.1).1 r.turned),
+        λ j e. let P : ℕ → Type 0 = λ z. ◌≡◌ {A = Mine} (w, []) (at_rest (after_give_back v z), []) in subst P (let q : i ≡ j = omega arith in q) refl,
       )
 
   pub take_allowed : (slots id i : ℕ) (me : Mine) → me ≡ (at_rest me.0.known, []) → (p : ℕ) → i < m.shards → me.0.known.party ≡ Some p → held_at me.0.known.held i ≡ None
@@ -295,17 +295,17 @@ module _ {S X E : Type 0} (of : S → Machine X E) (laws : (s : S) → Laws (of 
   take_allowed slots id i me ready p lt party free =
       subst (λ z. Allows R slots id z (word_of i) (λ x. either (eqb x 0) 1 x) (takes of (step slots (word_of i) 0 1 none) z)) (sym ready) (take_rest slots id i me.0.known p lt party free)
 
-  pub park_allowed : (slots id i : ℕ) (me : Mine) (y : Option X) → me ≡ (reaching me.0.known i, (slot_of i, y) ∷ []) → (g : List E) → slots ≡ slot_of m.shards → held_at me.0.known.held i ≡ Some g
-      → Allows R slots id me (word_of i) (λ x. x) (parks of (step slots (word_of i) 0 0 none) me)
+  pub park_allowed : (slots id i : ℕ) (me : Mine) (y : Option X) → me ≡ (with_slot_out me.0.known i, (slot_of i, y) ∷ []) → (g : List E) → slots ≡ slot_of m.shards → held_at me.0.known.held i ≡ Some g
+      → Allows R slots id me (word_of i) (λ x. x) (returns_slot of (step slots (word_of i) 0 0 none) me)
   park_allowed slots id i me y ready g sized held =
-      subst (λ z. Allows R slots id z (word_of i) (λ x. x) (parks of (step slots (word_of i) 0 0 none) z)) (sym ready) (park_rest slots id i me.0.known y g sized held)
+      subst (λ z. Allows R slots id z (word_of i) (λ x. x) (returns_slot of (step slots (word_of i) 0 0 none) z)) (sym ready) (park_rest slots id i me.0.known y g sized held)
 
-  pub reach_allowed : (slots id i : ℕ) (me : Mine) → me ≡ (at_rest me.0.known, []) → (g : List E) → held_at me.0.known.held i ≡ Some g
-      → Allows R slots id me (word_of i) (λ x. x) (reaches of (step slots (word_of i) 0 0 none) me)
-  reach_allowed slots id i me ready g held =
-      subst (λ z. Allows R slots id z (word_of i) (λ x. x) (reaches of (step slots (word_of i) 0 0 none) z)) (sym ready) (reach_rest slots id i me.0.known g held)
+  pub fetch_allowed : (slots id i : ℕ) (me : Mine) → me ≡ (at_rest me.0.known, []) → (g : List E) → held_at me.0.known.held i ≡ Some g
+      → Allows R slots id me (word_of i) (λ x. x) (fetches_slot of (step slots (word_of i) 0 0 none) me)
+  fetch_allowed slots id i me ready g held =
+      subst (λ z. Allows R slots id z (word_of i) (λ x. x) (fetches_slot of (step slots (word_of i) 0 0 none) z)) (sym ready) (fetch_rest slots id i me.0.known g held)
 
-  pub free_allowed : (slots id i : ℕ) (me : Mine) (x : X) → me ≡ (reaching me.0.known i, (slot_of i, Some x) ∷ []) → (g : List E) → slots ≡ slot_of m.shards → held_at me.0.known.held i ≡ Some g → m.Stands i x g
-      → Allows R slots id me (word_of i) (λ _. 0) (λ _. frees of (step slots (word_of i) 0 0 none) me 0)
+  pub free_allowed : (slots id i : ℕ) (me : Mine) (x : X) → me ≡ (with_slot_out me.0.known i, (slot_of i, Some x) ∷ []) → (g : List E) → slots ≡ slot_of m.shards → held_at me.0.known.held i ≡ Some g → m.Stands i x g
+      → Allows R slots id me (word_of i) (λ _. 0) (λ _. frees_word of (step slots (word_of i) 0 0 none) me 0)
   free_allowed slots id i me x ready g sized held stands =
-      subst (λ z. Allows R slots id z (word_of i) (λ _. 0) (λ _. frees of (step slots (word_of i) 0 0 none) z 0)) (sym ready) (free_rest slots id i me.0.known x g sized held stands)
+      subst (λ z. Allows R slots id z (word_of i) (λ _. 0) (λ _. frees_word of (step slots (word_of i) 0 0 none) z 0)) (sym ready) (free_rest slots id i me.0.known x g sized held stands)

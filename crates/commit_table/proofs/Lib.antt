@@ -9,5 +9,5 @@ pub mod Moves
 pub mod Raising
 pub mod Seen
 pub mod Slots
-pub mod Turning
+pub mod LockHistories
 pub mod Twos

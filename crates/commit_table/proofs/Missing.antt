@@ -1,15 +1,15 @@
 -- What an attempt tells that missed its first shard, or its second.
 use Rattle.std.proofs.Common.{◌≡◌, ℕ, List, [], ◌∷◌, refl, ap, sym, subst, ◌∙◌}
 use Rattle.commit_table.specs.declared.views.LockOp.TheVariants as lock_op
-use Rattle.commit_table.specs.declared.views.Known.{Known}
-use Rattle.commit_table.specs.declared.views.Turn.{Turn}
+use Rattle.commit_table.specs.declared.views.PassView.{PassView}
+use Rattle.commit_table.specs.declared.views.LockRecord.{LockRecord}
 use Rattle.commit_table.specs.Machine.{Machine}
-use Rattle.commit_table.specs.Calls.{IsSound, Met}
-use Rattle.commit_table.specs.Views.{took, missed, gave_back}
-use Rattle.commit_table.specs.Attempts.{Missed}
+use Rattle.commit_table.specs.Calls.{HasSoundView, MissWitness}
+use Rattle.commit_table.specs.Views.{after_take, after_miss, after_give_back}
+use Rattle.commit_table.specs.Attempts.{IsMissed}
 
 module _ {S X E : Type 0} (m : Machine X E) (May : ℕ → Type 0) where
-  one_missed : (v : Known S E) (i : ℕ) (turns : List Turn) → May i → IsSound m v → Met v i turns → Missed m v May (missed v i turns)
+  one_missed : (v : PassView S E) (i : ℕ) (turns : List LockRecord) → May i → HasSoundView m v → MissWitness v i turns → IsMissed m v May (after_miss v i turns)
   one_missed v i turns may sound t = record {
     shard = i;
     may = may;
@@ -32,7 +32,7 @@ module _ {S X E : Type 0} (m : Machine X E) (May : ℕ → Type 0) where
     start = refl;
   }
 
-  two_missed : (v : Known S E) (i j : ℕ) (g : List E) (turns : List Turn) → May i → IsSound m v → Met (took v j g) i turns → Missed m v May (gave_back (missed (took v j g) i turns) j)
+  two_missed : (v : PassView S E) (i j : ℕ) (g : List E) (turns : List LockRecord) → May i → HasSoundView m v → MissWitness (after_take v j g) i turns → IsMissed m v May (after_give_back (after_miss (after_take v j g) i turns) j)
   two_missed v i j g turns may sound t = record {
     shard = i;
     may = may;
@@ -56,11 +56,11 @@ module _ {S X E : Type 0} (m : Machine X E) (May : ℕ → Type 0) where
   }
 
   -- the one shard was missed
-  pub first_missed : (v w : Known S E) (i : ℕ) (turns : List Turn) → May i → IsSound m v → w ≡ missed v i turns → Met v i turns → Missed m v May w
-  first_missed v w i turns may sound is t = subst (λ (z : Known S E). Missed m v May z) (sym is) (one_missed v i turns may sound t)
+  pub first_missed : (v w : PassView S E) (i : ℕ) (turns : List LockRecord) → May i → HasSoundView m v → w ≡ after_miss v i turns → MissWitness v i turns → IsMissed m v May w
+  first_missed v w i turns may sound is t = subst (λ (z : PassView S E). IsMissed m v May z) (sym is) (one_missed v i turns may sound t)
 
   -- the second shard was missed, and the first given back
-  pub second_missed : (v u w z : Known S E) (i j : ℕ) (g : List E) (turns : List Turn) → May i → IsSound m v → u ≡ took v j g → w ≡ missed u i turns → Met u i turns → z ≡ gave_back w j → Missed m v May z
+  pub second_missed : (v u w z : PassView S E) (i j : ℕ) (g : List E) (turns : List LockRecord) → May i → HasSoundView m v → u ≡ after_take v j g → w ≡ after_miss u i turns → MissWitness u i turns → z ≡ after_give_back w j → IsMissed m v May z
   second_missed v u w z i j g turns may sound taken is t last =
-      let whole : z ≡ gave_back (missed (took v j g) i turns) j = last ∙ (ap (λ (y : Known S E). gave_back y j) is ∙ ap (λ (y : Known S E). gave_back (missed y i turns) j) taken) in
-      subst (λ (y : Known S E). Missed m v May y) (sym whole) (two_missed v i j g turns may sound (subst (λ (y : Known S E). Met y i turns) taken t))
+      let whole : z ≡ after_give_back (after_miss (after_take v j g) i turns) j = last ∙ (ap (λ (y : PassView S E). after_give_back y j) is ∙ ap (λ (y : PassView S E). after_give_back (after_miss y i turns) j) taken) in
+      subst (λ (y : PassView S E). IsMissed m v May y) (sym whole) (two_missed v i j g turns may sound (subst (λ (y : PassView S E). MissWitness y i turns) taken t))

@@ -8,19 +8,19 @@ use Rattle.std.proofs.lemmas.List.{set-get_or, get_or-set_other}
 use Rattle.std.proofs.Math.ListN.{length-set}
 use Rattle.atomic_table.specs.Table.{State}
 use Rattle.atomic_table.proofs.Lists.{at_set, set_else}
-use Rattle.commit_table.specs.declared.views.View.{View}
+use Rattle.commit_table.specs.declared.views.SeatView.{SeatView}
 use Rattle.commit_table.specs.Machine.{Machine}
-use Rattle.commit_table.specs.declared.views.Turn.{Turn}
+use Rattle.commit_table.specs.declared.views.LockRecord.{LockRecord}
 use Rattle.commit_table.specs.Calls.{word_of, slot_of}
 use Rattle.commit_table.specs.Views.{held_at}
-use Rattle.commit_table.specs.Turns.{GoOn, Recalls, Turned}
-use Rattle.commit_table.specs.Rule.{IsShard, Answers, IsParty, IsWhole, Fits, Rule}
+use Rattle.commit_table.specs.LockHistory.{Extends, KnowsLockRecords, LocksAgree}
+use Rattle.commit_table.specs.Rule.{IsShard, AccountsForParty, IsParty, IsWhole, ViewFits, Rule}
 use Rattle.commit_table.proofs.Lists.{at_here, one_there}
-use Rattle.commit_table.proofs.Turning.{turned_kept}
+use Rattle.commit_table.proofs.LockHistories.{turned_kept}
 
 module _ {S X E : Type 0} (m : Machine X E) (start : S) (n : ℕ) where
   abbrev pub V : Type 0
-  V = View S E
+  V = SeatView S E
 
   abbrev pub St : Type 0
   St = State (Option X) V
@@ -36,7 +36,7 @@ module _ {S X E : Type 0} (m : Machine X E) (start : S) (n : ℕ) where
   pub shard_kept : (s : St) (h : List E) (ws : List ℕ) (hs : List (Maybe (Option X))) (id : ℕ) (v w : V) (j : ℕ)
       → get_elem? s.views id ≡ some v
       → get_or ws (word_of j) 0 ≡ get_or s.words (word_of j) 0 → get_elem? hs (slot_of j) ≡ get_elem? s.homes (slot_of j)
-      → ((g : List E) → held_at v.known.held j ≡ Some g → held_at w.known.held j ≡ Some g) → (v.out ≡ Some j → w.out ≡ Some j)
+      → ((g : List E) → held_at v.known.held j ≡ Some g → held_at w.known.held j ≡ Some g) → (v.slot_out ≡ Some j → w.slot_out ≡ Some j)
       → (o : Option ℕ) → IsShard m start n s h j o → IsShard m start n (with_view s ws hs id w) h j o
   shard_kept s h ws hs id v w j at word home holds out None r = record { word = word ∙ r.word; value = r.value; slot = home ∙ r.slot; stands = r.stands }
   shard_kept s h ws hs id v w j at word home holds out (Some k) r = dite (ℕ_discrete k id)
@@ -50,7 +50,7 @@ module _ {S X E : Type 0} (m : Machine X E) (start : S) (n : ℕ) where
         held = holds r.upto (subst (λ (z : V). held_at z.known.held j ≡ Some r.upto) (sym is) r.held);
         begins = r.begins;
         agrees = r.agrees;
-        slot = ⊎_elim (λ a. inl (out (subst (λ (z : V). z.out ≡ Some j) (sym is) a))) (λ b. inr (b.0, home ∙ b.1)) r.slot;
+        slot = ⊎_elim (λ a. inl (out (subst (λ (z : V). z.slot_out ≡ Some j) (sym is) a))) (λ b. inr (b.0, home ∙ b.1)) r.slot;
       })
       (λ ne. record {
         word = word ∙ r.word;
@@ -65,13 +65,13 @@ module _ {S X E : Type 0} (m : Machine X E) (start : S) (n : ℕ) where
 
   -- a party that a step leaves alone
   pub party_kept : (s : St) (h : List E) (ws : List ℕ) (hs : List (Maybe (Option X))) (id : ℕ) (v w : V) (p : ℕ)
-      → get_elem? s.views id ≡ some v → (Answers m start n v p → Answers m start n w p)
+      → get_elem? s.views id ≡ some v → (AccountsForParty m start n v p → AccountsForParty m start n w p)
       → (o : Option ℕ) → IsParty m start n s h p o → IsParty m start n (with_view s ws hs id w) h p o
   party_kept s h ws hs id v w p at answers None r = r
   party_kept s h ws hs id v w p at answers (Some k) r = dite (ℕ_discrete k id)
       (λ same.
       let is : v ≡ r.0 = one_there s.views id v r.0 at (subst (λ (z : ℕ). get_elem? s.views z ≡ some r.0) same r.1) in
-      (w, subst (λ (z : ℕ). get_elem? (set s.views id w) z ≡ some w) (sym same) (at_here s.views id w v at), answers (subst (λ (z : V). Answers m start n z p) (sym is) r.2)))
+      (w, subst (λ (z : ℕ). get_elem? (set s.views id w) z ≡ some w) (sym same) (at_here s.views id w v at), answers (subst (λ (z : V). AccountsForParty m start n z p) (sym is) r.2)))
       (λ ne. (r.0, set_else s.views id k w ne ∙ r.1, r.2))
 
   -- some view has seen the whole history, if it was this one also as it is now
@@ -88,10 +88,10 @@ module _ {S X E : Type 0} (m : Machine X E) (start : S) (n : ℕ) where
       → length ws ≡ length s.words → get_or ws 0 0 ≡ get_or s.words 0 0
       → (v.known.seen ≡ r.history → w.known.seen ≡ r.history)
       → ((j : ℕ) → j < m.shards → IsShard m start n (with_view s ws hs id w) r.history j (holder j))
-      → ((p : ℕ) → Answers m start n v p → Answers m start n w p)
-      → ((k : ℕ) (u : V) → k ≢ id → Fits m start n r.history r.holder r.seat k u → Fits m start n r.history holder r.seat k u)
-      → Fits m start n r.history holder r.seat id w
-      → (turns : List Turn) → Turned m.shards (set s.views id w) turns holder r.seat
+      → ((p : ℕ) → AccountsForParty m start n v p → AccountsForParty m start n w p)
+      → ((k : ℕ) (u : V) → k ≢ id → ViewFits m start n r.history r.holder r.seat k u → ViewFits m start n r.history holder r.seat k u)
+      → ViewFits m start n r.history holder r.seat id w
+      → (turns : List LockRecord) → LocksAgree m.shards (set s.views id w) turns holder r.seat
       → R (with_view s ws hs id w)
   rebuild s r id v w at ws hs holder size word seen shards answers others fits turns turned = record {
     history = r.history;
@@ -105,7 +105,7 @@ module _ {S X E : Type 0} (m : Machine X E) (start : S) (n : ℕ) where
     shards = shards;
     parties = λ p. party_kept s r.history ws hs id v w p at (answers p) (r.seat p) (r.parties p);
     views = λ k u there. ⊎_elim
-        (λ t. subst (λ (z : ℕ). Fits m start n r.history holder r.seat z u) (sym t.0) (subst (λ (z : V). Fits m start n r.history holder r.seat id z) t.1 fits))
+        (λ t. subst (λ (z : ℕ). ViewFits m start n r.history holder r.seat z u) (sym t.0) (subst (λ (z : V). ViewFits m start n r.history holder r.seat id z) t.1 fits))
         (λ t. others k u t.0 (r.views k u t.1))
         (at_set s.views id k w u there);
     turned = turned;
@@ -113,9 +113,9 @@ module _ {S X E : Type 0} (m : Machine X E) (start : S) (n : ℕ) where
 
   -- nothing moved but the turns: the seat has another view, which holds and answers for the same
   pub still_with : (s : St) (r : R s) (id : ℕ) (v w : V) → get_elem? s.views id ≡ some v
-      → (k : ℕ) → w.known.held ≡ v.known.held → w.out ≡ v.out → (v.known.seen ≡ r.history → w.known.seen ≡ r.history) → ((p : ℕ) → Answers m start n v p → Answers m start n w p)
-      → Fits m start n r.history r.holder r.seat id w
-      → (turns : List Turn) → Turned m.shards (set s.views id w) turns r.holder r.seat
+      → (k : ℕ) → w.known.held ≡ v.known.held → w.slot_out ≡ v.slot_out → (v.known.seen ≡ r.history → w.known.seen ≡ r.history) → ((p : ℕ) → AccountsForParty m start n v p → AccountsForParty m start n w p)
+      → ViewFits m start n r.history r.holder r.seat id w
+      → (turns : List LockRecord) → LocksAgree m.shards (set s.views id w) turns r.holder r.seat
       → R (with_view s (set s.words k (get_or s.words k 0)) s.homes id w)
   still_with s r id v w at k held out seen answers fits turns turned =
       subst (λ (ws : List ℕ). R (with_view s ws s.homes id w)) (sym (set-get_or s.words k 0))
@@ -125,12 +125,12 @@ module _ {S X E : Type 0} (m : Machine X E) (start : S) (n : ℕ) where
 
   -- nothing moved
   pub still : (s : St) (r : R s) (id : ℕ) (v w : V) → get_elem? s.views id ≡ some v
-      → (k : ℕ) → w.known.held ≡ v.known.held → w.out ≡ v.out → (v.known.seen ≡ r.history → w.known.seen ≡ r.history) → ((p : ℕ) → Answers m start n v p → Answers m start n w p)
-      → Fits m start n r.history r.holder r.seat id w
-      → ((p : ℕ) → v.known.party ≡ Some p → w.known.party ≡ Some p) → ((p : ℕ) → Recalls r.turns v p → Recalls r.turns w p) → GoOn w.known.met r.turns
+      → (k : ℕ) → w.known.held ≡ v.known.held → w.slot_out ≡ v.slot_out → (v.known.seen ≡ r.history → w.known.seen ≡ r.history) → ((p : ℕ) → AccountsForParty m start n v p → AccountsForParty m start n w p)
+      → ViewFits m start n r.history r.holder r.seat id w
+      → ((p : ℕ) → v.known.party ≡ Some p → w.known.party ≡ Some p) → ((p : ℕ) → KnowsLockRecords r.lock_history v p → KnowsLockRecords r.lock_history w p) → Extends w.known.lock_history r.lock_history
       → R (with_view s (set s.words k (get_or s.words k 0)) s.homes id w)
   still s r id v w at k held out seen answers fits party recalls met =
-      still_with s r id v w at k held out seen answers fits r.turns (turned_kept m.shards s.views r.turns r.holder r.holder r.seat id v w at (λ i lt. refl) (λ i lt e. party) recalls met r.turned)
+      still_with s r id v w at k held out seen answers fits r.lock_history (turned_kept m.shards s.views r.lock_history r.holder r.holder r.seat id v w at (λ i lt. refl) (λ i lt e. party) recalls met r.turned)
 
   abbrev pub updated : (ℕ → Option ℕ) → ℕ → Option ℕ → ℕ → Option ℕ
   updated f i o j = cond (eqb j i) o (f j)
@@ -143,11 +143,11 @@ module _ {S X E : Type 0} (m : Machine X E) (start : S) (n : ℕ) where
 
   -- the view of another seat, where one shard changes hands that was free or this seat's
   pub fits_other : (h : List E) (holder seat : ℕ → Option ℕ) (i id : ℕ) (o : Option ℕ) (k : ℕ) (u : V) → k ≢ id
-      → (holder i ≡ None) ⊎ (holder i ≡ Some id) → Fits m start n h holder seat k u → Fits m start n h (updated holder i o) seat k u
+      → (holder i ≡ None) ⊎ (holder i ≡ Some id) → ViewFits m start n h holder seat k u → ViewFits m start n h (updated holder i o) seat k u
   fits_other h holder seat i id o k u ne was f = record {
     begun = f.begun;
     seen = f.seen;
-    heard = f.heard;
+    note_history = f.note_history;
     looks = f.looks;
     own_seen = f.own_seen;
     party = f.party;
@@ -159,8 +159,8 @@ module _ {S X E : Type 0} (m : Machine X E) (start : S) (n : ℕ) where
           (λ apart. updated_else holder i j o apart ∙ old.1),
     );
     none = f.none;
-    gathers = f.gathers;
-    gathered = f.gathered;
+    is_closer = f.is_closer;
+    joined_passes = f.joined_passes;
     closed = f.closed;
   }
 
@@ -169,12 +169,12 @@ module _ {S X E : Type 0} (m : Machine X E) (start : S) (n : ℕ) where
       → (i b : ℕ) (hs : List (Maybe (Option X))) (o : Option ℕ)
       → (r.holder i ≡ None) ⊎ (r.holder i ≡ Some id)
       → ((j : ℕ) → j ≢ i → get_elem? hs (slot_of j) ≡ get_elem? s.homes (slot_of j))
-      → ((j : ℕ) → j ≢ i → held_at w.known.held j ≡ held_at v.known.held j) → ((j : ℕ) → j ≢ i → v.out ≡ Some j → w.out ≡ Some j)
+      → ((j : ℕ) → j ≢ i → held_at w.known.held j ≡ held_at v.known.held j) → ((j : ℕ) → j ≢ i → v.slot_out ≡ Some j → w.slot_out ≡ Some j)
       → (v.known.seen ≡ r.history → w.known.seen ≡ r.history)
-      → ((p : ℕ) → Answers m start n v p → Answers m start n w p)
+      → ((p : ℕ) → AccountsForParty m start n v p → AccountsForParty m start n w p)
       → IsShard m start n (with_view s (set s.words (word_of i) b) hs id w) r.history i o
-      → Fits m start n r.history (updated r.holder i o) r.seat id w
-      → (turns : List Turn) → Turned m.shards (set s.views id w) turns (updated r.holder i o) r.seat
+      → ViewFits m start n r.history (updated r.holder i o) r.seat id w
+      → (turns : List LockRecord) → LocksAgree m.shards (set s.views id w) turns (updated r.holder i o) r.seat
       → R (with_view s (set s.words (word_of i) b) hs id w)
   moved s r id v w at i b hs o was homes held out seen answers here fits turns turned =
       rebuild s r id v w at (set s.words (word_of i) b) hs (updated r.holder i o) (length-set s.words (word_of i) b) (get_or-set_other s.words (word_of i) zero b 0 (λ e. absurd (omega arith))) seen

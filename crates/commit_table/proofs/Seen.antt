@@ -13,13 +13,13 @@ module _ {E : Type 0} where
       (λ lt. subst (λ b. P (cond b ys xs) (cond b xs ys)) (sym (lt-ltb (length xs) (length ys) lt)) (below lt))
       (λ upto. subst (λ b. P (cond b ys xs) (cond b xs ys)) (sym (le-ltb (length xs) (length ys) (omega arith))) (over (omega arith)))
 
-  told_by : (b : Bool) (xs ys h : List E) → IsPrefix (cond b ys xs) h → IsPrefix (cond b xs ys) h → IsPrefix xs h × IsPrefix ys h
-  told_by true xs ys h p q = (q, p)
-  told_by false xs ys h p q = (p, q)
+  seen_by : (b : Bool) (xs ys h : List E) → IsPrefix (cond b ys xs) h → IsPrefix (cond b xs ys) h → IsPrefix xs h × IsPrefix ys h
+  seen_by true xs ys h p q = (q, p)
+  seen_by false xs ys h p q = (p, q)
 
   -- what goes on from the longer and from the other goes on from both
   pub both_begin : (xs ys h : List E) → IsPrefix (longer xs ys) h → IsPrefix (shorter xs ys) h → IsPrefix xs h × IsPrefix ys h
-  both_begin xs ys h p q = told_by (ltb (length xs) (length ys)) xs ys h p q
+  both_begin xs ys h p q = seen_by (ltb (length xs) (length ys)) xs ys h p q
 
   module _ (xs ys h : List E) (p : IsPrefix xs h) (q : IsPrefix ys h) where
     pub longer_begins : IsPrefix (longer xs ys) h

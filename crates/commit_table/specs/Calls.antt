@@ -3,12 +3,12 @@ use Rattle.std.specs.Prelude.{◌≡◌, ℕ, ◌+◌, ◌*◌, ◌-◌, ◌^◌
 use Rattle.std.specs.List.{list_any}
 use mathlib.Core.List.{IsPrefix}
 use Rattle.atomic_table.specs.Seated.{TableId}
-use Rattle.commit_table.specs.declared.views.Known.{Known}
-use Rattle.commit_table.specs.declared.views.Turn.{Turn}
+use Rattle.commit_table.specs.declared.views.PassView.{PassView}
+use Rattle.commit_table.specs.declared.views.LockRecord.{LockRecord}
 use Rattle.commit_table.specs.declared.views.LockOp.TheVariants as lock_op
-use Rattle.commit_table.specs.Turns.{holder_in, turns_by, GoOn}
+use Rattle.commit_table.specs.LockHistory.{holder_in, lock_records_by, Extends}
 use Rattle.commit_table.specs.Machine.{Machine, events_by, IsOwn}
-use Rattle.commit_table.specs.Views.{held_at, looked, committed}
+use Rattle.commit_table.specs.Views.{held_at, after_look, after_commit}
 
 -- a table: which one it is, the start that it was told, and how many passes it made
 pub record TableValue (S : Type 0) : Type 0 where
@@ -19,13 +19,13 @@ pub record TableValue (S : Type 0) : Type 0 where
 -- a pass or a note: of which table it is, and what it knows
 pub record PassValue (S E : Type 0) : Type 0 where
   pub table : TableId
-  pub known : Known S E
+  pub known : PassView S E
 
 -- what a closed table is known for: the start that it was told, the whole history, and what each pass knew, in the order in which they were given
 pub record TallyValue (S E : Type 0) : Type 0 where
   pub start : Option S
   pub journal : List E
-  pub passes : List (Known S E)
+  pub passes : List (PassView S E)
 
 -- The journal word is word 0. Words of the table stand apart, so that no two are on one line of a processor's cache, nor are two
 -- slots: the word of a shard, and its slot
@@ -58,17 +58,17 @@ module _ {S E : Type 0} where
   abbrev pub IsOf : TableValue S → PassValue S E → Type 0
   IsOf t p = (p.table ≡ t.table) × (p.known.start ≡ Some t.start)
 
-  abbrev pub HoldsNone : Known S E → Type 0
+  abbrev pub HoldsNone : PassView S E → Type 0
   HoldsNone v = (i : ℕ) → held_at v.held i ≡ None
 
   -- a shard was missed: of the turns of all passes, this miss is the newest. Those before it go on from what the pass's last miss told,
   -- have of its party just its own turns, and in them another party holds the shard
-  pub record Met (v : Known S E) (i : ℕ) (turns : List Turn) : Type 0 where
+  pub record MissWitness (v : PassView S E) (i : ℕ) (turns : List LockRecord) : Type 0 where
     pub has_party : (p : ℕ) × (v.party ≡ Some p)
-    pub before : List Turn
+    pub before : List LockRecord
     pub first : (p : ℕ) → v.party ≡ Some p → turns ≡ record { shard = i; party = p; op = lock_op.Missed } ∷ before
-    pub goes_on : GoOn v.met before
-    pub own : (p : ℕ) → v.party ≡ Some p → turns_by p before ≡ v.turns
+    pub goes_on : Extends v.lock_history before
+    pub own : (p : ℕ) → v.party ≡ Some p → lock_records_by p before ≡ v.lock_records
     pub other : ℕ
     pub holds : holder_in before i ≡ Some other
     pub apart : ¬ (v.party ≡ Some other)
@@ -80,20 +80,20 @@ module _ {S E : Type 0} where
 
 module _ {S X E : Type 0} (m : Machine X E) where
   -- what was seen is legal, and has of the pass's party just the pass's own events
-  pub record IsSound (v : Known S E) : Type 0 where
+  pub record HasSoundView (v : PassView S E) : Type 0 where
     pub legal : m.Legal v.seen
     pub own : IsOwn m v.party v.seen v.mine
 
   -- a shard was taken, and its value stands for the history g, which is legal and goes on from what was seen
-  pub record Taken (v : Known S E) (i : ℕ) (x : X) (g : List E) : Type 0 where
+  pub record ShardTaken (v : PassView S E) (i : ℕ) (x : X) (g : List E) : Type 0 where
     pub seen : IsPrefix v.seen g
     pub legal : m.Legal g
     pub stands : m.Stands i x g
 
   -- the history so far was seen, and its length told. It is legal and goes on from what was seen before, its events of the
   -- pass's party are the pass's own, and on each shard that the pass holds it is as it was when the shard was taken
-  pub record Looked (v : Known S E) (number : ℕ) (h : List E) (w : Known S E) : Type 0 where
-    pub is : w ≡ looked v h
+  pub record Looked (v : PassView S E) (number : ℕ) (h : List E) (w : PassView S E) : Type 0 where
+    pub is : w ≡ after_look v h
     pub number_is : number ≡ length h
     pub legal : m.Legal h
     pub seen : IsPrefix v.seen h
@@ -102,7 +102,7 @@ module _ {S X E : Type 0} (m : Machine X E) where
 
   -- a pass may commit an event: it is the event's party, where that has one; the event may follow what was seen; and each
   -- of the event's shards is held, with a history that agrees with what was seen there
-  pub record MayCommit (v : Known S E) (e : E) : Type 0 where
+  pub record MayCommit (v : PassView S E) (e : E) : Type 0 where
     pub party : (p : ℕ) → m.party e ≡ Some p → v.party ≡ Some p
     pub legal : m.Legal (v.seen ++ e ∷ [])
     pub held : (i : ℕ) → list_any (eqb i) (m.shards_of v.seen e) ≡ true → (g : List E) × (held_at v.held i ≡ Some g) × m.Agree i v.seen g
@@ -110,8 +110,8 @@ module _ {S X E : Type 0} (m : Machine X E) where
   -- the event was committed at a place, behind the history h, which goes on from what was seen and agrees with it on the
   -- event's shards. The pass has seen all that, and the events of its party there are its own. On each shard that it holds,
   -- of the event or not, what it has seen is as it holds the shard: so it may commit an event of another without a look
-  pub record Committed (v : Known S E) (e : E) (place : ℕ) (h : List E) (w : Known S E) : Type 0 where
-    pub is : w ≡ committed v h e (m.party e) (m.shards_of v.seen e)
+  pub record Committed (v : PassView S E) (e : E) (place : ℕ) (h : List E) (w : PassView S E) : Type 0 where
+    pub is : w ≡ after_commit v h e (m.party e) (m.shards_of v.seen e)
     pub place_is : place ≡ length h
     pub legal : m.Legal (h ++ e ∷ [])
     pub seen : IsPrefix v.seen h
@@ -121,11 +121,11 @@ module _ {S X E : Type 0} (m : Machine X E) where
 
   -- the history is whole: it is legal, each pass has seen a beginning of it, the events of a pass's party are the pass's
   -- own, and no other party has any
-  pub record Closed (journal : List E) (passes : List (Known S E)) : Type 0 where
+  pub record Closed (journal : List E) (passes : List (PassView S E)) : Type 0 where
     pub legal : m.Legal journal
-    pub seen : (k : ℕ) (v : Known S E) → slice_get passes k ≡ Some v → IsPrefix v.seen journal
-    pub own : (k : ℕ) (v : Known S E) → slice_get passes k ≡ Some v → IsOwn m v.party journal v.mine
-    pub others : (p : ℕ) → ((k : ℕ) (v : Known S E) → slice_get passes k ≡ Some v → ¬ (v.party ≡ Some p)) → events_by m.party p journal ≡ []
+    pub seen : (k : ℕ) (v : PassView S E) → slice_get passes k ≡ Some v → IsPrefix v.seen journal
+    pub own : (k : ℕ) (v : PassView S E) → slice_get passes k ≡ Some v → IsOwn m v.party journal v.mine
+    pub others : (p : ℕ) → ((k : ℕ) (v : PassView S E) → slice_get passes k ≡ Some v → ¬ (v.party ≡ Some p)) → events_by m.party p journal ≡ []
 
 -- the values of all shards, in order, stand for a history
 pub record AreShards {X E : Type 0} (m : Machine X E) (values : List X) (h : List E) : Type 0 where

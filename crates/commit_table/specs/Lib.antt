@@ -1,12 +1,12 @@
 pub mod Machine
 pub mod Views
-pub mod Turns
+pub mod LockHistory
 pub mod Rule
 pub mod Steps
 pub mod Calls
-pub mod Parts
-pub mod PartLaws
-pub mod PartJournals
+pub mod Projections
+pub mod ProjectionLaws
+pub mod ProjectionJournals
 pub mod Counters
 pub mod CounterLaws
 pub mod Attempts

@@ -1,8 +1,8 @@
 -- What a pass knows, in words, and what each call makes of it.
 use Rattle.std.specs.Prelude.{ℕ, false, true, cond, eqb, ltb, List, [], ◌∷◌, ◌++◌, length, Option, None, Some}
-use Rattle.commit_table.specs.declared.views.Known.{Known}
-use Rattle.commit_table.specs.declared.views.View.{View}
-use Rattle.commit_table.specs.declared.views.Turn.{Turn}
+use Rattle.commit_table.specs.declared.views.PassView.{PassView}
+use Rattle.commit_table.specs.declared.views.SeatView.{SeatView}
+use Rattle.commit_table.specs.declared.views.LockRecord.{LockRecord}
 use Rattle.commit_table.specs.declared.views.LockOp.TheVariants as lock_op
 
 module _ {E : Type 0} where
@@ -30,70 +30,70 @@ module _ {E : Type 0} where
 
 module _ {S E : Type 0} where
   -- the pass of a party before its first call, and a pass of no party that has seen a history
-  abbrev pub new_pass : S → Option ℕ → List E → Known S E
-  new_pass start party seen = record { start = Some start; party = party; seen = seen; mine = []; commits = []; looks = []; held = []; missed = []; turns = []; met = [] }
+  abbrev pub new_pass : S → Option ℕ → List E → PassView S E
+  new_pass start party seen = record { start = Some start; party = party; seen = seen; mine = []; commits = []; looks = []; held = []; missed = []; lock_records = []; lock_history = [] }
 
   -- what a note of a pass tells: what it has seen, and no more
-  abbrev pub noted : Known S E → Known S E
-  noted v = record { start = v.start; party = None; seen = v.seen; mine = []; commits = []; looks = []; held = []; missed = []; turns = []; met = [] }
+  abbrev pub noted : PassView S E → PassView S E
+  noted v = record { start = v.start; party = None; seen = v.seen; mine = []; commits = []; looks = []; held = []; missed = []; lock_records = []; lock_history = [] }
 
   -- another seat's history was taken over, where it is the longer one
-  abbrev pub also_seen : Known S E → List E → Known S E
+  abbrev pub also_seen : PassView S E → List E → PassView S E
   also_seen v s = record v { seen = longer v.seen s }
 
   -- a shard was taken, whose value stands for g; it was missed, as these turns tell; it was given back
-  abbrev pub took : Known S E → ℕ → List E → Known S E
-  took v i g = record v { held = (i, Some g) ∷ v.held; turns = (i, lock_op.Took) ∷ v.turns }
+  abbrev pub after_take : PassView S E → ℕ → List E → PassView S E
+  after_take v i g = record v { held = (i, Some g) ∷ v.held; lock_records = (i, lock_op.Took) ∷ v.lock_records }
 
-  abbrev pub missed : Known S E → ℕ → List Turn → Known S E
-  missed v i met = record v { missed = v.missed ++ i ∷ []; turns = (i, lock_op.Missed) ∷ v.turns; met = met }
+  abbrev pub after_miss : PassView S E → ℕ → List LockRecord → PassView S E
+  after_miss v i met = record v { missed = v.missed ++ i ∷ []; lock_records = (i, lock_op.Missed) ∷ v.lock_records; lock_history = met }
 
-  abbrev pub gave_back : Known S E → ℕ → Known S E
-  gave_back v i = record v { held = (i, None) ∷ v.held; turns = (i, lock_op.GaveBack) ∷ v.turns }
+  abbrev pub after_give_back : PassView S E → ℕ → PassView S E
+  after_give_back v i = record v { held = (i, None) ∷ v.held; lock_records = (i, lock_op.GaveBack) ∷ v.lock_records }
 
   -- the history h was seen
-  abbrev pub looked : Known S E → List E → Known S E
-  looked v h = record v { seen = h; looks = v.looks ++ length h ∷ [] }
+  abbrev pub after_look : PassView S E → List E → PassView S E
+  after_look v h = record v { seen = h; looks = v.looks ++ length h ∷ [] }
 
   -- the event e of a party was committed behind h, on these shards
-  abbrev pub committed : Known S E → List E → E → Option ℕ → List ℕ → Known S E
-  committed v h e party shards = record v { seen = h ++ e ∷ []; mine = mine_after party v.mine e; commits = v.commits ++ length h ∷ []; held = holds_all shards (h ++ e ∷ []) v.held }
+  abbrev pub after_commit : PassView S E → List E → E → Option ℕ → List ℕ → PassView S E
+  after_commit v h e party shards = record v { seen = h ++ e ∷ []; mine = mine_after party v.mine e; commits = v.commits ++ length h ∷ []; held = holds_all shards (h ++ e ∷ []) v.held }
 
   -- a seat between two calls: no slot is out, and nothing else is under way
-  abbrev pub at_rest : Known S E → View S E
-  at_rest v = record { known = v; out = None; heard = []; gives = 0; ends = 0; gathers = false; gathered = []; closed = false }
+  abbrev pub at_rest : PassView S E → SeatView S E
+  at_rest v = record { known = v; slot_out = None; note_history = []; first_party = 0; end_party = 0; is_closer = false; joined_passes = []; closed = false }
 
   -- the slot of a shard is out with the seat
-  abbrev pub reaching : Known S E → ℕ → View S E
-  reaching v i = record (at_rest v) { out = Some i }
+  abbrev pub with_slot_out : PassView S E → ℕ → SeatView S E
+  with_slot_out v i = record (at_rest v) { slot_out = Some i }
 
   -- a history is remembered; and so it is where the seat took in a note that had seen s: of the two histories the longer is now
   -- what the seat has seen, and it remembers the other
-  abbrev pub recalling : Known S E → List E → View S E
-  recalling v h = record (at_rest v) { heard = h }
+  abbrev pub with_kept_history : PassView S E → List E → SeatView S E
+  with_kept_history v h = record (at_rest v) { note_history = h }
 
-  abbrev pub hearing : Known S E → List E → View S E
-  hearing v s = recalling (also_seen v s) (shorter v.seen s)
+  abbrev pub with_note : PassView S E → List E → SeatView S E
+  with_note v s = with_kept_history (also_seen v s) (shorter v.seen s)
 
   -- the seat that makes the passes from k on and below n
-  abbrev pub maker : S → ℕ → ℕ → View S E
-  maker start k n = record (at_rest (new_pass start None [])) { gives = k; ends = n }
+  abbrev pub splitting_seat : S → ℕ → ℕ → SeatView S E
+  splitting_seat start k n = record (at_rest (new_pass start None [])) { first_party = k; end_party = n }
 
   -- the seat that takes in all passes to close the table, when it has seen a history; and then the same when it has looked last
-  abbrev pub gatherer : S → List E → List (Known S E) → View S E
-  gatherer start seen passes = record (at_rest (new_pass start None seen)) { gathers = true; gathered = passes }
+  abbrev pub closing_seat : S → List E → List (PassView S E) → SeatView S E
+  closing_seat start seen passes = record (at_rest (new_pass start None seen)) { is_closer = true; joined_passes = passes }
 
-  abbrev pub closer : S → List E → List (Known S E) → View S E
-  closer start h passes = record (gatherer start h passes) { closed = true }
+  abbrev pub closed_seat : S → List E → List (PassView S E) → SeatView S E
+  closed_seat start h passes = record (closing_seat start h passes) { closed = true }
 
   -- it took in a pass: of the two histories the longer is now what it has seen, and it remembers the pass with its own
-  abbrev pub gathering : View S E → Known S E → View S E
-  gathering v w = record v { known = also_seen v.known w.seen; gathered = v.gathered ++ w ∷ [] }
+  abbrev pub with_pass : SeatView S E → PassView S E → SeatView S E
+  with_pass v w = record v { known = also_seen v.known w.seen; joined_passes = v.joined_passes ++ w ∷ [] }
 
   -- what a seat that closed the table has seen and taken in, alone
-  abbrev pub tally_of : View S E → View S E
-  tally_of v = record (at_rest (noted v.known)) { gathered = v.gathered }
+  abbrev pub tally_of : SeatView S E → SeatView S E
+  tally_of v = record (at_rest (noted v.known)) { joined_passes = v.joined_passes }
 
   -- what is left of a seat that another took in
-  abbrev pub spent : View S E
-  spent = at_rest (record { start = None; party = None; seen = []; mine = []; commits = []; looks = []; held = []; missed = []; turns = []; met = [] })
+  abbrev pub joined_seat : SeatView S E
+  joined_seat = at_rest (record { start = None; party = None; seen = []; mine = []; commits = []; looks = []; held = []; missed = []; lock_records = []; lock_history = [] })

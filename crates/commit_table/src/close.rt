@@ -1,17 +1,17 @@
 //! A table that no thread uses any more gives its shards and what is known of its history.
 ghost use Rattle.std.specs.Prelude.{◌≡◌, ℕ, ◌+◌, ◌%◌, ◌<◌, ◌≤◌, false, IsTrue, Option, Some, None, List, [], ◌∷◌, ◌++◌, map, length, slice_get, slice_set, slice_index_or, vec_len, vec_capacity};
-ghost use Rattle.commit_table.specs.Views.{gatherer, closer, tally_of};
-ghost use Rattle.commit_table.specs.Steps.{Ends};
+ghost use Rattle.commit_table.specs.Views.{closing_seat, closed_seat, tally_of};
+ghost use Rattle.commit_table.specs.Steps.{EndsTable};
 ghost use Rattle.commit_table.specs.Calls.{slot_of, IsSized, AreWhole, Closed, AreShards};
 ghost use Rattle.atomic_table.specs.Table.{Final, Seen};
 ghost use Rattle.std.specs.Mem.Slots.{IsFull, slots_items, slots_filled, slots_len};
 ghost use mathlib.Core.Option.{some};
 ghost use lib.ListN.{get_elem?};
 
-use crate::board::{Board, Place, Whole};
 use crate::pass::Pass;
-use crate::seats::{gather_pass, keep_tally, last_look, open_gatherer};
+use crate::seats::{join_pass, last_look, open_closer, split_tally};
 use crate::sharded::Sharded;
+use crate::shared_table::{OwnedTable, SharedTable, TableSeat};
 use crate::table::CommitTable;
 use std::alloc::Global;
 use std::marker::Model;
@@ -19,7 +19,7 @@ use std::marker::Model;
 /// What is known of a closed table's history. Its length is known when the program runs, the rest in proofs.
 #[derive(Drop)]
 pub struct Tally<M: Sharded> {
-    seat: Place<M>,
+    seat: TableSeat<M>,
     length: u64,
 }
 
@@ -29,7 +29,7 @@ impl<M: Sharded> Model for Tally<M> {
 
     ghost Value = { TallyValue M M.Event };
 
-    ghost view = { λ t. record { start = t.seat.me.0.known.start; journal = t.seat.me.0.known.seen; passes = t.seat.me.0.gathered } };
+    ghost view = { λ t. record { start = t.seat.me.0.known.start; journal = t.seat.me.0.known.seen; passes = t.seat.me.0.joined_passes } };
 
     ghost invariant = { λ t. t.length ≡ count t.seat.me.0.known.seen };
 }
@@ -45,22 +45,22 @@ impl<M: Sharded> Tally<M> {
 
 /// A table that was closed.
 #[derive(Drop)]
-pub struct Ended<M: Sharded> {
+pub struct ClosedTable<M: Sharded> {
     /// The values of all shards, in order.
     pub shards: Vec<M::Shard>,
     pub tally: Tally<M>,
 }
 
 // Takes in all passes, in order.
-fn gather_all<M: Sharded>(board: &Board<M>, passes: Vec<Pass<M>>) -> Place<M>
+fn join_all<M: Sharded>(board: &SharedTable<M>, passes: Vec<Pass<M>>) -> TableSeat<M>
     requires size { IsSized board.now.table_id (M.machine board.now.key.start).shards }
     requires whole { AreWhole (record { table = board.now.table_id; start = board.now.key.start; passes = board.now.key.passes }) passes.items }
     ensures seat { result.table_id ≡ board.now.table_id }
-    ensures told { result.me ≡ (gatherer board.now.key.start result.me.0.known.seen (map (λ p. p.known) passes.items), []) }
+    ensures told { result.me ≡ (closing_seat board.now.key.start result.me.0.known.seen (map (λ p. p.known) passes.items), []) }
 {
-    let mut seat = open_gatherer(board);
+    let mut seat = open_closer(board);
     for pass in passes {
-        gather_pass(board, &mut seat, pass.into_seat());
+        join_pass(board, &mut seat, pass.into_seat());
     }
     seat
 }
@@ -121,10 +121,14 @@ fn move_values<X: Drop>(
 }
 
 // Closes the table that the seat looked at last, with nothing of it held.
-fn values_of<M: Sharded>(table: Whole<M>, seat: Place<M>, room: Vec<M::Shard>) -> Vec<M::Shard>
+fn values_of<M: Sharded>(
+    table: OwnedTable<M>,
+    seat: TableSeat<M>,
+    room: Vec<M::Shard>,
+) -> Vec<M::Shard>
     requires table { seat.table_id ≡ table.shared.table_id }
     requires size { IsSized table.shared.table_id (M.machine table.shared.key.start).shards }
-    requires ready { seat.me ≡ (closer table.shared.key.start seat.me.0.known.seen seat.me.0.gathered, []) }
+    requires ready { seat.me ≡ (closed_seat table.shared.key.start seat.me.0.known.seen seat.me.0.joined_passes, []) }
     requires room { (room.items ≡ []) × (vec_len room ≡ 0) × ((M.machine table.shared.key.start).shards ≤ vec_capacity room) }
     ensures { AreShards (M.machine table.shared.key.start) result.items seat.me.0.known.seen }
 {
@@ -133,7 +137,7 @@ fn values_of<M: Sharded>(table: Whole<M>, seat: Place<M>, room: Vec<M::Shard>) -
 
 impl<M: Sharded> CommitTable<M> {
     /// Closes the table, with all its passes. It takes no memory.
-    pub fn close(self, passes: Vec<Pass<M>>) -> Ended<M>
+    pub fn close(self, passes: Vec<Pass<M>>) -> ClosedTable<M>
         requires { AreWhole self passes.items }
         ensures passes { result.tally.passes ≡ map (λ p. p.known) passes.items }
         ensures start { result.tally.start ≡ Some self.start }
@@ -141,11 +145,11 @@ impl<M: Sharded> CommitTable<M> {
         ensures shards { AreShards (M.machine self.start) result.shards.items result.tally.journal }
     {
         let CommitTable { table, begin, room } = self;
-        let mut seat = gather_all(&table.shared, passes);
+        let mut seat = join_all(&table.shared, passes);
         let length = last_look(&table.shared, &mut seat);
-        let kept = keep_tally(&table.shared, &mut seat);
+        let kept = split_tally(&table.shared, &mut seat);
         drop(begin);
-        Ended {
+        ClosedTable {
             shards: values_of(table, seat, room),
             tally: Tally { seat: kept, length },
         }

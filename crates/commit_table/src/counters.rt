@@ -1,12 +1,12 @@
 //! Two counters that threads raise: the smallest machine for a table, for tests and as an example.
 ghost use Rattle.std.specs.Prelude.{◌≡◌, ◌≢◌, ℕ, ◌<◌, List, Some, None, MatchOption};
-ghost use Rattle.commit_table.specs.declared.counters.Deal.{Deal};
-ghost use Rattle.commit_table.specs.declared.counters.Deal.TheVariants.{Raise, Carry};
+ghost use Rattle.commit_table.specs.declared.counters.CounterEvent.{CounterEvent};
+ghost use Rattle.commit_table.specs.declared.counters.CounterEvent.TheVariants.{Raise, Carry};
 ghost use Rattle.commit_table.specs.Views.{held_at};
 ghost use Rattle.commit_table.specs.Counters.{most, counters};
 ghost use Rattle.commit_table.specs.Calls.{IsOf, HoldsNone};
-ghost use Rattle.commit_table.specs.Attempts.{Recorded};
-ghost use Rattle.commit_table.specs.Outcomes.{Told, RaisedBoth};
+ghost use Rattle.commit_table.specs.Attempts.{IsCommittedOnce};
+ghost use Rattle.commit_table.specs.Outcomes.{IsOutcome, RaisedBoth};
 
 use crate::pass::Pass;
 use crate::sharded::Sharded;
@@ -17,7 +17,7 @@ const MOST: u64 = 1_000_000;
 
 /// An event of the counters.
 #[derive(Drop)]
-pub enum Deal {
+pub enum CounterEvent {
     /// A party raises a counter by 1.
     Raise(u32, u32),
     /// 1 goes from the first counter to the second. No party is named, so any pass may do it.
@@ -31,7 +31,7 @@ pub struct Counters;
 impl Sharded for Counters {
     type Shard = u64;
 
-    type Event = Deal;
+    type Event = CounterEvent;
 
     ghost use Rattle.commit_table.specs.Counters.{counters};
     ghost use Rattle.commit_table.specs.CounterLaws.{counters_lawful};
@@ -50,15 +50,15 @@ pub fn raise_held(
 ) -> u64
     requires pass { IsOf table.now pass.old }
     requires counter { counter < 2 }
-    requires held { (g : List Deal) × (held_at pass.old.known.held counter ≡ Some g) × counters.Stands counter value g }
+    requires held { (g : List CounterEvent) × (held_at pass.old.known.held counter ≡ Some g) × counters.Stands counter value g }
     requires room { value < most }
     ensures table { pass.new.table ≡ pass.old.table }
-    ensures told { (p : ℕ) × (pass.old.known.party ≡ Some p) × Recorded counters pass.old.known (Raise p counter) result pass.new.known }
+    ensures told { (p : ℕ) × (pass.old.known.party ≡ Some p) × IsCommittedOnce counters pass.old.known (Raise p counter) result pass.new.known }
     ensures given { held_at pass.new.known.held counter ≡ None }
     ensures others { (i : ℕ) → i ≢ counter → held_at pass.new.known.held i ≡ held_at pass.old.known.held i }
 {
     let _ = table.look(pass);
-    let deal = Deal::Raise(CommitTable::number(pass), counter);
+    let deal = CounterEvent::Raise(CommitTable::number(pass), counter);
     let place = table.commit(pass, &deal);
     table.give_back(pass, counter, value + 1);
     place
@@ -66,7 +66,7 @@ pub fn raise_held(
 
 /// What an attempt came to.
 #[derive(Drop)]
-pub enum Outcome {
+pub enum CounterAnswer {
     /// The event stands at this place.
     Done(u64),
     /// Another pass held one of the attempt's counters, which was missed: of a raise the counter that it raises, of a carry
@@ -78,23 +78,27 @@ pub enum Outcome {
 }
 
 /// Raises a counter.
-pub fn raise(table: &CommitTable<Counters>, pass: &mut Pass<Counters>, counter: u32) -> Outcome
+pub fn raise(
+    table: &CommitTable<Counters>,
+    pass: &mut Pass<Counters>,
+    counter: u32,
+) -> CounterAnswer
     requires pass { IsOf table.now pass.old }
     requires counter { counter < 2 }
     requires free { HoldsNone pass.old.known }
     ensures table { pass.new.table ≡ pass.old.table }
     ensures free { HoldsNone pass.new.known }
-    ensures told { Told (λ i. i ≡ counter) (λ e. (p : ℕ) × (e ≡ Raise p counter) × (pass.old.known.party ≡ Some p)) pass.old.known result pass.new.known }
+    ensures told { IsOutcome (λ i. i ≡ counter) (λ e. (p : ℕ) × (e ≡ Raise p counter) × (pass.old.known.party ≡ Some p)) pass.old.known result pass.new.known }
 {
     let Some(value) = table.try_take(pass, counter) else {
-        return Outcome::Busy;
+        return CounterAnswer::Busy;
     };
     if value < MOST {
-        return Outcome::Done(raise_held(table, pass, counter, value));
+        return CounterAnswer::Done(raise_held(table, pass, counter, value));
     }
     table.look(pass);
     table.give_back(pass, counter, value);
-    Outcome::Stuck
+    CounterAnswer::Stuck
 }
 
 /// Raises both counters, which the pass holds, and gives them back. One look serves both events, since a commit leaves the
@@ -106,8 +110,8 @@ pub fn raise_both_held(
     second: u64,
 ) -> u64
     requires pass { IsOf table.now pass.old }
-    requires first { (g : List Deal) × (held_at pass.old.known.held 0 ≡ Some g) × counters.Stands 0 first g }
-    requires second { (g : List Deal) × (held_at pass.old.known.held 1 ≡ Some g) × counters.Stands 1 second g }
+    requires first { (g : List CounterEvent) × (held_at pass.old.known.held 0 ≡ Some g) × counters.Stands 0 first g }
+    requires second { (g : List CounterEvent) × (held_at pass.old.known.held 1 ≡ Some g) × counters.Stands 1 second g }
     requires room { (first < most) × (second < most) }
     requires others { (i : ℕ) → 1 < i → held_at pass.old.known.held i ≡ None }
     ensures table { pass.new.table ≡ pass.old.table }
@@ -116,9 +120,9 @@ pub fn raise_both_held(
 {
     table.look(pass);
     let party = CommitTable::number(pass);
-    let _ = table.commit(pass, &Deal::Raise(party, 0));
+    let _ = table.commit(pass, &CounterEvent::Raise(party, 0));
     table.give_back(pass, 0, first + 1);
-    let place = table.commit(pass, &Deal::Raise(party, 1));
+    let place = table.commit(pass, &CounterEvent::Raise(party, 1));
     table.give_back(pass, 1, second + 1);
     place
 }
@@ -131,41 +135,41 @@ fn carry_held(
     second: u64,
 ) -> u64
     requires pass { IsOf table.now pass.old }
-    requires first { (g : List Deal) × (held_at pass.old.known.held 0 ≡ Some g) × counters.Stands 0 first g }
-    requires second { (g : List Deal) × (held_at pass.old.known.held 1 ≡ Some g) × counters.Stands 1 second g }
+    requires first { (g : List CounterEvent) × (held_at pass.old.known.held 0 ≡ Some g) × counters.Stands 0 first g }
+    requires second { (g : List CounterEvent) × (held_at pass.old.known.held 1 ≡ Some g) × counters.Stands 1 second g }
     requires room { (0 < first) × (second < most) }
     requires others { (i : ℕ) → 1 < i → held_at pass.old.known.held i ≡ None }
     ensures table { pass.new.table ≡ pass.old.table }
     ensures free { HoldsNone pass.new.known }
-    ensures told { Recorded counters pass.old.known Carry result pass.new.known }
+    ensures told { IsCommittedOnce counters pass.old.known Carry result pass.new.known }
 {
     table.look(pass);
-    let place = table.commit(pass, &Deal::Carry);
+    let place = table.commit(pass, &CounterEvent::Carry);
     table.give_back(pass, 1, second + 1);
     table.give_back(pass, 0, first - 1);
     place
 }
 
 /// Carries 1 from the first counter to the second. Where the second is missed, the first is given back.
-pub fn carry(table: &CommitTable<Counters>, pass: &mut Pass<Counters>) -> Outcome
+pub fn carry(table: &CommitTable<Counters>, pass: &mut Pass<Counters>) -> CounterAnswer
     requires pass { IsOf table.now pass.old }
     requires free { HoldsNone pass.old.known }
     ensures table { pass.new.table ≡ pass.old.table }
     ensures free { HoldsNone pass.new.known }
-    ensures told { Told (λ i. i < 2) (λ e. e ≡ Carry) pass.old.known result pass.new.known }
+    ensures told { IsOutcome (λ i. i < 2) (λ e. e ≡ Carry) pass.old.known result pass.new.known }
 {
     let Some(first) = table.try_take(pass, 0) else {
-        return Outcome::Busy;
+        return CounterAnswer::Busy;
     };
     let Some(second) = table.try_take(pass, 1) else {
         table.give_back(pass, 0, first);
-        return Outcome::Busy;
+        return CounterAnswer::Busy;
     };
     if first > 0 && second < MOST {
-        return Outcome::Done(carry_held(table, pass, first, second));
+        return CounterAnswer::Done(carry_held(table, pass, first, second));
     }
     table.look(pass);
     table.give_back(pass, 1, second);
     table.give_back(pass, 0, first);
-    Outcome::Stuck
+    CounterAnswer::Stuck
 }

@@ -2,41 +2,43 @@
 //!
 //! The state of a machine lies in shards. Threads share a `CommitTable` of them, and each holds a `Pass`: it takes the
 //! shards of an event, looks, commits the event by one atomic addition, and gives the shards back. What they commit is one
-//! legal history, which exists in proofs alone. A contract sees a pass as what it knows (`Known`): the history as it was
+//! legal history, which exists in proofs alone. A contract sees a pass as what it knows (`PassView`): the history as it was
 //! seen, its own events, its looks, and the shards that it holds.
 //!
 //! `specs/Machine.antt` says what a machine has to be, `specs/Rule.antt` what holds between any two steps, and
 //! `specs/Calls.antt` what each call tells. No call of the table waits, and `CommitTable::new` alone takes memory.
 //!
-//! A thread that missed a shard waits by a `Pauses`, which can watch `Changes` of other threads. Two machines of counters serve tests and
+//! A thread that missed a shard waits by a `BackOff`, which can watch `Changes` of other threads. Two machines of counters serve tests and
 //! measures; `raised_by_two` lets two threads race for one.
 #![tactic(auto)]
 
-mod board;
+mod atomic_steps;
+mod back_off;
 mod changes;
 mod close;
+mod counter_tables;
 mod counters;
-mod games;
-mod holds;
 mod pass;
-mod pauses;
-mod plays;
 mod races;
 mod ranks;
 mod seats;
+mod shard_calls;
 mod sharded;
+mod shared_table;
 mod steps;
 mod table;
 mod views;
 
+pub use back_off::BackOff;
 pub use changes::{Change, Changes, Watched};
-pub use close::{Ended, Tally};
-pub use counters::{Counters, Deal, Outcome, carry, raise, raise_both_held, raise_held};
-pub use games::{Game, end_game, start_game};
+pub use close::{ClosedTable, Tally};
+pub use counter_tables::{CounterTable, close_counters, start_counters};
+pub use counters::{
+    CounterAnswer, CounterEvent, Counters, carry, raise, raise_both_held, raise_held,
+};
 pub use pass::{Note, Pass};
-pub use pauses::Pauses;
 pub use races::{raise_often, raised_by_two};
-pub use ranks::{Act, Noted, RankPart, TwoRanks, parts_are_the_history};
+pub use ranks::{PlacedRankEvent, RankEvent, RankProjection, TwoRanks, parts_are_the_history};
 pub use sharded::Sharded;
 pub use table::CommitTable;
-pub use views::{Known, LockOp, Turn, View};
+pub use views::{LockOp, LockRecord, PassView, SeatView};

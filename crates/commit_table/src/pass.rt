@@ -1,14 +1,14 @@
 //! What the holder of a pass has, and notes that passes send to one another.
 ghost use Rattle.std.specs.Prelude.{◌≡◌, ℕ, ◌+◌, ◌-◌, ◌^◌, ◌<◌, Option, Some, None, List, [], ◌∷◌, length, min, slice_index, slice_set, vec_len, IfOk, IfSome, IfNone};
-ghost use Rattle.commit_table.specs.declared.views.Turn.{Turn};
-ghost use Rattle.commit_table.specs.Views.{at_rest, held_at, new_pass, noted, took, missed, gave_back};
-ghost use Rattle.commit_table.specs.Calls.{slot_of, IsSized, IsSound, Taken, Met, Looked, MayCommit, Committed, misses_in};
+ghost use Rattle.commit_table.specs.declared.views.LockRecord.{LockRecord};
+ghost use Rattle.commit_table.specs.Views.{at_rest, held_at, new_pass, noted, after_take, after_miss, after_give_back};
+ghost use Rattle.commit_table.specs.Calls.{slot_of, IsSized, HasSoundView, ShardTaken, MissWitness, Looked, MayCommit, Committed, misses_in};
 ghost use mathlib.Core.List.{IsPrefix};
 
-use crate::board::{Board, Place};
-use crate::holds::{add, give, take};
-use crate::seats::{hear_note, part_note};
+use crate::seats::{join_note, split_note};
+use crate::shard_calls::{add_event, give_back_shard, take_shard};
 use crate::sharded::Sharded;
+use crate::shared_table::{SharedTable, TableSeat};
 use crate::steps::look_word;
 use std::alloc::{AllocError, Global};
 use std::marker::Model;
@@ -16,7 +16,7 @@ use std::marker::Model;
 /// The right to act as one party of a machine. It may move to another thread, and it holds what that thread knows.
 #[derive(Drop)]
 pub struct Pass<M: Sharded> {
-    seat: Place<M>,
+    seat: TableSeat<M>,
     party: u32,
     misses: Vec<u64>,
 }
@@ -36,7 +36,7 @@ impl<M: Sharded> Model for Pass<M> {
 /// What a pass has seen, to be told to another pass. It has no party.
 #[derive(Drop)]
 pub struct Note<M: Sharded> {
-    seat: Place<M>,
+    seat: TableSeat<M>,
 }
 
 impl<M: Sharded> Model for Note<M> {
@@ -54,7 +54,7 @@ impl<M: Sharded> Model for Note<M> {
 impl<M: Sharded> Pass<M> {
     pub(crate) fn new(
         alloc: Global,
-        seat: Place<M>,
+        seat: TableSeat<M>,
         party: u32,
         shards: usize,
     ) -> Result<Pass<M>, AllocError>
@@ -69,7 +69,7 @@ impl<M: Sharded> Pass<M> {
         })
     }
 
-    pub(crate) fn into_seat(self) -> Place<M>
+    pub(crate) fn into_seat(self) -> TableSeat<M>
         ensures seat { (result.table_id ≡ self.table) × (result.me ≡ (at_rest self.known, [])) }
         ensures party { (p : ℕ) × (self.known.party ≡ Some p) }
     {
@@ -103,23 +103,23 @@ impl<M: Sharded> Pass<M> {
         misses[shard as usize] = misses[shard as usize].saturating_add(1);
     }
 
-    pub(crate) fn try_take(&mut self, board: &Board<M>, shard: u32) -> Option<M::Shard>
+    pub(crate) fn try_take(&mut self, board: &SharedTable<M>, shard: u32) -> Option<M::Shard>
         requires table { (self.old.table ≡ board.now.table_id) × (self.old.known.start ≡ Some board.now.key.start) }
         requires size { IsSized board.now.table_id (M.machine board.now.key.start).shards }
         requires shard { shard < (M.machine board.now.key.start).shards }
         requires free { held_at self.old.known.held shard ≡ None }
-        ensures sound { IsSound (M.machine board.now.key.start) self.old.known }
-        ensures taken { IfSome result (λ x. (g : List M.Event) × (self.new ≡ record self.old { known = took self.old.known shard g }) × Taken (M.machine board.now.key.start) self.old.known shard x g) }
-        ensures missed { IfNone result ((turns : List Turn) × (self.new ≡ record self.old { known = missed self.old.known shard turns }) × Met self.old.known shard turns) }
+        ensures sound { HasSoundView (M.machine board.now.key.start) self.old.known }
+        ensures taken { IfSome result (λ x. (g : List M.Event) × (self.new ≡ record self.old { known = after_take self.old.known shard g }) × ShardTaken (M.machine board.now.key.start) self.old.known shard x g) }
+        ensures missed { IfNone result ((turns : List LockRecord) × (self.new ≡ record self.old { known = after_miss self.old.known shard turns }) × MissWitness self.old.known shard turns) }
     {
-        let Some(value) = take(board, &mut self.seat, shard) else {
+        let Some(value) = take_shard(board, &mut self.seat, shard) else {
             Self::count_miss(&mut self.misses, shard);
             return None;
         };
         Some(value)
     }
 
-    pub(crate) fn look(&mut self, board: &Board<M>) -> u64
+    pub(crate) fn look(&mut self, board: &SharedTable<M>) -> u64
         requires table { (self.old.table ≡ board.now.table_id) × (self.old.known.start ≡ Some board.now.key.start) }
         requires size { IsSized board.now.table_id (M.machine board.now.key.start).shards }
         ensures table { self.new.table ≡ self.old.table }
@@ -129,44 +129,44 @@ impl<M: Sharded> Pass<M> {
         look_word(board, &mut self.seat)
     }
 
-    pub(crate) fn commit(&mut self, board: &Board<M>, event: &M::Event) -> u64
+    pub(crate) fn commit(&mut self, board: &SharedTable<M>, event: &M::Event) -> u64
         requires table { (self.old.table ≡ board.now.table_id) × (self.old.known.start ≡ Some board.now.key.start) }
         requires size { IsSized board.now.table_id (M.machine board.now.key.start).shards }
         requires may { MayCommit (M.machine board.now.key.start) self.old.known event.now }
         ensures table { self.new.table ≡ self.old.table }
         ensures told { (h : List M.Event) × Committed (M.machine board.now.key.start) self.old.known event.now result h self.new.known }
     {
-        add(board, &mut self.seat, event)
+        add_event(board, &mut self.seat, event)
     }
 
-    pub(crate) fn give_back(&mut self, board: &Board<M>, shard: u32, value: M::Shard)
+    pub(crate) fn give_back(&mut self, board: &SharedTable<M>, shard: u32, value: M::Shard)
         requires table { self.old.table ≡ board.now.table_id }
         requires size { IsSized board.now.table_id (M.machine board.now.key.start).shards }
         requires shard { shard < (M.machine board.now.key.start).shards }
         requires value { (g : List M.Event) × (held_at self.old.known.held shard ≡ Some g) × (M.machine board.now.key.start).Stands shard value g }
-        ensures { self.new ≡ record self.old { known = gave_back self.old.known shard } }
+        ensures { self.new ≡ record self.old { known = after_give_back self.old.known shard } }
     {
-        give(board, &mut self.seat, shard, value);
+        give_back_shard(board, &mut self.seat, shard, value);
     }
 
-    pub(crate) fn note(&mut self, board: &Board<M>) -> Note<M>
+    pub(crate) fn note(&mut self, board: &SharedTable<M>) -> Note<M>
         requires table { self.old.table ≡ board.now.table_id }
         requires size { IsSized board.now.table_id (M.machine board.now.key.start).shards }
         ensures same { self.new ≡ self.old }
         ensures note { result ≡ record { table = self.old.table; known = noted self.old.known } }
     {
-        let seat = part_note(board, &mut self.seat);
+        let seat = split_note(board, &mut self.seat);
         Note { seat }
     }
 
-    pub(crate) fn learn(&mut self, board: &Board<M>, note: Note<M>)
+    pub(crate) fn learn(&mut self, board: &SharedTable<M>, note: Note<M>)
         requires table { (self.old.table ≡ board.now.table_id) × (self.old.known.start ≡ Some board.now.key.start) × (note.table ≡ board.now.table_id) }
         requires size { IsSized board.now.table_id (M.machine board.now.key.start).shards }
         ensures table { self.new.table ≡ self.old.table }
         ensures told { (h : List M.Event) × Looked (M.machine board.now.key.start) self.old.known (length h) h self.new.known × IsPrefix note.known.seen h }
     {
         let Note { seat } = note;
-        hear_note(board, &mut self.seat, seat);
+        join_note(board, &mut self.seat, seat);
         look_word(board, &mut self.seat);
     }
 }

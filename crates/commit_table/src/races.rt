@@ -4,7 +4,10 @@ ghost use Rattle.std.specs.Prelude.{◌≡◌, ◌<◌, length, IfOk};
 ghost use Rattle.commit_table.specs.Counters.{counters};
 ghost use Rattle.commit_table.specs.Calls.{IsOf, HoldsNone, Closed, AreShards};
 
-use crate::{CommitTable, Counters, Ended, Game, Outcome, Pass, end_game, raise, start_game};
+use crate::{
+    ClosedTable, CommitTable, CounterAnswer, CounterTable, Counters, Pass, close_counters, raise,
+    start_counters,
+};
 use std::alloc::{AllocError, Global};
 use std::sync::Wait;
 use std::thread::{Threads, join, yield_now};
@@ -27,9 +30,9 @@ pub fn raise_often<R: Wait>(
             break;
         }
         match raise(table, &mut pass, counter) {
-            Outcome::Done(_) => left -= 1,
-            Outcome::Busy => yield_now(),
-            Outcome::Stuck => break,
+            CounterAnswer::Done(_) => left -= 1,
+            CounterAnswer::Busy => yield_now(),
+            CounterAnswer::Stuck => break,
         }
     }
     pass
@@ -42,17 +45,17 @@ pub fn raised_by_two<R: Threads + Wait + Sync>(
     first_counter: u32,
     second_counter: u32,
     times: u64,
-) -> Result<Ended<Counters>, AllocError>
+) -> Result<ClosedTable<Counters>, AllocError>
     requires { (first_counter < 2) × (second_counter < 2) }
     ensures passes { IfOk result (λ end. length end.tally.passes ≡ 2) }
     ensures journal { IfOk result (λ end. Closed counters end.tally.journal end.tally.passes) }
     ensures shards { IfOk result (λ end. AreShards counters end.shards.items end.tally.journal) }
 {
-    let Game {
+    let CounterTable {
         table,
         first,
         second,
-    } = start_game(alloc)?;
+    } = start_counters(alloc)?;
     let (first, second) = join(
         rt,
         || -> Pass<Counters>
@@ -64,5 +67,5 @@ pub fn raised_by_two<R: Threads + Wait + Sync>(
             ensures { IsOf table result × HoldsNone result.known × (result.known.party ≡ second.known.party) }
         { raise_often(rt, &table, second, second_counter, times) },
     );
-    end_game(alloc, table, first, second)
+    close_counters(alloc, table, first, second)
 }

@@ -2,18 +2,18 @@
 //! owner's part, and each rank has its part of the journal.
 
 ghost use Rattle.std.specs.Prelude.{◌≡◌, ℕ, zero, List, [], ◌∷◌, slice_get, Some};
-ghost use Rattle.commit_table.specs.PartJournals.{cut};
-ghost use Rattle.commit_table.specs.Parts.{parts_of};
-ghost use Rattle.commit_table.specs.Ranks.{rank_parts, act_owner};
+ghost use Rattle.commit_table.specs.ProjectionJournals.{cut};
+ghost use Rattle.commit_table.specs.Projections.{projections_of};
+ghost use Rattle.commit_table.specs.Ranks.{rank_projections, rank_event_owner};
 ghost use Rattle.commit_table.specs.RankLaws.{noted_acts};
-ghost use Rattle.commit_table.specs.declared.ranks.Act.TheVariants.{Link, Post};
+ghost use Rattle.commit_table.specs.declared.ranks.RankEvent.TheVariants.{Link, Post};
 
 use crate::sharded::Sharded;
 use std::collections::LinkedList;
 
 /// An event of the ranks. Each is a rank's own.
 #[derive(Drop)]
-pub enum Act {
+pub enum RankEvent {
     /// The rank may post from now on.
     Link(u32),
     /// The other rank has one message more.
@@ -22,19 +22,19 @@ pub enum Act {
 
 /// An event at its place in the journal.
 #[derive(Drop)]
-pub struct Noted {
+pub struct PlacedRankEvent {
     pub place: u64,
-    pub act: Act,
+    pub act: RankEvent,
 }
 
 /// What lies in a rank's shard.
 #[derive(Drop)]
-pub struct RankPart {
+pub struct RankProjection {
     pub linked: bool,
     pub messages: u64,
     /// The place in the journal of the last post to the rank, or 0.
     pub latest: u64,
-    pub journal: LinkedList<Noted>,
+    pub journal: LinkedList<PlacedRankEvent>,
 }
 
 /// Two ranks, neither of which is linked.
@@ -42,9 +42,9 @@ pub struct RankPart {
 pub struct TwoRanks;
 
 impl Sharded for TwoRanks {
-    type Shard = RankPart;
+    type Shard = RankProjection;
 
-    type Event = Act;
+    type Event = RankEvent;
 
     ghost use Rattle.commit_table.specs.Ranks.{ranks};
     ghost use Rattle.commit_table.specs.RankLaws.{ranks_lawful};
@@ -57,8 +57,8 @@ impl Sharded for TwoRanks {
 /// After a history the part of the journal that a rank has noted is the history cut by owner: all its own events, each with
 /// its place, and no others. There are such histories: a rank links, and posts.
 pub fn parts_are_the_history()
-    ensures parts { (history : List Act) (parts : List RankPart) → parts_of rank_parts history ≡ Some parts
-        → (rank : ℕ) (first : RankPart) → slice_get rank_parts.first rank ≡ Some first
-        → (part : RankPart) × (slice_get parts rank ≡ Some part) × (noted_acts part ≡ cut act_owner rank zero history) }
-    ensures some { (parts : List RankPart) × (parts_of rank_parts (Link 0 ∷ Post 0 ∷ []) ≡ Some parts) }
+    ensures parts { (history : List Act) (parts : List RankPart) → projections_of rank_projections history ≡ Some parts
+        → (rank : ℕ) (first : RankPart) → slice_get rank_projections.first rank ≡ Some first
+        → (part : RankPart) × (slice_get parts rank ≡ Some part) × (noted_acts part ≡ cut rank_event_owner rank zero history) }
+    ensures some { (parts : List RankPart) × (projections_of rank_projections (Link 0 ∷ Post 0 ∷ []) ≡ Some parts) }
 {}

@@ -1,14 +1,14 @@
 //! The table, as its users call it.
 ghost use Rattle.std.specs.Prelude.{◌≡◌, ℕ, ◌+◌, ◌^◌, ◌<◌, ◌≤◌, Option, Some, None, List, [], ◌∷◌, ◌++◌, length, slice_get, replicate, vec_len, vec_capacity, IfOk, IfSome, IfNone};
 ghost use mathlib.Core.List.{IsPrefix};
-ghost use Rattle.commit_table.specs.declared.views.Turn.{Turn};
-ghost use Rattle.commit_table.specs.Views.{held_at, at_rest, maker, new_pass, noted, took, missed, gave_back};
-ghost use Rattle.commit_table.specs.Calls.{slot_of, spread, IsSized, IsOf, IsSound, Taken, Met, Looked, MayCommit, Committed, AreShards, misses_in};
+ghost use Rattle.commit_table.specs.declared.views.LockRecord.{LockRecord};
+ghost use Rattle.commit_table.specs.Views.{held_at, at_rest, splitting_seat, new_pass, noted, after_take, after_miss, after_give_back};
+ghost use Rattle.commit_table.specs.Calls.{slot_of, spread, IsSized, IsOf, HasSoundView, ShardTaken, MissWitness, Looked, MayCommit, Committed, AreShards, misses_in};
 
-use crate::board::{Begin, Board, Place, Whole};
 use crate::pass::{Note, Pass};
-use crate::seats::part_pass;
+use crate::seats::split_pass;
 use crate::sharded::Sharded;
+use crate::shared_table::{OwnedTable, SharedTable, TableKey, TableSeat};
 use atomic_table::Table;
 use std::alloc::{AllocError, Global};
 use std::marker::Model;
@@ -16,8 +16,8 @@ use std::marker::Model;
 /// The shards of a machine, and the history of its events, which exists in proofs alone. Threads share it by `&`.
 #[derive(Drop)]
 pub struct CommitTable<M: Sharded> {
-    pub(crate) table: Whole<M>,
-    pub(crate) begin: Begin<M>,
+    pub(crate) table: OwnedTable<M>,
+    pub(crate) begin: TableKey<M>,
     // Room for the shards' values, so that closing takes no memory.
     pub(crate) room: Vec<M::Shard>,
 }
@@ -72,20 +72,20 @@ fn filled<X: Drop>(alloc: Global, shards: Vec<X>) -> Result<Vec<Option<X>>, Allo
 
 fn make_passes<M: Sharded>(
     alloc: Global,
-    board: &Board<M>,
-    mut seat: Place<M>,
+    board: &SharedTable<M>,
+    mut seat: TableSeat<M>,
     shards: usize,
     n: u32,
 ) -> Result<Vec<Pass<M>>, AllocError>
     requires table { (seat.table_id ≡ board.now.table_id) × (slot_of shards ≡ seat.table_id.slots) × (n ≡ board.now.key.passes) }
     requires size { IsSized board.now.table_id (M.machine board.now.key.start).shards }
-    requires ready { seat.me ≡ (maker board.now.key.start 0 n, []) }
+    requires ready { seat.me ≡ (splitting_seat board.now.key.start 0 n, []) }
     ensures count { IfOk result (λ ps. length ps.items ≡ n) }
     ensures passes { IfOk result (λ ps. (k : ℕ) → k < n → slice_get ps.items k ≡ Some (record { table = board.now.table_id; known = new_pass board.now.key.start (Some k) [] })) }
 {
     let mut passes = Vec::with_capacity(alloc, n as usize)?;
     for party in 0..n {
-        let own = part_pass(board, &mut seat, party);
+        let own = split_pass(board, &mut seat, party);
         passes.push(Pass::new(alloc, own, party, shards)?)?;
     }
     Ok(passes)
@@ -109,7 +109,7 @@ impl<M: Sharded> CommitTable<M> {
         let room = Vec::with_capacity(alloc, count)?;
         let words = Vec::from_elem(alloc, 0u64, (count + 1) * 16)?;
         let slots = filled(alloc, shards)?;
-        let begin = Begin { start, passes: n };
+        let begin = TableKey { start, passes: n };
         let Ok((table, seat)) = Table::new(alloc, words.as_slice(), slots, &begin) else {
             return Err(AllocError);
         };
@@ -135,9 +135,9 @@ impl<M: Sharded> CommitTable<M> {
         requires pass { IsOf self.now pass.old }
         requires shard { shard < (M.machine self.now.start).shards }
         requires free { held_at pass.old.known.held shard ≡ None }
-        ensures sound { IsSound (M.machine self.now.start) pass.old.known }
-        ensures taken { IfSome result (λ x. (g : List M.Event) × (pass.new ≡ record pass.old { known = took pass.old.known shard g }) × Taken (M.machine self.now.start) pass.old.known shard x g) }
-        ensures missed { IfNone result ((turns : List Turn) × (pass.new ≡ record pass.old { known = missed pass.old.known shard turns }) × Met pass.old.known shard turns) }
+        ensures sound { HasSoundView (M.machine self.now.start) pass.old.known }
+        ensures shard_taken { IfSome result (λ x. (g : List M.Event) × (pass.new ≡ record pass.old { known = after_take pass.old.known shard g }) × ShardTaken (M.machine self.now.start) pass.old.known shard x g) }
+        ensures missed { IfNone result ((turns : List LockRecord) × (pass.new ≡ record pass.old { known = after_miss pass.old.known shard turns }) × MissWitness pass.old.known shard turns) }
     {
         pass.try_take(&self.table.shared, shard)
     }
@@ -146,7 +146,7 @@ impl<M: Sharded> CommitTable<M> {
     pub fn look(&self, pass: &mut Pass<M>) -> u64
         requires pass { IsOf self.now pass.old }
         ensures table { pass.new.table ≡ pass.old.table }
-        ensures told { (h : List M.Event) × Looked (M.machine self.now.start) pass.old.known result h pass.new.known }
+        ensures seen { (h : List M.Event) × Looked (M.machine self.now.start) pass.old.known result h pass.new.known }
         ensures party { (p : ℕ) × (pass.old.known.party ≡ Some p) × (p < self.now.passes) }
     {
         pass.look(&self.table.shared)
@@ -157,7 +157,7 @@ impl<M: Sharded> CommitTable<M> {
         requires pass { IsOf self.now pass.old }
         requires may { MayCommit (M.machine self.now.start) pass.old.known event.now }
         ensures table { pass.new.table ≡ pass.old.table }
-        ensures told { (h : List M.Event) × Committed (M.machine self.now.start) pass.old.known event.now result h pass.new.known }
+        ensures seen { (h : List M.Event) × Committed (M.machine self.now.start) pass.old.known event.now result h pass.new.known }
     {
         pass.commit(&self.table.shared, event)
     }
@@ -167,7 +167,7 @@ impl<M: Sharded> CommitTable<M> {
         requires pass { IsOf self.now pass.old }
         requires shard { shard < (M.machine self.now.start).shards }
         requires value { (g : List M.Event) × (held_at pass.old.known.held shard ≡ Some g) × (M.machine self.now.start).Stands shard value g }
-        ensures { pass.new ≡ record pass.old { known = gave_back pass.old.known shard } }
+        ensures { pass.new ≡ record pass.old { known = after_give_back pass.old.known shard } }
     {
         pass.give_back(&self.table.shared, shard, value);
     }
@@ -186,7 +186,7 @@ impl<M: Sharded> CommitTable<M> {
         requires pass { IsOf self.now pass.old }
         requires note { note.table ≡ self.now.table }
         ensures table { pass.new.table ≡ pass.old.table }
-        ensures told { (h : List M.Event) × Looked (M.machine self.now.start) pass.old.known (length h) h pass.new.known × IsPrefix note.known.seen h }
+        ensures seen { (h : List M.Event) × Looked (M.machine self.now.start) pass.old.known (length h) h pass.new.known × IsPrefix note.known.seen h }
     {
         pass.learn(&self.table.shared, note);
     }

@@ -2,7 +2,7 @@
 use std::collections::LinkedList;
 
 /// What the holder of a pass knows, as contracts see it.
-pub struct Known<S, E> {
+pub struct PassView<S, E> {
     /// The value that tells the machine's start: that of the table which made the pass or the note. Only what is left of a
     /// seat that another took in has none, and no call gives that out.
     pub start: Option<S>,
@@ -22,9 +22,9 @@ pub struct Known<S, E> {
     /// The shards that were missed.
     pub missed: LinkedList<u32>,
     /// The shards that this pass took, gave back and missed, the newest first, each with what it did.
-    pub turns: LinkedList<(u32, LockOp)>,
+    pub lock_records: LinkedList<(u32, LockOp)>,
     /// The turns of all passes, as far as the last miss told them, the newest first. That miss is the first of them.
-    pub met: LinkedList<Turn>,
+    pub lock_history: LinkedList<LockRecord>,
 }
 
 /// What a pass did at the word of a shard, which is its lock.
@@ -38,7 +38,7 @@ pub enum LockOp {
 }
 
 /// A pass took a shard, gave it back or missed it.
-pub struct Turn {
+pub struct LockRecord {
     pub shard: u32,
     /// The party of the pass.
     pub party: u32,
@@ -47,18 +47,18 @@ pub struct Turn {
 }
 
 /// What a seat at the table knows: what contracts see, and what is between the steps of a call.
-pub struct View<S, E> {
-    pub known: Known<S, E>,
+pub struct SeatView<S, E> {
+    pub known: PassView<S, E>,
     /// The shard whose slot is out with the seat.
-    pub out: Option<u32>,
+    pub slot_out: Option<u32>,
     /// Of the two histories of a join the shorter one, which the seat remembers until it looks.
-    pub heard: LinkedList<E>,
-    /// The passes from `gives` on and below `ends` are this seat's to make.
-    pub gives: u32,
-    pub ends: u32,
+    pub note_history: LinkedList<E>,
+    /// The passes from `first_party` on and below `end_party` are this seat's to make.
+    pub first_party: u32,
+    pub end_party: u32,
     /// The seat takes in all passes, to close the table, and remembers each.
-    pub gathers: bool,
-    pub gathered: LinkedList<Known<S, E>>,
+    pub is_closer: bool,
+    pub joined_passes: LinkedList<PassView<S, E>>,
     /// It has taken in all passes, and looked since.
     pub closed: bool,
 }

@@ -2,7 +2,7 @@
 use Rattle.std.proofs.Common.{◌≡◌, ℕ, ◌+◌, ◌<◌, List, [], ◌∷◌, ◌++◌, length, Option, Some, sym, ◌∙◌, refl, subst, arith}
 use Rattle.std.proofs.lemmas.Option.{slice_get_within}
 use Rattle.std.specs.List.{slice_get}
-use Rattle.gaspi_types.specs.World.{World}
+use Rattle.gaspi_types.specs.World.{ShapeValue}
 use Rattle.gaspi_types.specs.declared.events.Event.{Event}
 use Rattle.gaspi_types.specs.declared.shapes.CallerId.{CallerId}
 use Rattle.commit_table.specs.Calls.{TableValue, PassValue, IsOf, HoldsNone}
@@ -12,7 +12,7 @@ use Rattle.gaspi_world.specs.Calling.{MayCall}
 use Rattle.gaspi_world.specs.declared.starts.Start.{Start}
 
 -- each pass of a world without workers is that of a caller
-pub made-callers : (t : TableValue Start) (w : World) (n : ℕ) (ps : List (PassValue Start Event)) → t.start.shape ≡ w → length ps ≡ n + 0 → ((k : ℕ) → k < n + 0 → slice_get ps k ≡ Some (record { table = t.table; known = new_pass t.start (Some k) [] }))
+pub made-callers : (t : TableValue Start) (w : ShapeValue) (n : ℕ) (ps : List (PassValue Start Event)) → t.start.shape ≡ w → length ps ≡ n + 0 → ((k : ℕ) → k < n + 0 → slice_get ps k ≡ Some (record { table = t.table; known = new_pass t.start (Some k) [] }))
     → ((k : ℕ) → k < n → (c : CallerId) × IsPassOf {S = Start} {E = Event} w c (new_pass t.start (Some k) [])) → (k : ℕ) (p : PassValue Start Event) → slice_get ps k ≡ Some p → MayCall t p
 made-callers t w n ps began count made callers k p at =
     let less = slice_get_within ps k p at in
@@ -20,7 +20,7 @@ made-callers t w n ps began count made callers k p at =
     let both : ◌≡◌ {A = Option (PassValue Start Event)} (Some new) (Some p) = sym (made k (omega arith)) ∙ at in
     let same : new ≡ p = cc in
     let caller = callers k (omega arith) in
-    subst (MayCall t) same ((refl, refl), (λ i. refl), (caller.0, subst (λ (v : World). IsPassOf {S = Start} {E = Event} v caller.0 (new_pass t.start (Some k) [])) (sym began) caller.1))
+    subst (MayCall t) same ((refl, refl), (λ i. refl), (caller.0, subst (λ (v : ShapeValue). IsPassOf {S = Start} {E = Event} v caller.0 (new_pass t.start (Some k) [])) (sym began) caller.1))
 
 -- a pass that was made has done nothing yet
 pub made-alone : (t : TableValue Start) (n : ℕ) (ps : List (PassValue Start Event)) → length ps ≡ n → ((k : ℕ) → k < n → slice_get ps k ≡ Some (record { table = t.table; known = new_pass t.start (Some k) [] }))

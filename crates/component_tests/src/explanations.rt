@@ -3,7 +3,7 @@
 use call_journal::{ArrivedWrite, WhyAnswer, why};
 use gaspi_model::Why;
 use gaspi_texts::read;
-use gaspi_types::{Rows, Shape};
+use gaspi_types::{Sequence, Shape};
 use std::alloc::Global;
 use std::test::Fail;
 
@@ -47,7 +47,7 @@ fn are_writes(
     place: u64,
     writes: &[ArrivedWrite],
 ) -> Result<bool, Fail> {
-    let writes = Rows::copied_from(alloc, writes)?;
+    let writes = Sequence::copied_from(alloc, writes)?;
     is_answer(alloc, text, place, &WhyAnswer::Writes(writes))
 }
 

@@ -24,7 +24,7 @@ fn events_are_copied(rt: HostRuntime) -> Result<(), Fail> {
 
 /// The journal of a notification and its take, whose room is taken first.
 fn two_events(alloc: Global) -> Result<Journal, NoMemory> {
-    let mut reserved = ReservedJournal::with_room(alloc, 2)?;
+    let mut reserved = ReservedJournal::with_capacity(alloc, 2)?;
     reserved.push(notified(caller()));
     reserved.push(taken(RankId::of(0)));
     Ok(reserved.into_rows())
@@ -107,7 +107,7 @@ fn three_merged(alloc: Global) -> Result<Journal, NoMemory> {
 
 /// The same journal, with its events in order.
 fn three_events(alloc: Global) -> Result<Journal, NoMemory> {
-    let mut reserved = ReservedJournal::with_room(alloc, 3)?;
+    let mut reserved = ReservedJournal::with_capacity(alloc, 3)?;
     reserved.push(notified(caller()));
     reserved.push(taken(RankId::of(0)));
     reserved.push(taken(RankId::of(1)));

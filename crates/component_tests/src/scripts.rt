@@ -3,7 +3,7 @@
 use crate::one_rank::caller;
 use gaspi_types::NoMemory;
 use rank_script::{
-    Cursor, Halted, RunOutcome, ScriptFault, Scripts, read_input, read_world, split_input,
+    Cursor, RunOutcome, RunStop, ScriptFault, Scripts, read_input, read_world, split_input,
 };
 use std::alloc::Global;
 use std::test::Fail;
@@ -27,7 +27,7 @@ fn stopped(alloc: Global, scripts: &Scripts) -> Result<Option<(u64, RunOutcome)>
     if run.present().is_none() {
         return Ok(None);
     }
-    run.stop(Halted::NoMemory);
+    run.stop(RunStop::NoMemory);
     Ok(run.outcome().map(|outcome| (line, outcome)))
 }
 

@@ -9,6 +9,6 @@ mod messages;
 mod nodes;
 mod pendings;
 mod queues;
+mod rounds;
 mod segments;
 mod slots;
-mod turns;

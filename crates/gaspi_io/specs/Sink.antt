@@ -7,7 +7,7 @@ with_more None more = None
 with_more (Some held) more = Some (held ++ more)
 
 -- a front part of the piece was added, and not all of it
-pub record AddsFront (piece : List ℕ) (old new : Option (List ℕ)) : Type 0 where
+pub record AddsPrefix (piece : List ℕ) (old new : Option (List ℕ)) : Type 0 where
   pub count : ℕ
   pub within : count < length piece
   pub added : new ≡ with_more old (take count piece)

@@ -8,8 +8,8 @@ without None n = None
 without (Some bytes) n = Some (drop n bytes)
 
 -- the first n of the bytes stand at the front of the buffer, whose other bytes stay
-abbrev pub PutsFront : List ℕ → ℕ → List ℕ → List ℕ → Type 0
-PutsFront bytes n old new = new ≡ take n bytes ++ drop n old
+abbrev pub PutsPrefix : List ℕ → ℕ → List ℕ → List ℕ → Type 0
+PutsPrefix bytes n old new = new ≡ take n bytes ++ drop n old
 
 -- nothing is given only at the end of the bytes, or into an empty buffer
 abbrev pub EndsOnly : List ℕ → ℕ → List ℕ → Type 0

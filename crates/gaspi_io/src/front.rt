@@ -1,13 +1,13 @@
 //! The front of a buffer.
 
 ghost use Rattle.std.specs.Prelude.{◌≤◌, length};
-ghost use Rattle.gaspi_io.specs.Source.{PutsFront};
+ghost use Rattle.gaspi_io.specs.Source.{PutsPrefix};
 
 /// Copies the first `count` bytes to the front of the buffer.
-pub fn put_front(bytes: &[u8], count: usize, buf: &mut [u8])
+pub fn put_prefix(bytes: &[u8], count: usize, buf: &mut [u8])
     requires given { count ≤ length bytes.now }
     requires fits { count ≤ length buf.old }
-    ensures { PutsFront bytes.now count buf.old buf.new }
+    ensures { PutsPrefix bytes.now count buf.old buf.new }
 {
     buf[..count].copy_from_slice(&bytes[..count]);
 }

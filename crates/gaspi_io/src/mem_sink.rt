@@ -7,7 +7,7 @@ ghost use Rattle.gaspi_io.specs.Memory.{SinkState, is_failing};
 
 use crate::faults::Failed;
 use crate::sink::Sink;
-use gaspi_types::{Bytes, NoMemory, Rows};
+use gaspi_types::{Bytes, NoMemory, Sequence};
 use std::alloc::Global;
 use std::marker::Model;
 
@@ -18,7 +18,7 @@ use std::marker::Model;
 pub struct MemSink {
     bytes: Vec<u8>,
     most: usize,
-    failing: Rows<u64>,
+    failing: Sequence<u64>,
     calls: u64,
     faults: u64,
 }
@@ -54,7 +54,7 @@ impl MemSink {
     }
 
     /// The same with room for so many bytes, up to which no write wants memory.
-    pub fn with_room(alloc: Global, room: usize) -> Result<MemSink, NoMemory>
+    pub fn with_capacity(alloc: Global, room: usize) -> Result<MemSink, NoMemory>
         ensures { IfOk result (λ sink. sink ≡ record {
           held = [];
           room = room;
@@ -92,7 +92,7 @@ impl MemSink {
         MemSink {
             bytes,
             most: usize::MAX,
-            failing: Rows::new(alloc),
+            failing: Sequence::new(alloc),
             calls: 0,
             faults: 0,
         }
@@ -107,7 +107,7 @@ impl MemSink {
     }
 
     /// From here on the writes of these numbers fail. The first write has the number 0.
-    pub fn set_failing(&mut self, calls: Rows<u64>)
+    pub fn set_failing(&mut self, calls: Sequence<u64>)
         ensures { self.new ≡ record self.old { failing = calls } }
     {
         self.failing = calls;
@@ -125,7 +125,7 @@ impl MemSink {
         ensures { result ≡ self.held }
     {
         let MemSink { bytes, .. } = self;
-        Rows::from_vec(bytes)
+        Sequence::from_vec(bytes)
     }
 
     /// How often it has failed, standing still at `u64::MAX`.

@@ -2,13 +2,13 @@
 
 ghost use Rattle.std.specs.Prelude.{◌≡◌, ◌≤◌, ◌<◌, [], Some, length, min, drop, is_err, IfOk, OnErr};
 ghost use Rattle.gaspi_io.specs.Faults.{HasCause, one_more};
-ghost use Rattle.gaspi_io.specs.Source.{PutsFront, EndsOnly};
+ghost use Rattle.gaspi_io.specs.Source.{PutsPrefix, EndsOnly};
 ghost use Rattle.gaspi_io.specs.Memory.{SourceState, is_failing};
 
 use crate::faults::Failed;
-use crate::front::put_front;
+use crate::front::put_prefix;
 use crate::source::Source;
-use gaspi_types::{Bytes, Rows};
+use gaspi_types::{Bytes, Sequence};
 use std::marker::Model;
 
 /// A source over bytes in memory. Contracts see it as a `SourceState`.
@@ -17,7 +17,7 @@ pub struct MemSource {
     bytes: Bytes,
     position: usize,
     most: usize,
-    failing: Rows<u64>,
+    failing: Sequence<u64>,
     calls: u64,
     faults: u64,
 }
@@ -50,10 +50,10 @@ impl MemSource {
         let bytes = bytes.into_vec();
         let alloc = *bytes.allocator();
         MemSource {
-            bytes: Rows::from_vec(bytes),
+            bytes: Sequence::from_vec(bytes),
             position: 0,
             most: usize::MAX,
-            failing: Rows::new(alloc),
+            failing: Sequence::new(alloc),
             calls: 0,
             faults: 0,
         }
@@ -68,7 +68,7 @@ impl MemSource {
     }
 
     /// From here on the reads of these numbers fail. The first read has the number 0.
-    pub fn set_failing(&mut self, calls: Rows<u64>)
+    pub fn set_failing(&mut self, calls: Sequence<u64>)
         ensures { self.new ≡ record self.old { failing = calls } }
     {
         self.failing = calls;
@@ -93,7 +93,7 @@ impl Source for MemSource {
         ensures failing { is_err result ≡ is_failing self.old.failing self.old.calls }
         ensures given { IfOk result (λ n.
             n ≡ min self.old.most (min (length self.old.left) (length buf.old))) }
-        ensures front { IfOk result (λ n. PutsFront self.old.left n buf.old buf.new) }
+        ensures front { IfOk result (λ n. PutsPrefix self.old.left n buf.old buf.new) }
         ensures untouched { OnErr result (buf.new ≡ buf.old) }
         ensures ok { IfOk result (λ n. self.new ≡ record self.old {
           left = drop n self.old.left;
@@ -117,7 +117,7 @@ impl Source for MemSource {
         }
         let left = &self.bytes.as_slice()[self.position..];
         let count = self.most.min(left.len()).min(buf.len());
-        put_front(left, count, buf);
+        put_prefix(left, count, buf);
         self.position += count;
         Ok(count)
     }

@@ -3,7 +3,7 @@
 ghost use Rattle.std.specs.Prelude.{◌≤◌, ◌≡◌, ℕ, List, Option, length, IfOk, OnOk, OnErr};
 ghost use Rattle.std.specs.Option.{ForSome};
 ghost use Rattle.gaspi_io.specs.Faults.{HasCause};
-ghost use Rattle.gaspi_io.specs.Source.{without, PutsFront, EndsOnly};
+ghost use Rattle.gaspi_io.specs.Source.{without, PutsPrefix, EndsOnly};
 
 use crate::faults::Failed;
 
@@ -24,7 +24,7 @@ pub trait Source {
 
         // Where it tells its bytes, these are the next of them.
         ensures given { IfOk result (λ n. ForSome (left self.old) (λ bytes. n ≤ length bytes)) }
-        ensures front { IfOk result (λ n. ForSome (left self.old) (λ bytes. PutsFront bytes n buf.old buf.new)) }
+        ensures front { IfOk result (λ n. ForSome (left self.old) (λ bytes. PutsPrefix bytes n buf.old buf.new)) }
         ensures end { IfOk result (λ n. ForSome (left self.old) (λ bytes. EndsOnly bytes n buf.old)) }
         ensures rest { IfOk result (λ n. left self.new ≡ without (left self.old) n) }
         ensures kept { OnErr result (left self.new ≡ left self.old) }

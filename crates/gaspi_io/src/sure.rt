@@ -2,14 +2,14 @@
 
 ghost use Rattle.std.specs.Prelude.{◌≡◌, ◌++◌, ◌≤◌, [], Some, None, Ok, length, min, take, drop, IsOk, IfOk};
 ghost use Rattle.std.specs.Vec.{vec_capacity, vec_len};
-ghost use Rattle.gaspi_io.specs.Source.{PutsFront};
+ghost use Rattle.gaspi_io.specs.Source.{PutsPrefix};
 ghost use Rattle.gaspi_io.specs.Memory.{SureSinkState};
 
 use crate::faults::Failed;
-use crate::front::put_front;
+use crate::front::put_prefix;
 use crate::sink::Sink;
 use crate::source::Source;
-use gaspi_types::{Bytes, NoMemory, Rows};
+use gaspi_types::{Bytes, NoMemory, Sequence};
 use std::alloc::Global;
 use std::marker::Model;
 
@@ -47,12 +47,12 @@ impl Source for SureSource {
     /// Gives as many bytes as there are and the buffer holds.
     fn read(&mut self, buf: &mut [u8]) -> Result<usize, Failed>
         ensures never_fails { result ≡ Ok (min (length self.old) (length buf.old)) }
-        ensures front { PutsFront self.old (min (length self.old) (length buf.old)) buf.old buf.new }
+        ensures front { PutsPrefix self.old (min (length self.old) (length buf.old)) buf.old buf.new }
         ensures rest { self.new ≡ drop (length buf.old) self.old }
     {
         let left = &self.bytes.as_slice()[self.position..];
         let count = left.len().min(buf.len());
-        put_front(left, count, buf);
+        put_prefix(left, count, buf);
         self.position += count;
         Ok(count)
     }
@@ -79,7 +79,7 @@ impl Model for SureSink {
 
 impl SureSink {
     /// A sink that keeps nothing yet, with room for so many bytes.
-    pub fn with_room(alloc: Global, room: usize) -> Result<SureSink, NoMemory>
+    pub fn with_capacity(alloc: Global, room: usize) -> Result<SureSink, NoMemory>
         ensures { IfOk result (λ sink. sink ≡ record { kept = []; room = room }) }
     {
         Ok(SureSink {
@@ -100,7 +100,7 @@ impl SureSink {
         ensures { result ≡ self.kept }
     {
         let SureSink { bytes, .. } = self;
-        Rows::from_vec(bytes)
+        Sequence::from_vec(bytes)
     }
 }
 

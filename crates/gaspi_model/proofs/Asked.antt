@@ -3,8 +3,8 @@ use Rattle.std.proofs.Common.{◌≡◌, ℕ, ◌+◌, ◌≤◌, Bool, true, fa
 use Rattle.std.proofs.lemmas.Bool.{leb-true}
 use Rattle.std.proofs.lemmas.List.{length-append}
 use Rattle.gaspi_types.specs.CallRows.{row_of, list_entries}
-use Rattle.gaspi_types.specs.Checks.{check_each, found}
-use Rattle.gaspi_types.specs.Posts.{range_in, slot_in, is_list_length, write_item, read_item, write_notify_item, read_notify_item, has_segments, has_size, ends_of, transfer_kind, transfers_of, checked_transfers, nothing_beside, transfers_alone, noted_writes, noted_reads, listed, call_kinds}
+use Rattle.gaspi_types.specs.Checks.{check_each, ok_or}
+use Rattle.gaspi_types.specs.Posts.{range_in, slot_in, is_list_length, write_item, read_item, write_notify_item, read_notify_item, has_segments, has_size, endpoints_of, transfer_kind, transfers_of, checked_transfers, no_further_check, transfers_alone, writes_with_notification, reads_with_notification, listed, call_kinds}
 use Rattle.gaspi_types.specs.SegmentBytes.{is_transfer_size, is_within}
 use Rattle.gaspi_types.specs.SegmentTables.{extent_in, known_extent}
 use Rattle.gaspi_types.specs.declared.call_rows.Posting.{Posting}
@@ -13,7 +13,7 @@ use Rattle.gaspi_types.specs.declared.calls.Call.TheVariants.{Write, Read, Notif
 use Rattle.gaspi_types.specs.declared.calls.posts.Item.{Item}
 use Rattle.gaspi_types.specs.declared.entries.Direction.{Direction}
 use Rattle.gaspi_types.specs.declared.entries.Direction.TheVariants.{Outward, Inward}
-use Rattle.gaspi_types.specs.declared.entries.Ends.{Ends}
+use Rattle.gaspi_types.specs.declared.entries.Endpoints.{Endpoints}
 use Rattle.gaspi_types.specs.declared.entries.Kind.{Kind}
 use Rattle.gaspi_types.specs.declared.entries.Kind.TheVariants as kinds_of
 use Rattle.gaspi_types.specs.declared.segments.Extent.{Extent}
@@ -23,7 +23,7 @@ use Rattle.gaspi_types.specs.declared.replies.Refusal.TheVariants.{NoSegment, Un
 use Rattle.gaspi_types.proofs.Chains.{both, bind_then, check_then, found_then, found_there, same_Ok}
 
 -- the two ends of a transfer, by what stands in the own segments and what is known of those of its target
-pub record AreEnds (near far : ℕ → Option Extent) (item : Item) (ends : Ends) : Type 0 where
+pub record AreEnds (near far : ℕ → Option Extent) (item : Item) (ends : Endpoints) : Type 0 where
   pub mine : Extent
   pub theirs : Extent
   pub mine_there : near item.seg ≡ Some mine
@@ -39,7 +39,7 @@ near_in table segment = extent_in table.own segment
 abbrev pub far_in : ℕ → SegmentTable → ℕ → ℕ → Option Extent
 far_in me table rank segment = known_extent me table rank segment
 
-ends-ok : (me : ℕ) (table : SegmentTable) (rank : ℕ) (item : Item) (ends : Ends) → ends_of me table rank item ≡ Ok ends → AreEnds (near_in table) (far_in me table rank) item ends
+ends-ok : (me : ℕ) (table : SegmentTable) (rank : ℕ) (item : Item) (ends : Endpoints) → endpoints_of me table rank item ≡ Ok ends → AreEnds (near_in table) (far_in me table rank) item ends
 ends-ok me table rank item ends h =
     found_then (extent_in table.own item.seg) _ _ ends h (λ mine hm h1.
     found_then (known_extent me table rank item.rseg) _ _ ends h1 (λ theirs ht h2.
@@ -50,7 +50,7 @@ ends-ok me table rank item ends h =
 
 -- a transfer
 pub record IsTransfer (direction : Direction) (near far : ℕ → Option Extent) (item : Item) (kind : Kind) : Type 0 where
-  pub ends : Ends
+  pub ends : Endpoints
   pub are : AreEnds near far item ends
   pub is : kind ≡ transfer_kind direction ends
 
@@ -71,7 +71,7 @@ transfers-ok : (direction : Direction) (me : ℕ) (table : SegmentTable) (rank :
     → AreTransfers direction (near_in table) (far_in me table rank) items kinds
 transfers-ok direction me table rank [] kinds h = subst (λ (k : List Kind). AreTransfers direction (near_in table) (far_in me table rank) [] k) (same_Ok _ _ h) tt
 transfers-ok direction me table rank (item ∷ items) kinds h =
-    bind_then (ends_of me table rank item) _ kinds h (λ ends he h1.
+    bind_then (endpoints_of me table rank item) _ kinds h (λ ends he h1.
     bind_then (transfers_of direction me table rank items) _ kinds h1 (λ more hm h2.
     subst (λ (k : List Kind). AreTransfers direction (near_in table) (far_in me table rank) (item ∷ items) k) (same_Ok _ _ h2)
     (record { ends = ends; are = ends-ok me table rank item ends he; is = refl }, transfers-ok direction me table rank items more hm)))
@@ -89,8 +89,8 @@ checked-ok {A} direction me table rank items beside x h =
 pub alone-ok : (direction : Direction) (me : ℕ) (table : SegmentTable) (rank : ℕ) (items : List Item) (kinds : List Kind) → transfers_alone direction me table rank items ≡ Ok kinds
     → AreTransfers direction (near_in table) (far_in me table rank) items kinds
 alone-ok direction me table rank items kinds h =
-    bind_then (checked_transfers direction me table rank items nothing_beside) _ kinds h (λ x hx h1.
-    subst (λ (k : List Kind). AreTransfers direction (near_in table) (far_in me table rank) items k) (same_Ok _ _ h1) (checked-ok direction me table rank items nothing_beside x hx).1)
+    bind_then (checked_transfers direction me table rank items no_further_check) _ kinds h (λ x hx h1.
+    subst (λ (k : List Kind). AreTransfers direction (near_in table) (far_in me table rank) items k) (same_Ok _ _ h1) (checked-ok direction me table rank items no_further_check x hx).1)
 
 -- writes with a notification behind them, of a segment that is known
 pub record AreNotedWrites (notes : ℕ) (near far : ℕ → Option Extent) (items : List Item) (segment note value : ℕ) (kinds : List Kind) : Type 0 where
@@ -102,9 +102,9 @@ pub record AreNotedWrites (notes : ℕ) (near far : ℕ → Option Extent) (item
   pub is : kinds ≡ transfers ++ kinds_of.Notify (slot_in theirs segment note) value ∷ []
 
 pub noted_writes-ok : (notes me : ℕ) (table : SegmentTable) (rank : ℕ) (items : List Item) (segment note value : ℕ) (kinds : List Kind)
-    → noted_writes notes me table rank items segment note value ≡ Ok kinds → AreNotedWrites notes (near_in table) (far_in me table rank) items segment note value kinds
+    → writes_with_notification notes me table rank items segment note value ≡ Ok kinds → AreNotedWrites notes (near_in table) (far_in me table rank) items segment note value kinds
 noted_writes-ok notes me table rank items segment note value kinds h =
-    let beside = found (known_extent me table rank segment) Unregistered in
+    let beside = ok_or (known_extent me table rank segment) Unregistered in
     bind_then (checked_transfers Outward me table rank items beside) _ kinds h (λ x hx h1.
     check_then (nat_lt note notes) _ _ kinds h1 (λ noted h2.
     check_then (not (value == 0)) _ _ kinds h2 (λ valued h3.
@@ -121,9 +121,9 @@ pub record AreNotedReads (notes : ℕ) (near far : ℕ → Option Extent) (items
   pub is : kinds ≡ transfers ++ kinds_of.ReadNote (slot_in mine segment note) ∷ []
 
 pub noted_reads-ok : (notes me : ℕ) (table : SegmentTable) (rank : ℕ) (items : List Item) (segment note : ℕ) (kinds : List Kind)
-    → noted_reads notes me table rank items segment note ≡ Ok kinds → AreNotedReads notes (near_in table) (far_in me table rank) items segment note kinds
+    → reads_with_notification notes me table rank items segment note ≡ Ok kinds → AreNotedReads notes (near_in table) (far_in me table rank) items segment note kinds
 noted_reads-ok notes me table rank items segment note kinds h =
-    let beside = found (extent_in table.own segment) NoSegment in
+    let beside = ok_or (extent_in table.own segment) NoSegment in
     bind_then (checked_transfers Inward me table rank items beside) _ kinds h (λ x hx h1.
     check_then (nat_lt note notes) _ _ kinds h1 (λ noted h2.
     let c = checked-ok Inward me table rank items beside x hx in
@@ -180,13 +180,13 @@ alone-by notes me table to direction items kinds count some h =
     record { asked = Alone direction items are; count = transfers-length direction (near_in table) (far_in me table to.rank) items kinds are ∙ count; some = some }
 
 noted_writes-by : (notes me : ℕ) (table : SegmentTable) (to : Posting) (items : List Item) (segment note value : ℕ) (kinds : List Kind) → length items + 1 ≡ to.entries
-    → noted_writes notes me table to.rank items segment note value ≡ Ok kinds → IsAskedBy notes me table to kinds
+    → writes_with_notification notes me table to.rank items segment note value ≡ Ok kinds → IsAskedBy notes me table to kinds
 noted_writes-by notes me table to items segment note value kinds count h =
     let are = noted_writes-ok notes me table to.rank items segment note value kinds h in
     record { asked = NotedWrites items segment note value are; count = noted_writes-length notes (near_in table) (far_in me table to.rank) items segment note value kinds are ∙ count; some = (omega arith) }
 
 noted_reads-by : (notes me : ℕ) (table : SegmentTable) (to : Posting) (items : List Item) (segment note : ℕ) (kinds : List Kind) → length items + 1 ≡ to.entries
-    → noted_reads notes me table to.rank items segment note ≡ Ok kinds → IsAskedBy notes me table to kinds
+    → reads_with_notification notes me table to.rank items segment note ≡ Ok kinds → IsAskedBy notes me table to kinds
 noted_reads-by notes me table to items segment note kinds count h =
     let are = noted_reads-ok notes me table to.rank items segment note kinds h in
     record { asked = NotedReads items segment note are; count = noted_reads-length notes (near_in table) (far_in me table to.rank) items segment note kinds are ∙ count; some = (omega arith) }
@@ -216,7 +216,7 @@ asked-by notes me table (WriteList call) to kinds is h =
     as-row notes me table p to kinds is (alone-by notes me table p Outward call.items kinds (omega (arith, count)) (listed-some (length call.items) 0 l.0) l.1)
 asked-by notes me table (WriteListNotify call) to kinds is h =
     let p : Posting = record { entries = list_entries (length call.items) 1; rank = call.rank; queue = call.queue } in
-    let l = listed-ok call.items (noted_writes notes me table call.rank call.items call.nseg call.note call.value) kinds h in
+    let l = listed-ok call.items (writes_with_notification notes me table call.rank call.items call.nseg call.note call.value) kinds h in
     as-row notes me table p to kinds is (noted_writes-by notes me table p call.items call.nseg call.note call.value kinds (sym (listed-count (length call.items) 1 l.0)) l.1)
 asked-by notes me table (ReadList call) to kinds is h =
     let p : Posting = record { entries = list_entries (length call.items) 0; rank = call.rank; queue = call.queue } in
@@ -225,7 +225,7 @@ asked-by notes me table (ReadList call) to kinds is h =
     as-row notes me table p to kinds is (alone-by notes me table p Inward call.items kinds (omega (arith, count)) (listed-some (length call.items) 0 l.0) l.1)
 asked-by notes me table (ReadListNotify call) to kinds is h =
     let p : Posting = record { entries = list_entries (length call.items) 1; rank = call.rank; queue = call.queue } in
-    let l = listed-ok call.items (noted_reads notes me table call.rank call.items call.nseg call.note) kinds h in
+    let l = listed-ok call.items (reads_with_notification notes me table call.rank call.items call.nseg call.note) kinds h in
     as-row notes me table p to kinds is (noted_reads-by notes me table p call.items call.nseg call.note kinds (sym (listed-count (length call.items) 1 l.0)) l.1)
 asked-by notes me table other to kinds is h = absurd (let no : ⊥ = cc in no)
 

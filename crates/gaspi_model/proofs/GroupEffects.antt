@@ -13,8 +13,8 @@ use Rattle.gaspi_types.specs.declared.events.Event.TheVariants.{Called, Joined}
 use Rattle.gaspi_types.specs.declared.groups.Args.{Args}
 use Rattle.gaspi_types.specs.declared.groups.Group as groups
 use Rattle.gaspi_types.specs.declared.groups.Handle.{Handle}
-use Rattle.gaspi_types.specs.declared.groups.Part.{Part}
-use Rattle.gaspi_types.specs.declared.groups.Pending.{Pending}
+use Rattle.gaspi_types.specs.declared.groups.RankContributions.{RankContributions}
+use Rattle.gaspi_types.specs.declared.groups.PendingCollective.{PendingCollective}
 use Rattle.gaspi_types.specs.declared.replies.Reply.{Reply}
 use Rattle.gaspi_types.specs.declared.shapes.CallerId.{CallerId}
 use Rattle.gaspi_types.specs.declared.shapes.Limits.{Limits}
@@ -28,7 +28,7 @@ use Rattle.gaspi_model.specs.declared.states.Memory.{Memory}
 use Rattle.gaspi_model.specs.declared.states.State.{State}
 use Rattle.gaspi_types.proofs.Items.{set-there, there-within}
 use Rattle.gaspi_model.proofs.CollectiveFinds.{IsDone, done-found, MayJoin, join-found}
-use Rattle.gaspi_model.proofs.GroupSteps.{with_group_at, step-completed, step-joined, join_reach}
+use Rattle.gaspi_model.proofs.GroupSteps.{with_group_at, step-completed, step-joined, joined-footprint}
 use Rattle.gaspi_model.proofs.Made.{memory_at, memories_at}
 use Rattle.gaspi_model.proofs.Sound.Completions.{IsThere, group-there, staged-there}
 
@@ -36,7 +36,7 @@ group-set : (all : List groups.Group) (id : ℕ) (g g' : groups.Group) → id < 
 group-set all id g g' less same = rw (lt-ltb id 8 less) (ap (slice_set all id) same)
 
 -- a collective that is done
-pub record IsDoneStep (s t : State) (c : CallerId) (id : ℕ) (call : Call) (reply : Reply) (posts : Posts) (g : groups.Group) (part : Part) (h : Handle) (p : Pending) : Type 0 where
+pub record IsDoneStep (s t : State) (c : CallerId) (id : ℕ) (call : Call) (reply : Reply) (posts : Posts) (g : groups.Group) (part : RankContributions) (h : Handle) (p : PendingCollective) : Type 0 where
   pub posts_there : slice_get s.posts c.rank ≡ Some posts
   pub there : IsThere s c.rank id g part
   pub done : IsDone posts g c.rank c.thread id call reply h p
@@ -44,7 +44,7 @@ pub record IsDoneStep (s t : State) (c : CallerId) (id : ℕ) (call : Call) (rep
   pub leaves : t ≡ record s { posts = slice_set s.posts c.rank (counted (completed_posts posts g c.rank id call)); groups = slice_set s.groups id (with_completed g c.rank) }
 
 pub done-step : (s t : State) (c : CallerId) (id : ℕ) (call : Call) (reply : Reply) → (row_of call).group ≡ Some id → is_idle reply ≡ false → IsSound s → step s (Called c call reply) ≡ Ok t
-    → (posts : Posts) × (g : groups.Group) × (part : Part) × (h : Handle) × (p : Pending) × IsDoneStep s t c id call reply posts g part h p
+    → (posts : Posts) × (g : groups.Group) × (part : RankContributions) × (h : Handle) × (p : PendingCollective) × IsDoneStep s t c id call reply posts g part h p
 done-step s t c id call reply named awake sound h =
     let made = step-completed s t c id call reply named h in
     let m = made.2 in
@@ -73,13 +73,13 @@ done-step s t c id call reply named awake sound h =
 
 -- a join
 join-memories : (limits : Limits) (me id : ℕ) (posts : Posts) (memory : Memory) (all : List Memory) (coll : Coll) → slice_get all me ≡ Some memory → id < 8
-    → memories_at (join_reach limits.ranks me id coll) me (made_memory limits posts (memory_at (join_reach limits.ranks me id coll) me all) coll) all ≡ slice_set all me (made_memory limits posts memory coll)
+    → memories_at (joined-footprint limits.ranks me id coll) me (made_memory limits posts (memory_at (joined-footprint limits.ranks me id coll) me all) coll) all ≡ slice_set all me (made_memory limits posts memory coll)
 join-memories limits me id posts memory all colls.Barrier at less = rw (lt-ltb id 8 less) (sym (set-there all me memory at))
 join-memories limits me id posts memory all (colls.Allreduce op t n) at less = rw (lt-ltb id 8 less) (sym (set-there all me memory at))
 join-memories limits me id posts memory all (colls.Commit mask) at less = rw (lt-ltb id 8 less) (sym (set-there all me memory at))
 join-memories limits me id posts memory all (colls.Create seg size) at less = rw (lt-ltb id 8 less, at) refl
 
-pub record IsJoinStep (s t : State) (c : CallerId) (id : ℕ) (args : Args) (posts : Posts) (g : groups.Group) (part : Part) (memory : Memory) (h : Handle) : Type 0 where
+pub record IsJoinStep (s t : State) (c : CallerId) (id : ℕ) (args : Args) (posts : Posts) (g : groups.Group) (part : RankContributions) (memory : Memory) (h : Handle) : Type 0 where
   pub posts_there : slice_get s.posts c.rank ≡ Some posts
   pub memory_there : slice_get s.memories c.rank ≡ Some memory
   pub there : IsThere s c.rank id g part
@@ -92,7 +92,7 @@ pub record IsJoinStep (s t : State) (c : CallerId) (id : ℕ) (args : Args) (pos
   }
 
 pub join-step : (s t : State) (c : CallerId) (id : ℕ) (args : Args) → IsSound s → step s (Joined c id args) ≡ Ok t
-    → (posts : Posts) × (g : groups.Group) × (part : Part) × (memory : Memory) × (h : Handle) × IsJoinStep s t c id args posts g part memory h
+    → (posts : Posts) × (g : groups.Group) × (part : RankContributions) × (memory : Memory) × (h : Handle) × IsJoinStep s t c id args posts g part memory h
 join-step s t c id args sound h =
     let made = step-joined s t c id args h in
     let m = made.2 in

@@ -1,7 +1,7 @@
 -- What the calls on groups have found that are done.
 use Rattle.std.proofs.Common.{◌≡◌, ◌+◌, true, not, ◌==◌, nat_lt, Option, None, Some, Ok}
-use Rattle.gaspi_types.specs.Groups.{is_building, handle_at, next_group, building_at, drop_checks, idle_checks}
-use Rattle.gaspi_types.specs.Tables.{entry_at}
+use Rattle.gaspi_types.specs.Groups.{is_building, handle_at, next_group, building_at, delete_checks, idle_checks}
+use Rattle.gaspi_types.specs.Tables.{item_at}
 use Rattle.gaspi_types.specs.declared.calls.groups.GroupAdd as group_add
 use Rattle.gaspi_types.specs.declared.calls.groups.GroupDelete as group_delete
 use Rattle.gaspi_types.specs.declared.groups.Handle.{Handle}
@@ -10,19 +10,19 @@ use Rattle.gaspi_types.specs.declared.replies.Refusal.TheVariants.{NoGroup, BadR
 use Rattle.gaspi_types.specs.declared.replies.Reply.{Reply}
 use Rattle.gaspi_types.specs.declared.replies.Reply.TheVariants as replies
 use Rattle.gaspi_types.proofs.Chains.{bind_then, check_then, found_then, absent_none, check_holds, same_Ok}
-use Rattle.gaspi_model.specs.GroupCalls.{group_create_finds, group_add_finds, group_delete_finds}
+use Rattle.gaspi_model.specs.GroupCalls.{group_create_result, group_add_result, group_delete_result}
 use Rattle.gaspi_model.specs.declared.states.Posts.{Posts}
 
 -- a group that is made has the next number, and there is one more
 pub record IsCreateFound (posts : Posts) (reply : Reply) : Type 0 where
-  pub room : nat_lt posts.groups.made 7 ≡ true
-  pub answers : reply ≡ replies.Id (posts.groups.made + 1)
+  pub room : nat_lt posts.groups.last_id 7 ≡ true
+  pub answers : reply ≡ replies.Id (posts.groups.last_id + 1)
 
-pub create-found : (posts : Posts) (reply : Reply) → group_create_finds posts ≡ Ok (Some reply) → IsCreateFound posts reply
+pub create-found : (posts : Posts) (reply : Reply) → group_create_result posts ≡ Ok (Some reply) → IsCreateFound posts reply
 create-found posts reply h =
     bind_then (next_group posts.groups) _ (Some reply) h (λ id next h1.
-    check_then (nat_lt posts.groups.made 7) GroupsFull _ id next (λ room h2.
-    let same : posts.groups.made + 1 ≡ id = same_Ok _ _ h2 in
+    check_then (nat_lt posts.groups.last_id 7) GroupsFull _ id next (λ room h2.
+    let same : posts.groups.last_id + 1 ≡ id = same_Ok _ _ h2 in
     let some : ◌≡◌ {A = Option Reply} (Some (replies.Id id)) (Some reply) = same_Ok _ _ h1 in
     record { room = room; answers = (let is : reply ≡ replies.Id id = cc in rw same is) }))
 
@@ -32,10 +32,10 @@ pub record IsAddFound (limits : Limits) (posts : Posts) (call : group_add.GroupA
   pub handle : Handle
   pub there : handle_at posts.groups call.group ≡ Some handle
   pub building : is_building handle.stage ≡ true
-  pub idle : entry_at posts.pending call.group ≡ None
+  pub idle : item_at posts.pending call.group ≡ None
   pub done : reply ≡ replies.Done
 
-pub add-found : (limits : Limits) (posts : Posts) (call : group_add.GroupAdd) (reply : Reply) → group_add_finds limits posts call ≡ Ok (Some reply) → IsAddFound limits posts call reply
+pub add-found : (limits : Limits) (posts : Posts) (call : group_add.GroupAdd) (reply : Reply) → group_add_result limits posts call ≡ Ok (Some reply) → IsAddFound limits posts call reply
 add-found limits posts call reply h =
     check_then (nat_lt call.rank limits.ranks) BadRank _ (Some reply) h (λ ranked h1.
     bind_then (building_at posts.groups call.group) _ (Some reply) h1 (λ handle found h2.
@@ -51,12 +51,12 @@ pub record IsDropFound (posts : Posts) (call : group_delete.GroupDelete) (reply 
   pub handle : Handle
   pub there : handle_at posts.groups call.group ≡ Some handle
   pub other : not (call.group == 0) ≡ true
-  pub idle : entry_at posts.pending call.group ≡ None
+  pub idle : item_at posts.pending call.group ≡ None
   pub done : reply ≡ replies.Done
 
-pub drop-found : (posts : Posts) (call : group_delete.GroupDelete) (reply : Reply) → group_delete_finds posts call ≡ Ok (Some reply) → IsDropFound posts call reply
+pub drop-found : (posts : Posts) (call : group_delete.GroupDelete) (reply : Reply) → group_delete_result posts call ≡ Ok (Some reply) → IsDropFound posts call reply
 drop-found posts call reply h =
-    bind_then (drop_checks posts.groups call.group) _ (Some reply) h (λ v found h1.
+    bind_then (delete_checks posts.groups call.group) _ (Some reply) h (λ v found h1.
     bind_then (idle_checks posts.pending call.group) _ (Some reply) h1 (λ u idle h2.
     found_then (handle_at posts.groups call.group) NoGroup _ v found (λ handle there h3.
     let some : ◌≡◌ {A = Option Reply} (Some replies.Done) (Some reply) = same_Ok _ _ h2 in

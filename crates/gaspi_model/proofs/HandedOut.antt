@@ -6,7 +6,7 @@ use Rattle.std.proofs.lemmas.Bool.{cases_order}
 use Rattle.std.proofs.lemmas.List.{take-append-drop}
 use Rattle.std.proofs.lemmas.Option.{slice_get_within}
 use Rattle.gaspi_types.specs.SegmentTables.{extent_in}
-use Rattle.gaspi_types.specs.World.{World, IsWorld}
+use Rattle.gaspi_types.specs.World.{ShapeValue, IsShape}
 use Rattle.gaspi_types.specs.declared.calls.Call.TheVariants.{Reset}
 use Rattle.gaspi_types.specs.declared.calls.notifications.Reset as reset
 use Rattle.gaspi_types.specs.declared.entries.Entry.{Entry}
@@ -23,20 +23,20 @@ use Rattle.gaspi_model.specs.State.{segment_at}
 use Rattle.gaspi_model.specs.Step.{step, reached, is_legal}
 use Rattle.gaspi_model.specs.declared.states.Memory.{Memory}
 use Rattle.gaspi_model.specs.declared.states.State.{State}
-use Rattle.gaspi_model.proofs.Changed.OwnCalls.{own-there, own-worked, slot-reset}
+use Rattle.gaspi_model.proofs.Changed.OwnCalls.{own-there, own-on_memory, slot-reset}
 use Rattle.gaspi_model.proofs.Histories.{leads, prefix, reached-sound}
 use Rattle.gaspi_model.specs.Notifications.{Sets, SetsSlot, IsResetOf, IsHandedOut, HandsOutOnce}
 use Rattle.gaspi_model.proofs.HeldSteps.{Holds, sets-one}
 use Rattle.gaspi_model.proofs.LastSets.{IsSetStill, last-step, set-by, set-still}
 
 -- each event of a legal history is a step from the state that the events before it lead to
-record IsStepAt (w : World) (history : List Event) (place : ℕ) (e : Event) : Type 0 where
+record IsStepAt (w : ShapeValue) (history : List Event) (place : ℕ) (e : Event) : Type 0 where
   before : State
   after : State
   leads_there : reached w (take place history) ≡ Ok before
   steps : step before e ≡ Ok after
 
-step-at : (w : World) (history : List Event) (place : ℕ) (e : Event) → is_legal w history ≡ true → slice_get history place ≡ Some e → IsStepAt w history place e
+step-at : (w : ShapeValue) (history : List Event) (place : ℕ) (e : Event) → is_legal w history ≡ true → slice_get history place ≡ Some e → IsStepAt w history place e
 step-at w history place e legal at =
     let whole : is_legal w (take (place + 1) history ++ drop (place + 1) history) ≡ true = ap (is_legal w) (take-append-drop (place + 1) history) ∙ legal in
     let end = leads (reached w (take (place + 1) history)) (prefix w (take (place + 1) history) (drop (place + 1) history) whole) in
@@ -47,7 +47,7 @@ step-at w history place e legal at =
 reset-there : (s t : State) (c : CallerId) (call : reset.Reset) (value : ℕ) → IsSound s → step s (Called c (Reset call) (replies.Value value)) ≡ Ok t
     → (memory : Memory) × (item : Segment) × (slice_get s.memories c.rank ≡ Some memory) × (segment_at memory call.seg ≡ Some item)
 reset-there s t c call value sound h =
-    let made = own-worked s t c (Reset call) (replies.Value value) refl refl refl sound h in
+    let made = own-on_memory s t c (Reset call) (replies.Value value) refl refl refl sound h in
     let m = made.2 in
     found_then (extent_in made.0.segments.own call.seg) _ _ (Some (replies.Value value)) m.finds (λ mine hm rest.
     let item = own-there s c.rank made.0 made.1 call.seg mine sound m.posts_there m.memory_there hm in
@@ -77,7 +77,7 @@ reset-holds s t c call value memory item slot sound h memory_there there segment
     }
 
 -- The reset at a place answers what was set last.
-still-set : (w : World) (history : List Event) (place rank : ℕ) (slot : NoteSlot) (value : ℕ) → IsWorld w → is_legal w history ≡ true → value ≢ 0 → IsResetOf w history place rank slot value
+still-set : (w : ShapeValue) (history : List Event) (place rank : ℕ) (slot : NoteSlot) (value : ℕ) → IsShape w → is_legal w history ≡ true → value ≢ 0 → IsResetOf w history place rank slot value
     → IsSetStill w history place rank slot value
 still-set w history place rank slot value world legal some r =
     let at = step-at w history place _ legal r.is in
@@ -88,7 +88,7 @@ still-set w history place rank slot value world legal some r =
     let within = slice_get_within history place _ r.is in
     set-still w history place at.before rank slot value world (omega arith) at.leads_there some (subst (λ (k : ℕ). Holds at.before k slot value) r.own holds)
 
-each-set : (w : World) (history : List Event) → IsWorld w → is_legal w history ≡ true → (place : ℕ) (c : CallerId) (call : reset.Reset) (value : ℕ)
+each-set : (w : ShapeValue) (history : List Event) → IsShape w → is_legal w history ≡ true → (place : ℕ) (c : CallerId) (call : reset.Reset) (value : ℕ)
     → slice_get history place ≡ Some (Called c (Reset call) (replies.Value value)) → value ≢ 0 → (put : ℕ) × IsHandedOut w history put place value value
 each-set w history world legal place c call value is some =
     let at = step-at w history place _ legal is in
@@ -101,7 +101,7 @@ each-set w history world legal place c call value is some =
     (still.put, record { rank = c.rank; slot = slot; resets = resets; some = some; last = still.last })
 
 -- one put sets one slot
-pub one-slot : (w : World) (history : List Event) (place rank rank' : ℕ) (slot slot' : NoteSlot) (value value' : ℕ) → SetsSlot w history place rank slot value → SetsSlot w history place rank' slot' value'
+pub one-slot : (w : ShapeValue) (history : List Event) (place rank rank' : ℕ) (slot slot' : NoteSlot) (value value' : ℕ) → SetsSlot w history place rank slot value → SetsSlot w history place rank' slot' value'
     → (rank ≡ rank') × (slot ≡ slot')
 one-slot w history place rank rank' slot slot' value value' a b =
     let by = set-by w history place _ a.state rank' slot' value' a.is a.leads b in
@@ -110,7 +110,7 @@ one-slot w history place rank rank' slot slot' value value' a b =
     sets-one a.origin a.target a.entry.kind rank rank' slot slot' value value' a.sets (subst (λ (e : Entry). Sets a.origin a.target e.kind rank' slot' value') same by.2)
 
 -- no earlier reset has taken what a put has set last
-not-before : (w : World) (history : List Event) → IsWorld w → is_legal w history ≡ true → (put place other set later answered again : ℕ)
+not-before : (w : ShapeValue) (history : List Event) → IsShape w → is_legal w history ≡ true → (put place other set later answered again : ℕ)
     → IsHandedOut w history put place set answered → IsHandedOut w history put other later again → place < other → ⊥
 not-before w history world legal put place other set later answered again first second less =
     let still = still-set w history other second.rank second.slot again world legal second.some second.resets in
@@ -127,7 +127,7 @@ not-before w history world legal put place other set later answered again first 
     by-order still (inr (inl before)) = still.last.last put later before second.last.earlier second.last.sets
     by-order still (inr (inr behind)) = second.last.last still.put again behind still.last.earlier still.last.sets
 
-pub hands-out-once : (w : World) (history : List Event) → IsWorld w → is_legal w history ≡ true → HandsOutOnce w history
+pub hands-out-once : (w : ShapeValue) (history : List Event) → IsShape w → is_legal w history ≡ true → HandsOutOnce w history
 hands-out-once w history world legal = record {
   each = each-set w history world legal;
   once = λ put place other set later answered again first second. by-order put place other set later answered again first second (cases_order place other);

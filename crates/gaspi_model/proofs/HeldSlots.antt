@@ -4,7 +4,7 @@ use Rattle.std.specs.List.{slice_get, slice_set}
 use Rattle.std.specs.Option.{option_map, unwrap_or}
 use Rattle.gaspi_types.specs.SegmentBytes.{with_range}
 use Rattle.gaspi_types.specs.Segments.{segment_in}
-use Rattle.gaspi_types.specs.Tables.{entry_at}
+use Rattle.gaspi_types.specs.Tables.{item_at}
 use Rattle.gaspi_types.specs.declared.calls.Call.{Call}
 use Rattle.gaspi_types.specs.declared.calls.Call.TheVariants.{Alloc, Delete, Store, Reset, PassiveSend, PassiveReceive, FetchAdd, CompareSwap}
 use Rattle.gaspi_types.specs.declared.calls.passive.PassiveReceive as receive
@@ -13,9 +13,9 @@ use Rattle.gaspi_types.specs.declared.inboxes.Message.{Message}
 use Rattle.gaspi_types.specs.declared.segments.Segment.{Segment}
 use Rattle.gaspi_types.specs.declared.shapes.Limits.{Limits}
 use Rattle.gaspi_types.proofs.Items.{slice_get-set, slice_get-set_same, slice_get-set_other, slice_get-replicate, same-or-not, joined}
-use Rattle.gaspi_model.specs.Calls.{memory_done}
+use Rattle.gaspi_model.specs.Calls.{memory_effect}
 use Rattle.gaspi_model.specs.Memories.{bytes_of, slots_of, with_bytes, with_slots}
-use Rattle.gaspi_model.specs.PassiveCalls.{send_leaves, receive_leaves}
+use Rattle.gaspi_model.specs.PassiveCalls.{send_effect, receive_effect}
 use Rattle.gaspi_model.specs.declared.states.Memory.{Memory}
 use Rattle.gaspi_model.specs.declared.states.Posts.{Posts}
 
@@ -69,7 +69,7 @@ pub slot-set : (memory : Memory) (segment note set : ℕ) (slot : NoteSlot) (val
 slot-set memory segment note set slot value h = same-or-not segment slot.segment (λ same. here (sym same)) (λ apart. inr (kept h.slots (sym (slice_get-set_other memory.slots segment slot.segment new apart) ∙ h.slots_there) h.holds, λ same noted. apart (sym same)))
   where
     new : Option (List ℕ)
-    new = option_map (λ (old : List ℕ). slice_set (slots_of memory segment) note set) (entry_at memory.slots segment)
+    new = option_map (λ (old : List ℕ). slice_set (slots_of memory segment) note set) (item_at memory.slots segment)
 
     kept : (slots : List ℕ) → slice_get memory.slots slot.segment ≡ Some (Some slots) → slice_get slots slot.note ≡ Some value → HoldsIn memory slot value
     kept slots there holds = record { item = h.item; slots = slots; there = h.there; same = h.same; slots_there = there; holds = holds }
@@ -81,13 +81,13 @@ slot-set memory segment note set slot value h = same-or-not segment slot.segment
         (λ noted. inl (same, sym noted, set-is old note set value (subst (λ (k : ℕ). slice_get (slice_set old note set) k ≡ Some value) (sym noted) holds)))
         (λ apart. inr (kept old (ap (slice_get memory.slots) same ∙ there) (sym (slice_get-set_other old note slot.note set apart) ∙ holds), λ same noted. apart (sym noted)))
 
-    by-entry : (o : Option (List ℕ)) → entry_at memory.slots segment ≡ o → slot.segment ≡ segment → Some h.slots ≡ option_map (λ (old : List ℕ). slice_set (unwrap_or o []) note set) o → IsSetOrKept memory segment note set slot value
+    by-entry : (o : Option (List ℕ)) → item_at memory.slots segment ≡ o → slot.segment ≡ segment → Some h.slots ≡ option_map (λ (old : List ℕ). slice_set (unwrap_or o []) note set) o → IsSetOrKept memory segment note set slot value
     by-entry None at same is = absurd (let no : ⊥ = cc in no)
     by-entry (Some old) at same is = in-slots old same (joined memory.slots segment old at) (let are : h.slots ≡ slice_set old note set = cc in are)
 
     here : slot.segment ≡ segment → IsSetOrKept memory segment note set slot value
     here same =
-        by-entry (entry_at memory.slots segment) refl same
+        by-entry (item_at memory.slots segment) refl same
         (set-is memory.slots segment new (Some h.slots) (subst (λ (k : ℕ). slice_get (slice_set memory.slots segment new) k ≡ Some (Some h.slots)) same h.slots_there))
 
 -- A segment that is made: all its slots are 0.
@@ -131,11 +131,11 @@ gone-keep memory segment slot value h = same-or-not segment slot.segment
 inbox-keep : (memory : Memory) (inbox : List Message) (slot : NoteSlot) (value : ℕ) → HoldsIn (record memory { inbox = inbox }) slot value → HoldsIn memory slot value
 inbox-keep memory inbox slot value h = record { item = h.item; slots = h.slots; there = h.there; same = h.same; slots_there = h.slots_there; holds = h.holds }
 
-send-keep : (brought : Option Message) (memory : Memory) (slot : NoteSlot) (value : ℕ) → HoldsIn (send_leaves brought memory) slot value → HoldsIn memory slot value
+send-keep : (brought : Option Message) (memory : Memory) (slot : NoteSlot) (value : ℕ) → HoldsIn (send_effect brought memory) slot value → HoldsIn memory slot value
 send-keep None memory slot value h = h
 send-keep (Some message) memory slot value h = inbox-keep memory _ slot value h
 
-receive-keep : (memory : Memory) (call : receive.PassiveReceive) (slot : NoteSlot) (value : ℕ) → HoldsIn (receive_leaves memory call) slot value → HoldsIn memory slot value
+receive-keep : (memory : Memory) (call : receive.PassiveReceive) (slot : NoteSlot) (value : ℕ) → HoldsIn (receive_effect memory call) slot value → HoldsIn memory slot value
 receive-keep memory call slot value h = go memory.inbox refl
   where
     go : (inbox : List Message) → memory.inbox ≡ inbox → HoldsIn memory slot value
@@ -146,7 +146,7 @@ receive-keep memory call slot value h = go memory.inbox refl
 
 -- no call makes a slot hold another value than 0
 pub call-keeps : (limits : Limits) (posts : Posts) (brought : Option Message) (memory : Memory) (call : Call) (slot : NoteSlot) (value : ℕ) → value ≢ 0
-    → HoldsIn (memory_done limits posts brought memory call) slot value → HoldsIn memory slot value
+    → HoldsIn (memory_effect limits posts brought memory call) slot value → HoldsIn memory slot value
 call-keeps limits posts brought memory (Alloc call) slot value some h = made-keep memory call.seg _ limits.notes slot value some h
 call-keeps limits posts brought memory (Delete call) slot value some h = gone-keep memory call.seg slot value h
 call-keeps limits posts brought memory (Store call) slot value some h = bytes-keep memory call.seg _ slot value h

@@ -31,11 +31,11 @@ use Rattle.gaspi_types.proofs.Written.{segment-behind, there-in-generation}
 use Rattle.gaspi_model.specs.Calls.{memory_after}
 use Rattle.gaspi_model.specs.Changes.{put_rank}
 use Rattle.gaspi_model.specs.Coherence.{HasOwn, IsIn}
-use Rattle.gaspi_model.specs.Shards.{standing, is_create}
+use Rattle.gaspi_model.specs.Shards.{entry_after, is_create}
 use Rattle.gaspi_model.specs.Sound.{IsSound}
 use Rattle.gaspi_model.specs.State.{segment_at}
-use Rattle.gaspi_model.specs.Step.{step, call_brought}
-use Rattle.gaspi_model.specs.Transfers.{Found, Worked, memory_with_put, carried_bytes, put_outcome, same_outcome}
+use Rattle.gaspi_model.specs.Step.{step, call_message}
+use Rattle.gaspi_model.specs.Transfers.{EntryPosition, PostsAndMemory, memory_with_put, carried_bytes, put_outcome, same_outcome}
 use Rattle.gaspi_model.specs.declared.states.Memory.{Memory}
 use Rattle.gaspi_model.specs.declared.states.Posts.{Posts}
 use Rattle.gaspi_model.specs.declared.states.State.{State}
@@ -46,7 +46,7 @@ use Rattle.gaspi_model.proofs.Changed.Transfers.{put-failed}
 use Rattle.gaspi_model.proofs.GroupSteps.{step-completed}
 use Rattle.gaspi_model.proofs.Made.{entry-found, step-take}
 use Rattle.gaspi_model.proofs.Sound.CoherentSteps.{applied-there}
-use Rattle.gaspi_model.proofs.Worked.{memory_rank, IsPutThere, sound-called, sound-put}
+use Rattle.gaspi_model.proofs.OnPostsAndMemory.{memory_rank, IsPutThere, sound-called, sound-put}
 use Rattle.gaspi_model.specs.Notifications.{Sets}
 use Rattle.gaspi_model.proofs.HeldSlots.{HoldsIn, IsSetOrKept, with_slot, bytes-keep, slot-set, made-keep, call-keeps}
 
@@ -74,9 +74,9 @@ called-keeps : (s t : State) (c : CallerId) (call : Call) (reply : Reply) (rank 
     → Holds t rank slot value → Holds s rank slot value
 called-keeps s t c call reply rank slot value sound h some holds = by-group (row_of call).group refl
   where
-    after-keeps : (posts : Posts) (memory : Memory) (idle : Bool) → is_idle reply ≡ idle → HoldsIn (memory_after s.limits posts (call_brought s c.rank call) memory call reply) slot value → HoldsIn memory slot value
+    after-keeps : (posts : Posts) (memory : Memory) (idle : Bool) → is_idle reply ≡ idle → HoldsIn (memory_after s.limits posts (call_message s c.rank call) memory call reply) slot value → HoldsIn memory slot value
     after-keeps posts memory true is has = (let same : HoldsIn memory slot value = rw is at has in same)
-    after-keeps posts memory false is has = call-keeps s.limits posts (call_brought s c.rank call) memory call slot value some (rw is at has)
+    after-keeps posts memory false is has = call-keeps s.limits posts (call_message s c.rank call) memory call slot value some (rw is at has)
 
     by-group : (o : Option ℕ) → (row_of call).group ≡ o → Holds s rank slot value
     by-group (Some id) named = unchanged-keeps s t rank slot value (ap (λ (x : State). x.memories) (step-completed s t c id call reply named h).2.leaves) holds
@@ -84,7 +84,7 @@ called-keeps s t c call reply rank slot value sound h some holds = by-group (row
         let made = sound-called s t c call reply plain sound h in
         let m = made.3 in
         changed-keeps s t (memory_rank s.limits c.rank call) made.1 made.2.memory rank slot value m.memory_there (ap (λ (x : State). x.memories) m.leaves)
-        (λ has. after-keeps made.0 made.1 (is_idle reply) refl (subst (λ (w : Worked). HoldsIn w.memory slot value) m.is.leaves has)) holds
+        (λ has. after-keeps made.0 made.1 (is_idle reply) refl (subst (λ (w : PostsAndMemory). HoldsIn w.memory slot value) m.is.leaves has)) holds
 
 -- A join.
 joined-keeps : (s t : State) (c : CallerId) (id : ℕ) (args : Args) (rank : ℕ) (slot : NoteSlot) (value : ℕ) → IsSound s → step s (Joined c id args) ≡ Ok t → value ≢ 0
@@ -191,7 +191,7 @@ kind-there s origin target posts memory (ReadNote own) phase sound hp hm applied
 -- What an event sets in the state in which it comes, and what it resets.
 abbrev pub SetsBy : State → Event → ℕ → NoteSlot → ℕ → Type 0
 SetsBy s (Put origin queue target number Applied) rank slot value =
-    (entry : Entry) × (standing s origin queue target number ≡ Some entry) × Sets origin target entry.kind rank slot value
+    (entry : Entry) × (entry_after s origin queue target number ≡ Some entry) × Sets origin target entry.kind rank slot value
 SetsBy s e rank slot value = ⊥
 
 abbrev pub Resets : Event → ℕ → NoteSlot → Type 0
@@ -214,7 +214,7 @@ put-sets s t origin queue target number rank slot value sound h holds =
     let there = kind-there s origin target made.0 made.1 at.entry.kind at.entry.phase sound m.posts_there m.memory_there m.is.fits fits.1 (both (is_carried at.entry) _ m.is.permitted).0 in
     go made.0 made.1 made.2 at m there
   where
-    go : (posts : Posts) (memory : Memory) (after : Worked) (at : Found) → IsPutThere s t origin queue target number Applied posts memory after at → IsSetThere memory at.entry.kind
+    go : (posts : Posts) (memory : Memory) (after : PostsAndMemory) (at : EntryPosition) → IsPutThere s t origin queue target number Applied posts memory after at → IsSetThere memory at.entry.kind
         → IsSetOrHeld s (Put origin queue target number Applied) rank slot value
     go posts memory after at m there = same-or-not place rank
         (λ same. by-kind (kind-puts origin target memory at.entry.kind (carried_bytes at.entry.phase) rank slot value there (sym same) (has same)) same)
@@ -223,7 +223,7 @@ put-sets s t origin queue target number rank slot value sound h holds =
         place : ℕ
         place = put_rank origin target at.entry.kind
 
-        stands : standing s origin queue target number ≡ Some at.entry
+        stands : entry_after s origin queue target number ≡ Some at.entry
         stands = rw m.posts_there (entry-found posts queue target number at m.is.is)
 
         -- the entry is the one that stands there
@@ -244,7 +244,7 @@ put-sets s t origin queue target number rank slot value sound h holds =
             let now = subst (λ (k : ℕ). slice_get (slice_set s.memories place after.memory) k ≡ Some after.memory) same (slice_get-set_same s.memories place memory after.memory m.memory_there) in
             let some : ◌≡◌ {A = Option Memory} (Some holds.memory) (Some after.memory) = sym later ∙ now in
             let is : holds.memory ≡ after.memory = cc in
-            subst (λ (x : Memory). HoldsIn x slot value) (is ∙ ap (λ (x : Worked). x.memory) m.is.leaves) holds.has
+            subst (λ (x : Memory). HoldsIn x slot value) (is ∙ ap (λ (x : PostsAndMemory). x.memory) m.is.leaves) holds.has
 
         by-kind : PutsOrKeeps origin target memory at.entry.kind rank slot value → place ≡ rank → IsSetOrHeld s (Put origin queue target number Applied) rank slot value
         by-kind (inl sets) same = inl (at.entry, stands, sets)

@@ -1,6 +1,6 @@
 -- Histories, one event after another.
 use Rattle.std.proofs.Common.{◌≡◌, true, List, [], ◌∷◌, ◌++◌, Result, Ok, Err, refl, sym, ap, ◌∙◌, is_ok}
-use Rattle.gaspi_types.specs.World.{World, IsWorld}
+use Rattle.gaspi_types.specs.World.{ShapeValue, IsShape}
 use Rattle.gaspi_types.specs.declared.events.Event.{Event}
 use Rattle.gaspi_model.specs.State.{opening}
 use Rattle.gaspi_model.specs.Step.{step, after, reached, is_legal}
@@ -41,7 +41,7 @@ leads (Ok t) h = (t, refl)
 leads (Err why) h = absurd (let no : ⊥ = cc in no)
 
 -- a prefix of a legal history is legal
-pub prefix : (w : World) (a b : List Event) → is_legal w (a ++ b) ≡ true → is_legal w a ≡ true
+pub prefix : (w : ShapeValue) (a b : List Event) → is_legal w (a ++ b) ≡ true → is_legal w a ≡ true
 prefix w a b h =
     let end = leads (reached w (a ++ b)) h in
     let first = after-both (opening w) end.0 a b end.1 in
@@ -61,5 +61,5 @@ after-limits s t (e ∷ events) h =
     after-limits first.0 t events first.2 ∙ limits-stay s first.0 e first.1
 
 -- every state of a legal history is sound
-pub reached-sound : (w : World) (history : List Event) (s : State) → IsWorld w → reached w history ≡ Ok s → IsSound s
+pub reached-sound : (w : ShapeValue) (history : List Event) (s : State) → IsShape w → reached w history ≡ Ok s → IsSound s
 reached-sound w history s world h = after-sound (opening w) s history (opens w world) h

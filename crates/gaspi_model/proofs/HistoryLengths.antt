@@ -6,7 +6,7 @@ use Rattle.std.proofs.lemmas.List.FromFn.{length-map-range_with_len}
 use Rattle.std.proofs.lemmas.List.Elements.{All-nil, All-cons}
 use Rattle.std.proofs.lemmas.List.Sums.{sum_by-le}
 use Rattle.gaspi_types.specs.Ranges.{is_between}
-use Rattle.gaspi_types.specs.World.{World, IsWorld}
+use Rattle.gaspi_types.specs.World.{ShapeValue, IsShape}
 use Rattle.gaspi_types.specs.declared.events.Event.{Event}
 use Rattle.gaspi_types.proofs.Chains.{bind_then, both, same_Ok}
 use Rattle.gaspi_model.specs.Sound.{IsSound, events_left}
@@ -35,7 +35,7 @@ all-few events most few [] = All-nil (λ (p : Posts). events - p.events ≤ most
 all-few events most few (p ∷ posts) = All-cons (λ (q : Posts). events - q.events ≤ most) p posts (omega arith) (all-few events most few posts)
 
 -- a world's ranks record at most so many events
-pub few-left : (w : World) → IsWorld w → events_left (opening w) ≤ 1048576
+pub few-left : (w : ShapeValue) → IsShape w → events_left (opening w) ≤ 1048576
 few-left w world =
     let one = both (is_between 1 16 w.limits.ranks) _ world.limits in
     let ranks = between 1 16 w.limits.ranks one.0 in
@@ -49,33 +49,33 @@ few-left w world =
     omega arith
 
 -- which are EVENTS for each rank
-left-at-start : (w : World) → events_left (opening w) ≤ w.limits.ranks * w.limits.events
+left-at-start : (w : ShapeValue) → events_left (opening w) ≤ w.limits.ranks * w.limits.events
 left-at-start w =
     let many : length (opening w).posts ≡ w.limits.ranks = length-map-range_with_len (opening_posts w) 0 w.limits.ranks in
     let most = sum_by-le (λ (p : Posts). w.limits.events - p.events) w.limits.events (opening w).posts (all-few w.limits.events w.limits.events (omega arith) (opening w).posts) in
     subst (λ n. events_left (opening w) ≤ n * w.limits.events) many most
 
-within : (w : World) (h : List Event) → IsWorld w → is_legal w h ≡ true → length h ≤ events_left (opening w)
+within : (w : ShapeValue) (h : List Event) → IsShape w → is_legal w h ≡ true → length h ≤ events_left (opening w)
 within w h world legal =
     let end = leads (reached w h) legal in
     let left = left-after (opening w) end.0 h (opens w world) end.1 in
     omega arith
 
 -- so a legal history has no more events
-pub within-limits : (w : World) (h : List Event) → IsWorld w → is_legal w h ≡ true → length h ≤ w.limits.ranks * w.limits.events
+pub within-limits : (w : ShapeValue) (h : List Event) → IsShape w → is_legal w h ≡ true → length h ≤ w.limits.ranks * w.limits.events
 within-limits w h world legal =
     let left = within w h world legal in
     let most = left-at-start w in
     omega arith
 
-pub within-most : (w : World) (h : List Event) → IsWorld w → is_legal w h ≡ true → length h ≤ 16 * 65536
+pub within-most : (w : ShapeValue) (h : List Event) → IsShape w → is_legal w h ≡ true → length h ≤ 16 * 65536
 within-most w h world legal =
     let left = within w h world legal in
     let most = few-left w world in
     omega arith
 
 -- and a history that leads to a state is short
-pub few-events : (w : World) (h : List Event) (s : State) → IsWorld w → reached w h ≡ Ok s → length h < 2 ^ 64
+pub few-events : (w : ShapeValue) (h : List Event) (s : State) → IsShape w → reached w h ≡ Ok s → length h < 2 ^ 64
 few-events w h s world is =
     let left = left-after (opening w) s h (opens w world) is in
     let few = few-left w world in

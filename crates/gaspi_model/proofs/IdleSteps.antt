@@ -16,8 +16,8 @@ use Rattle.gaspi_types.specs.CallRows.{row_of}
 use Rattle.gaspi_types.specs.declared.groups.Group.{Group}
 use Rattle.gaspi_model.specs.Step.{group_in}
 use Rattle.gaspi_model.proofs.GroupSteps.{with_group_at, group-same, step-completed}
-use Rattle.gaspi_model.proofs.Made.{memories_at, call_reach, memories-same, step-called}
-use Rattle.gaspi_model.proofs.Sound.Told.{told-idle}
+use Rattle.gaspi_model.proofs.Made.{memories_at, call-footprint, memories-same, step-called}
+use Rattle.gaspi_model.proofs.Sound.Registered.{registered-idle}
 
 -- a refusal or a timeout changes nothing but the count of events
 pub only-counted : (s t : State) (c : CallerId) (call : Call) (reply : Reply) → is_idle reply ≡ true → step s (Called c call reply) ≡ Ok t → IsOnlyCounted s t c.rank
@@ -43,8 +43,8 @@ only-counted s t c call reply idle h = by-group (row_of call).group refl
         record {
           posts = made.0;
           there = m.posts_there;
-          after = m.leaves ∙ ap (λ (x : List Posts). record s { posts = x; memories = memories_at (call_reach s.limits.ranks c.rank call) c.rank made.2.memory s.memories })
-              (told-idle s.limits.ranks c.rank made.0 call reply (slice_set s.posts c.rank made.2.posts) idle ∙ ap (slice_set s.posts c.rank) posts)
+          after = m.leaves ∙ ap (λ (x : List Posts). record s { posts = x; memories = memories_at (call-footprint s.limits.ranks c.rank call) c.rank made.2.memory s.memories })
+              (registered-idle s.limits.ranks c.rank made.0 call reply (slice_set s.posts c.rank made.2.posts) idle ∙ ap (slice_set s.posts c.rank) posts)
               ∙ ap (λ (x : List Memory). record s { posts = slice_set s.posts c.rank (counted made.0); memories = x })
-              (ap (λ (m' : Memory). memories_at (call_reach s.limits.ranks c.rank call) c.rank m' s.memories) (memory ∙ m.worked) ∙ memories-same (call_reach s.limits.ranks c.rank call) c.rank s.memories);
+              (ap (λ (m' : Memory). memories_at (call-footprint s.limits.ranks c.rank call) c.rank m' s.memories) (memory ∙ m.worked) ∙ memories-same (call-footprint s.limits.ranks c.rank call) c.rank s.memories);
         }

@@ -6,7 +6,7 @@ use Rattle.std.specs.Option.{option_map}
 use Rattle.std.proofs.lemmas.Bool.{cases_order}
 use Rattle.std.proofs.lemmas.List.{take_more}
 use Rattle.std.proofs.lemmas.Option.{get_or_from_slice_get, slice_get_within}
-use Rattle.gaspi_types.specs.World.{World, IsWorld}
+use Rattle.gaspi_types.specs.World.{ShapeValue, IsShape}
 use Rattle.gaspi_types.specs.declared.calls.Call.TheVariants.{Reset}
 use Rattle.gaspi_types.specs.declared.calls.notifications.Reset as reset
 use Rattle.gaspi_types.specs.declared.entries.NoteSlot.{NoteSlot}
@@ -17,7 +17,7 @@ use Rattle.gaspi_types.specs.declared.replies.Reply.TheVariants as replies
 use Rattle.gaspi_types.specs.declared.shapes.CallerId.{CallerId}
 use Rattle.gaspi_types.proofs.Chains.{same_Ok}
 use Rattle.gaspi_types.proofs.Items.{map-at, slice_get-replicate, there-within}
-use Rattle.gaspi_model.specs.Shards.{standing}
+use Rattle.gaspi_model.specs.Shards.{entry_after}
 use Rattle.gaspi_model.specs.State.{declared_size, new_slots, opening, opening_memory}
 use Rattle.gaspi_model.specs.Step.{step, reached}
 use Rattle.gaspi_model.specs.declared.states.Memory.{Memory}
@@ -32,7 +32,7 @@ NoResetAt history place rank slot =
     (c : CallerId) (call : reset.Reset) (answered : ℕ) → slice_get history place ≡ Some (Called c (Reset call) (replies.Value answered)) → Resets (Called c (Reset call) (replies.Value answered)) rank slot → ⊥
 
 -- A slot was set to a value by its last put before a place, and not reset since.
-pub record IsSetStill (w : World) (history : List Event) (place rank : ℕ) (slot : NoteSlot) (value : ℕ) : Type 0 where
+pub record IsSetStill (w : ShapeValue) (history : List Event) (place rank : ℕ) (slot : NoteSlot) (value : ℕ) : Type 0 where
   pub put : ℕ
   pub last : IsLastSet w history put place rank slot value
   pub unreset : (between : ℕ) → put < between → between < place → NoResetAt history between rank slot
@@ -41,7 +41,7 @@ same-event : (history : List Event) (place : ℕ) (d e : Event) → slice_get hi
 same-event history place d e there here = (let some : ◌≡◌ {A = Option Event} (Some d) (Some e) = sym there ∙ here in cc)
 
 -- what the event at a place sets, it sets in the state that the events before it lead to
-pub set-at : (w : World) (history : List Event) (place : ℕ) (e : Event) (s : State) (rank : ℕ) (slot : NoteSlot) (value : ℕ) → slice_get history place ≡ Some e → reached w (take place history) ≡ Ok s
+pub set-at : (w : ShapeValue) (history : List Event) (place : ℕ) (e : Event) (s : State) (rank : ℕ) (slot : NoteSlot) (value : ℕ) → slice_get history place ≡ Some e → reached w (take place history) ≡ Ok s
     → SetsBy s e rank slot value → SetsSlot w history place rank slot value
 set-at w history place (Put origin queue target number Applied) s rank slot value at leads sets = record {
   origin = origin;
@@ -57,15 +57,15 @@ set-at w history place (Put origin queue target number Applied) s rank slot valu
 }
 set-at w history place other s rank slot value at leads sets = absurd sets
 
-pub set-by : (w : World) (history : List Event) (place : ℕ) (e : Event) (s : State) (rank : ℕ) (slot : NoteSlot) (value : ℕ) → slice_get history place ≡ Some e → reached w (take place history) ≡ Ok s
+pub set-by : (w : ShapeValue) (history : List Event) (place : ℕ) (e : Event) (s : State) (rank : ℕ) (slot : NoteSlot) (value : ℕ) → slice_get history place ≡ Some e → reached w (take place history) ≡ Ok s
     → SetsSlot w history place rank slot value → SetsBy s e rank slot value
 set-by w history place e s rank slot value at leads x =
     let event = same-event history place _ e x.is at in
     let state : x.state ≡ s = same_Ok _ _ (sym x.leads ∙ leads) in
-    subst (λ (k : Event). SetsBy s k rank slot value) event (x.entry, ap (λ (k : State). standing k x.origin x.queue x.target x.number) (sym state) ∙ x.stands, x.sets)
+    subst (λ (k : Event). SetsBy s k rank slot value) event (x.entry, ap (λ (k : State). entry_after k x.origin x.queue x.target x.number) (sym state) ∙ x.stands, x.sets)
 
 -- the last of the first events of a history is a step
-pub last-step : (w : World) (history : List Event) (place : ℕ) (e : Event) (t : State) → slice_get history place ≡ Some e → reached w (take (place + 1) history) ≡ Ok t
+pub last-step : (w : ShapeValue) (history : List Event) (place : ℕ) (e : Event) (t : State) → slice_get history place ≡ Some e → reached w (take (place + 1) history) ≡ Ok t
     → (s : State) × (reached w (take place history) ≡ Ok s) × (step s e ≡ Ok t)
 last-step w history place e t at h =
     let more : take (place + 1) history ≡ take place history ++ e ∷ [] =
@@ -82,7 +82,7 @@ opening-slots notes (Some size) slots note value is at =
     let are : slots ≡ replicate notes 0 = cc in
     slice_get-replicate notes 0 value note (ap (λ (xs : List ℕ). slice_get xs note) (sym are) ∙ at)
 
-opening-holds : (w : World) (rank : ℕ) (slot : NoteSlot) (value : ℕ) → Holds (opening w) rank slot value → value ≡ 0
+opening-holds : (w : ShapeValue) (rank : ℕ) (slot : NoteSlot) (value : ℕ) → Holds (opening w) rank slot value → value ≡ 0
 opening-holds w rank slot value h =
     let from = map-at (opening_memory w) (range_with_len 0 w.limits.ranks) rank h.memory h.memory_there in
     let there = ap (λ (m : Memory). slice_get m.slots slot.segment) (sym from.2) ∙ h.has.slots_there in
@@ -90,7 +90,7 @@ opening-holds w rank slot value h =
     opening-slots w.limits.notes (declared_size w from.0 slots.0) h.has.slots slot.note value slots.2 h.has.holds
 
 -- the last put stays so where the next event neither sets nor resets the slot
-set-on : (w : World) (history : List Event) (place rank : ℕ) (slot : NoteSlot) (value : ℕ) → IsSetStill w history place rank slot value
+set-on : (w : ShapeValue) (history : List Event) (place rank : ℕ) (slot : NoteSlot) (value : ℕ) → IsSetStill w history place rank slot value
     → ((other : ℕ) → SetsSlot w history place rank slot other → ⊥) → NoResetAt history place rank slot → IsSetStill w history (suc place) rank slot value
 set-on w history place rank slot value x unset unreset = record {
   put = x.put;
@@ -113,14 +113,14 @@ set-on w history place rank slot value x unset unreset = record {
     no-reset between after before (inr (inr more)) = absurd (let no : ⊥ = omega arith in no)
 
 -- a slot that was set just now
-set-now : (w : World) (history : List Event) (place rank : ℕ) (slot : NoteSlot) (value : ℕ) → SetsSlot w history place rank slot value → IsSetStill w history (suc place) rank slot value
+set-now : (w : ShapeValue) (history : List Event) (place rank : ℕ) (slot : NoteSlot) (value : ℕ) → SetsSlot w history place rank slot value → IsSetStill w history (suc place) rank slot value
 set-now w history place rank slot value sets = record {
   put = place;
   last = record { sets = sets; earlier = omega arith; last = λ between other after before later. omega arith };
   unreset = λ between after before c call answered at resets. omega arith;
 }
 
-pub set-still : (w : World) (history : List Event) (place : ℕ) (s : State) (rank : ℕ) (slot : NoteSlot) (value : ℕ) → IsWorld w → place ≤ length history → reached w (take place history) ≡ Ok s → value ≢ 0
+pub set-still : (w : ShapeValue) (history : List Event) (place : ℕ) (s : State) (rank : ℕ) (slot : NoteSlot) (value : ℕ) → IsShape w → place ≤ length history → reached w (take place history) ≡ Ok s → value ≢ 0
     → Holds s rank slot value → IsSetStill w history place rank slot value
 set-still w history zero s rank slot value world within leads some h =
     let start : opening w ≡ s = same_Ok _ _ leads in

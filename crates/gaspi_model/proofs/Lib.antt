@@ -22,7 +22,7 @@ pub mod LastSets
 pub mod Listed
 pub mod Local
 pub mod Made
-pub mod MetPosts
+pub mod CollectivePosts
 pub mod Ordered
 pub mod OwnCalls
 pub mod PassiveFinds
@@ -34,7 +34,7 @@ pub mod Settled
 pub mod Sound
 pub mod StaysPending
 pub mod Sums
-pub mod Worked
-pub mod WorkedHistories
-pub mod WorkedMessages
+pub mod OnPostsAndMemory
+pub mod HistoriesOnPosts
+pub mod MessagesOnPosts
 pub mod WorkedNotifications

@@ -14,7 +14,7 @@ use Rattle.gaspi_types.specs.declared.replies.Refusal.TheVariants.{NoSegment, Ba
 use Rattle.gaspi_types.specs.declared.replies.Reply.{Reply}
 use Rattle.gaspi_types.specs.declared.replies.Reply.TheVariants as replies
 use Rattle.gaspi_types.proofs.Chains.{bind_then, check_then, found_then, check_holds, same_Ok}
-use Rattle.gaspi_model.specs.PassiveCalls.{send_finds, receive_finds}
+use Rattle.gaspi_model.specs.PassiveCalls.{send_result, receive_result}
 use Rattle.gaspi_model.specs.declared.states.Posts.{Posts}
 use Rattle.gaspi_model.specs.declared.states.Memory.{Memory}
 
@@ -38,7 +38,7 @@ pub record IsSendFound (limits : Limits) (posts : Posts) (memory : Memory) (call
   pub room : has_room limits.inbox memory.inbox ≡ true
   pub done : reply ≡ replies.Done
 
-pub send-found : (limits : Limits) (posts : Posts) (memory : Memory) (call : send.PassiveSend) (reply : Reply) → send_finds limits posts memory call ≡ Ok (Some reply)
+pub send-found : (limits : Limits) (posts : Posts) (memory : Memory) (call : send.PassiveSend) (reply : Reply) → send_result limits posts memory call ≡ Ok (Some reply)
     → IsSendFound limits posts memory call reply
 send-found limits posts memory call reply h =
     check_then (nat_lt call.rank limits.ranks) BadRank _ (Some reply) h (λ ranked h1.
@@ -59,7 +59,7 @@ pub record IsReceiveFound (posts : Posts) (memory : Memory) (call : receive.Pass
   pub fits : length message.bytes ≤ call.size
   pub answers : reply ≡ replies.Id message.sender
 
-pub receive-found : (posts : Posts) (memory : Memory) (call : receive.PassiveReceive) (reply : Reply) → receive_finds posts memory call ≡ Ok (Some reply)
+pub receive-found : (posts : Posts) (memory : Memory) (call : receive.PassiveReceive) (reply : Reply) → receive_result posts memory call ≡ Ok (Some reply)
     → IsReceiveFound posts memory call reply
 receive-found posts memory call reply h =
     bind_then (passive_checks posts.segments.own call.seg call.offset call.size) _ (Some reply) h (λ u fits h1.

@@ -6,7 +6,7 @@ use Rattle.std.proofs.lemmas.Bool.{le-leb}
 use Rattle.gaspi_types.specs.CallRows.{row_of, is_end, is_collective, entries_of, need_of}
 use Rattle.gaspi_types.specs.Checks.{◌>>=◌}
 use Rattle.gaspi_types.specs.Replies.{same_reply}
-use Rattle.gaspi_types.specs.Touches.{reach_of}
+use Rattle.gaspi_types.specs.Footprints.{footprint_of}
 use Rattle.gaspi_types.specs.declared.calls.Call.{Call}
 use Rattle.gaspi_types.specs.declared.events.Event.TheVariants.{Called, Joined}
 use Rattle.gaspi_types.specs.declared.groups.Args.{Args}
@@ -18,13 +18,13 @@ use Rattle.gaspi_types.specs.declared.replies.Reply as answers
 use Rattle.gaspi_types.specs.declared.replies.Reply.TheVariants.{Refused}
 use Rattle.gaspi_types.specs.declared.shapes.CallerId.{CallerId}
 use Rattle.gaspi_types.specs.declared.shapes.Limits.{Limits}
-use Rattle.gaspi_model.specs.Calls.{call_finds, ready_of, answer, recorded_reply, charge, peer_after}
+use Rattle.gaspi_model.specs.Calls.{call_result, ready_of, answer, recorded_reply, charge, peer_after}
 use Rattle.gaspi_model.specs.CollectiveCalls.{collective_answer, is_reply_of, is_joining, group_of, join_event}
-use Rattle.gaspi_model.specs.Parts.{Parts, group_or_none, parts_of, with_parts, touched_of, with_worked_memory}
+use Rattle.gaspi_model.specs.Parts.{Parts, group_or_none, parts_of, with_parts, part_numbers, with_accessed_memory}
 use Rattle.gaspi_model.specs.Sound.{IsSound}
 use Rattle.gaspi_model.specs.State.{owed, thread_at, is_running}
-use Rattle.gaspi_model.specs.Step.{step, Met, called, completed, is_there, call_brought, call_memory, group_in, answer_in, is_active, is_declared, is_pending, room_taken}
-use Rattle.gaspi_model.specs.Transfers.{Worked}
+use Rattle.gaspi_model.specs.Step.{step, PostsAndGroup, called, completed, is_there, call_message, call_memory, group_in, answer_in, is_active, is_declared, is_pending, used_room}
+use Rattle.gaspi_model.specs.Transfers.{PostsAndMemory}
 use Rattle.gaspi_model.specs.declared.states.Posts.{Posts}
 use Rattle.gaspi_model.specs.declared.states.State.{State}
 use Rattle.gaspi_model.specs.declared.states.ThreadState.{ThreadState}
@@ -104,8 +104,8 @@ join-group s rank thread call args is =
     go posts hp None plain =
         let running = running-is s rank thread posts true hp (join-active s rank thread call args is) in
         let answers = (answers-in s rank thread call posts (Join args) hp is).0 plain in
-        let finds : ready_of (call_finds s.limits rank posts (call_memory s rank posts call) call) ≡ Join args = rw running at answers in
-        absurd (never (call_finds s.limits rank posts (call_memory s rank posts call) call) finds)
+        let finds : ready_of (call_result s.limits rank posts (call_memory s rank posts call) call) ≡ Join args = rw running at answers in
+        absurd (never (call_result s.limits rank posts (call_memory s rank posts call) call) finds)
 
 -- What may be recorded of an ended caller.
 
@@ -134,17 +134,17 @@ ended-called : (s : State) (c : CallerId) (call : Call) (posts : Posts) → (row
     → is_running (thread_at posts c.thread) ≡ false → posts.events + owed posts + 1 ≤ s.limits.events → IsOk (step s (Called c call (Refused CallerEnded)))
 ended-called s c call posts plain hp there ended room =
     let memory = call_memory s c.rank posts call in
-    let brought = call_brought s c.rank call in
+    let brought = call_message s c.rank call in
     let reply : answers.Reply = Refused CallerEnded in
-    let reach = reach_of s.limits.ranks c.rank (row_of call).touch in
-    let parts = parts_of s posts (touched_of c.rank reach) in
-    let leave = λ (after : Worked). (let left : Parts = record (with_worked_memory reach parts after.memory) { posts = after.posts; peer_posts = option_map (peer_after c.rank posts call reply) parts.peer_posts } in left) in
+    let reach = footprint_of s.limits.ranks c.rank (row_of call).footprint in
+    let parts = parts_of s posts (part_numbers c.rank reach) in
+    let leave = λ (after : PostsAndMemory). (let left : Parts = record (with_accessed_memory reach parts after.memory) { posts = after.posts; peer_posts = option_map (peer_after c.rank posts call reply) parts.peer_posts } in left) in
     let finds : answer s.limits c.rank posts memory c.thread call ≡ Reply (Refused CallerEnded) = rw ended refl in
     let same : same_reply reply (recorded_reply (answer s.limits c.rank posts memory c.thread call)) ≡ true = ap (λ (r : Ready). same_reply (Refused CallerEnded) (recorded_reply r)) finds in
     let one = ended-charge (thread_at posts c.thread) call ended in
     let fits = le-leb (posts.events + owed posts + charge (thread_at posts c.thread) call reply) s.limits.events (omega arith) in
     let recorded : IsOk (called s.limits c.rank posts brought memory c.thread call reply) = rw (there, same, fits) refl in
-    rw (hp, plain) (ok-then (called s.limits c.rank posts brought memory c.thread call reply >>= λ after. Ok (leave after)) (with_parts s c.rank (touched_of c.rank reach))
+    rw (hp, plain) (ok-then (called s.limits c.rank posts brought memory c.thread call reply >>= λ after. Ok (leave after)) (with_parts s c.rank (part_numbers c.rank reach))
     (ok-then (called s.limits c.rank posts brought memory c.thread call reply) leave recorded))
 
 -- a collective of one
@@ -152,23 +152,23 @@ ended-completed : (s : State) (c : CallerId) (id : ℕ) (call : Call) (posts : P
     → is_running (thread_at posts c.thread) ≡ false → posts.events + owed posts + 1 ≤ s.limits.events → IsOk (step s (Called c call (Refused CallerEnded)))
 ended-completed s c id call posts named hp there ended room =
     let reply : answers.Reply = Refused CallerEnded in
-    let reach = reach_of s.limits.ranks c.rank (row_of call).touch in
-    let parts = parts_of s posts (touched_of c.rank reach) in
+    let reach = footprint_of s.limits.ranks c.rank (row_of call).footprint in
+    let parts = parts_of s posts (part_numbers c.rank reach) in
     let finds : collective_answer posts (group_or_none parts.group) c.rank c.thread id call ≡ Reply (Refused CallerEnded) = rw ended refl in
     let answered : is_reply_of (collective_answer posts (group_or_none parts.group) c.rank c.thread id call) reply ≡ true = ap (λ (r : Ready). is_reply_of r (Refused CallerEnded)) finds in
     let fits = le-leb (posts.events + owed posts + 1) s.limits.events room in
     let done : IsOk (completed s.limits c.rank posts (group_or_none parts.group) c.thread id call reply) = rw (there, answered, fits) refl in
-    let leave = λ (after : Met). (let left : Parts = record parts { posts = after.posts; group = Some after.group } in left) in
-    rw (hp, named) (ok-then (completed s.limits c.rank posts (group_or_none parts.group) c.thread id call reply >>= λ after. Ok (leave after)) (with_parts s c.rank (touched_of c.rank reach))
+    let leave = λ (after : PostsAndGroup). (let left : Parts = record parts { posts = after.posts; group = Some after.group } in left) in
+    rw (hp, named) (ok-then (completed s.limits c.rank posts (group_or_none parts.group) c.thread id call reply >>= λ after. Ok (leave after)) (with_parts s c.rank (part_numbers c.rank reach))
     (ok-then (completed s.limits c.rank posts (group_or_none parts.group) c.thread id call reply) leave done))
 
 -- with the reply that it has, the call is a step where there is room for it
 ended-is_step : (s : State) (c : CallerId) (call : Call) (found : Ready) → is_declared s c.rank c.thread ≡ true → is_active s c.rank c.thread ≡ false
-    → room_taken s c.rank + need_of call (is_pending s c.rank c.thread call) true ≤ s.limits.events → answer_in s c.rank c.thread call ≡ Some found → IsOk (step s (Called c call (recorded_reply found)))
+    → used_room s c.rank + need_of call (is_pending s c.rank c.thread call) true ≤ s.limits.events → answer_in s c.rank c.thread call ≡ Some found → IsOk (step s (Called c call (recorded_reply found)))
 ended-is_step s c call found declared ended room is =
     let p = answered-posts s c.rank c.thread call found is in
     let there : is_there (thread_at p.0 c.thread) ≡ true = rw p.1 at declared in
-    let taken : room_taken s c.rank ≡ p.0.events + owed p.0 = rw p.1 refl in
+    let taken : used_room s c.rank ≡ p.0.events + owed p.0 = rw p.1 refl in
     let one = ended-needs call (is_pending s c.rank c.thread call) in
     rw (ended-answers s c.rank c.thread call found ended is) (by-group p.0 p.1 there (running-is s c.rank c.thread p.0 false p.1 ended) (omega arith) (row_of call).group refl)
   where
@@ -181,7 +181,7 @@ ended-is_step s c call found declared ended room is =
 
 -- a call of a caller that has a section, ended or not, with the reply that it has
 pub recorded-is_step : (s : State) (c : CallerId) (call : Call) (found : Ready) → IsSound s → is_declared s c.rank c.thread ≡ true
-    → room_taken s c.rank + need_of call (is_pending s c.rank c.thread call) (not (is_active s c.rank c.thread)) ≤ s.limits.events
+    → used_room s c.rank + need_of call (is_pending s c.rank c.thread call) (not (is_active s c.rank c.thread)) ≤ s.limits.events
     → answer_in s c.rank c.thread call ≡ Some found → is_joining found ≡ false → IsOk (step s (Called c call (recorded_reply found)))
 recorded-is_step s c call found sound declared room is answered = go (is_active s c.rank c.thread) refl
   where
@@ -191,7 +191,7 @@ recorded-is_step s c call found sound declared room is answered = go (is_active 
 
 -- a collective that may join
 pub joined-is_step : (s : State) (c : CallerId) (call : Call) (args : Args) → IsSound s
-    → room_taken s c.rank + need_of call (is_pending s c.rank c.thread call) (not (is_active s c.rank c.thread)) ≤ s.limits.events
+    → used_room s c.rank + need_of call (is_pending s c.rank c.thread call) (not (is_active s c.rank c.thread)) ≤ s.limits.events
     → answer_in s c.rank c.thread call ≡ Some (Join args) → IsOk (step s (join_event c call args))
 joined-is_step s c call args sound room is =
     let group = join-group s c.rank c.thread call args is in
@@ -205,7 +205,7 @@ joined-is_step s c call args sound room is =
 
 -- after the join the same collective has room, and joins no more
 pub joined-goes-on : (s t : State) (c : CallerId) (call : Call) (args : Args) (found : Ready) → IsSound s
-    → room_taken s c.rank + need_of call (is_pending s c.rank c.thread call) (not (is_active s c.rank c.thread)) ≤ s.limits.events
+    → used_room s c.rank + need_of call (is_pending s c.rank c.thread call) (not (is_active s c.rank c.thread)) ≤ s.limits.events
     → answer_in s c.rank c.thread call ≡ Some (Join args) → step s (join_event c call args) ≡ Ok t → answer_in t c.rank c.thread call ≡ Some found
     → (is_joining found ≡ false) × IsOk (step t (Called c call (recorded_reply found)))
 joined-goes-on s t c call args found sound room is h now =
@@ -221,9 +221,9 @@ joined-goes-on s t c call args found sound room is h now =
         let pends = joined-pends s t c call id args sound named joins in
         let not-pending = fresh (is_pending s c.rank c.thread call) refl in
         let needs = collective-needs call id named in
-        let before : room_taken s c.rank + need_of call false false ≤ s.limits.events = rw (active-before, not-pending) at room in
+        let before : used_room s c.rank + need_of call false false ≤ s.limits.events = rw (active-before, not-pending) at room in
         let limits : t.limits.events ≡ s.limits.events = ap (λ (l : Limits). l.events) (limits-stay s t (Joined c id args) joins) in
-        let fits : room_taken t c.rank + need_of call true false ≤ t.limits.events = omega arith in
+        let fits : used_room t c.rank + need_of call true false ≤ t.limits.events = omega arith in
         let answered = pending-joins-not t c.rank c.thread call found pends.0 now in
         (answered, called-is_step t c.rank c.thread call found (steps s t (Joined c id args) sound joins) active-now (rw pends.0 fits) now answered)
       where

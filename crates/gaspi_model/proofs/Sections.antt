@@ -2,7 +2,7 @@
 use Rattle.std.proofs.Common.{◌≡◌, ℕ, zero, suc, ◌+◌, ◌<◌, Bool, true, false, ◌==◌, List, [], ◌∷◌, map, Option, None, Some, Result, Ok, Err, refl, sym, ap, ◌∙◌, subst, arith, if◌then◌else◌, inl, inr}
 use Rattle.std.specs.List.{slice_get, slice_set, list_any, range_with_len}
 use Rattle.std.proofs.lemmas.Bool.{eqb-true, eqb-false}
-use Rattle.gaspi_types.specs.World.{World, IsWorld, is_caller}
+use Rattle.gaspi_types.specs.World.{ShapeValue, IsShape, is_caller}
 use Rattle.gaspi_types.specs.Replies.{is_idle}
 use Rattle.gaspi_types.specs.declared.entries.Kind.{Kind}
 use Rattle.gaspi_types.specs.declared.shapes.CallerId.{CallerId}
@@ -21,8 +21,8 @@ use Rattle.gaspi_types.proofs.Chains.{both}
 use Rattle.gaspi_types.proofs.Items.{slice_get-set_other, slice_get-set_same}
 use Rattle.gaspi_model.specs.State.{opening, opening_posts, opening_thread, thread_at}
 use Rattle.gaspi_model.specs.Posting.{with_post}
-use Rattle.gaspi_model.specs.Calls.{posts_done, plain_done, call_asks}
-use Rattle.gaspi_model.specs.Transfers.{Found, Worked}
+use Rattle.gaspi_model.specs.Calls.{posts_effect, plain_effect, requested_kinds}
+use Rattle.gaspi_model.specs.Transfers.{EntryPosition, PostsAndMemory}
 use Rattle.gaspi_model.specs.Step.{step, after, reached, is_there, is_declared}
 use Rattle.gaspi_model.specs.declared.states.ThreadState.{ThreadState}
 use Rattle.gaspi_model.specs.declared.states.ThreadState.TheVariants.{Ended}
@@ -30,9 +30,9 @@ use Rattle.gaspi_model.specs.declared.states.Posts.{Posts}
 use Rattle.gaspi_model.specs.declared.states.Memory.{Memory}
 use Rattle.gaspi_model.specs.declared.states.State.{State}
 use Rattle.gaspi_model.proofs.Histories.{after-first}
-use Rattle.gaspi_model.proofs.Sound.Told.{IsTold, told, told-get}
-use Rattle.gaspi_model.proofs.MetPosts.{IsMet, met-called, met-joined}
-use Rattle.gaspi_model.proofs.Made.{IsTake, IsPut, memories_at, call_reach, put_reach, step-called, step-take, step-put}
+use Rattle.gaspi_model.proofs.Sound.Registered.{IsTold, registering, registered-get}
+use Rattle.gaspi_model.proofs.CollectivePosts.{IsMet, on_group-called, on_group-joined}
+use Rattle.gaspi_model.proofs.Made.{IsTake, IsPut, memories_at, call-footprint, put-footprint, step-called, step-take, step-put}
 
 -- At the start.
 
@@ -57,7 +57,7 @@ declared-within ranks rank thread (c ∷ callers) within h = go (is_caller rank 
         (subst (λ (n : ℕ). n < ranks) same_rank here.0, subst (λ (n : ℕ). n < 4) same_thread here.1)
     go false is later = later (rw is at h)
 
-pub declared-opening : (w : World) (rank thread : ℕ) → IsWorld w → list_any (is_caller rank thread) w.callers ≡ true → is_declared (opening w) rank thread ≡ true
+pub declared-opening : (w : ShapeValue) (rank thread : ℕ) → IsShape w → list_any (is_caller rank thread) w.callers ≡ true → is_declared (opening w) rank thread ≡ true
 declared-opening w rank thread world h =
     let within = declared-within w.limits.ranks rank thread w.callers world.within h in
     let same_rank : 0 + rank ≡ rank = omega arith in
@@ -89,12 +89,12 @@ declared-changed s o posts after at memories rank thread stays h = go (o == rank
     go false is = rw (slice_get-set_other s.posts o rank after (λ e. eqb-false o rank is e)) h
 
 -- of a state with a segment told to a rank
-declared-told : (s : State) (ranks me : ℕ) (p : Posts) (call : Call) (reply : Reply) (all : List Posts) (memories : List Memory) (rank thread : ℕ)
-    → is_declared (record s { posts = told ranks me p call reply all; memories = memories }) rank thread ≡ is_declared (record s { posts = all; memories = memories }) rank thread
-declared-told s ranks me p call reply all memories rank thread = go (told-get ranks me p call reply all rank)
+declared-at_completion : (s : State) (ranks me : ℕ) (p : Posts) (call : Call) (reply : Reply) (all : List Posts) (memories : List Memory) (rank thread : ℕ)
+    → is_declared (record s { posts = registering ranks me p call reply all; memories = memories }) rank thread ≡ is_declared (record s { posts = all; memories = memories }) rank thread
+declared-at_completion s ranks me p call reply all memories rank thread = go (registered-get ranks me p call reply all rank)
   where
-    go : IsTold all (told ranks me p call reply all) rank
-        → is_declared (record s { posts = told ranks me p call reply all; memories = memories }) rank thread ≡ is_declared (record s { posts = all; memories = memories }) rank thread
+    go : IsTold all (registering ranks me p call reply all) rank
+        → is_declared (record s { posts = registering ranks me p call reply all; memories = memories }) rank thread ≡ is_declared (record s { posts = all; memories = memories }) rank thread
     go (inl same) = rw same refl
     go (inr (x, known, before, now)) = rw (before, now) refl
 
@@ -115,16 +115,16 @@ ended-there posts caller thread h = go (caller == thread) refl (slice_get posts.
         rw now refl
     go false is o at = rw (slice_get-set_other posts.threads caller thread Ended (λ e. eqb-false caller thread is e)) h
 
-threads-done : (limits : Limits) (me : ℕ) (posts : Posts) (caller : ℕ) (call : Call) (thread : ℕ) → StaysThere posts (posts_done limits me posts caller call) thread
+threads-done : (limits : Limits) (me : ℕ) (posts : Posts) (caller : ℕ) (call : Call) (thread : ℕ) → StaysThere posts (posts_effect limits me posts caller call) thread
 threads-done limits me posts caller call thread = go (row_of call).posting refl
   where
-    plain : (call : Call) → StaysThere posts (plain_done posts caller call) thread
+    plain : (call : Call) → StaysThere posts (plain_effect posts caller call) thread
     plain End h = ended-there posts caller thread h
     plain other h = h
 
-    go : (o : Option Posting) → (row_of call).posting ≡ o → StaysThere posts (posts_done limits me posts caller call) thread
+    go : (o : Option Posting) → (row_of call).posting ≡ o → StaysThere posts (posts_effect limits me posts caller call) thread
     go None none h = rw none (plain call h)
-    go (Some to) post h = rw post (same-threads posts (with_post posts to.queue to.rank (call_asks limits me posts call)) thread (threads-post posts to.queue to.rank (call_asks limits me posts call)) h)
+    go (Some to) post h = rw post (same-threads posts (with_post posts to.queue to.rank (requested_kinds limits me posts call)) thread (threads-post posts to.queue to.rank (requested_kinds limits me posts call)) h)
 
 threads-after : (b : Bool) (posts done : Posts) (thread : ℕ) → StaysThere posts done thread → StaysThere posts (if b then posts else done) thread
 threads-after true posts done thread stays h = h
@@ -138,8 +138,8 @@ same-declared s t rank thread same = go (slice_get s.posts rank) refl
     go None at = let there : slice_get t.posts rank ≡ None = ap (λ (all : List Posts). slice_get all rank) same ∙ at in rw (there, at) refl
     go (Some posts) at = let there : slice_get t.posts rank ≡ Some posts = ap (λ (all : List Posts). slice_get all rank) same ∙ at in rw (there, at) refl
 
-met-declared : (s t : State) (me : ℕ) (posts after : Posts) (rank thread : ℕ) → IsMet s t me posts after → is_declared s rank thread ≡ true → is_declared t rank thread ≡ true
-met-declared s t me posts after rank thread met h =
+on_group-declared : (s t : State) (me : ℕ) (posts after : Posts) (rank thread : ℕ) → IsMet s t me posts after → is_declared s rank thread ≡ true → is_declared t rank thread ≡ true
+on_group-declared s t me posts after rank thread met h =
     same-declared (record s { posts = slice_set s.posts me after; memories = s.memories }) t rank thread met.leaves
     ∙ declared-changed s me posts after met.there s.memories rank thread (same-threads posts after thread met.keeps.threads) h
 
@@ -148,32 +148,32 @@ called-declared : (s t : State) (c : CallerId) (call : Call) (reply : Reply) (ra
 called-declared s t c call reply rank thread plain h there =
     let made = step-called s t c call reply plain h in
     let m = made.3 in
-    let memories = memories_at (call_reach s.limits.ranks c.rank call) c.rank made.2.memory s.memories in
-    rw m.leaves (declared-told s s.limits.ranks c.rank made.0 call reply (slice_set s.posts c.rank made.2.posts) memories rank thread
+    let memories = memories_at (call-footprint s.limits.ranks c.rank call) c.rank made.2.memory s.memories in
+    rw m.leaves (declared-at_completion s s.limits.ranks c.rank made.0 call reply (slice_set s.posts c.rank made.2.posts) memories rank thread
     ∙ declared-changed s c.rank made.0 made.2.posts m.posts_there memories rank thread
-    (λ is. rw m.is.leaves (threads-after (is_idle reply) made.0 (posts_done s.limits c.rank made.0 c.thread call) thread (threads-done s.limits c.rank made.0 c.thread call thread) is)) there)
+    (λ is. rw m.is.leaves (threads-after (is_idle reply) made.0 (posts_effect s.limits c.rank made.0 c.thread call) thread (threads-done s.limits c.rank made.0 c.thread call thread) is)) there)
 
 pub declared-step : (s t : State) (e : Event) (rank thread : ℕ) → step s e ≡ Ok t → is_declared s rank thread ≡ true → is_declared t rank thread ≡ true
-declared-step s t (Joined c id args) rank thread h there = met-declared s t c.rank _ _ rank thread (met-joined s t c id args h).2 there
+declared-step s t (Joined c id args) rank thread h there = on_group-declared s t c.rank _ _ rank thread (on_group-joined s t c id args h).2 there
 declared-step s t (Called c call reply) rank thread h there = by-group (row_of call).group refl
   where
     by-group : (o : Option ℕ) → (row_of call).group ≡ o → is_declared t rank thread ≡ true
-    by-group (Some id) named = met-declared s t c.rank _ _ rank thread (met-called s t c id call reply named h).2 there
+    by-group (Some id) named = on_group-declared s t c.rank _ _ rank thread (on_group-called s t c id call reply named h).2 there
     by-group None plain = called-declared s t c call reply rank thread plain h there
 declared-step s t (Take origin queue target number outcome) rank thread h there =
     let made = step-take s t origin queue target number outcome h in
     let m = made.4 in
     rw m.leaves (declared-changed s origin made.0 made.2 m.posts_there s.memories rank thread (same-take made.0 made.1 outcome made.2 made.3 m.is) there)
   where
-    same-take : (posts : Posts) (memory : Memory) (outcome : Outcome) (after : Posts) (at : Found) → IsTake s.limits posts memory queue target number outcome after at → StaysThere posts after thread
+    same-take : (posts : Posts) (memory : Memory) (outcome : Outcome) (after : Posts) (at : EntryPosition) → IsTake s.limits posts memory queue target number outcome after at → StaysThere posts after thread
     same-take posts memory Applied after at h is = rw h.leaves is
     same-take posts memory Failed after at h is = rw h.leaves is
 declared-step s t (Put origin queue target number outcome) rank thread h there =
     let made = step-put s t origin queue target number outcome h in
     let m = made.4 in
-    rw m.leaves (declared-changed s origin made.0 made.2.posts m.posts_there (memories_at (put_reach s.limits.ranks origin target made.3.entry.kind) origin made.2.memory s.memories) rank thread (same-put made.0 made.1 outcome made.2 made.3 m.is) there)
+    rw m.leaves (declared-changed s origin made.0 made.2.posts m.posts_there (memories_at (put-footprint s.limits.ranks origin target made.3.entry.kind) origin made.2.memory s.memories) rank thread (same-put made.0 made.1 outcome made.2 made.3 m.is) there)
   where
-    same-put : (posts : Posts) (memory : Memory) (outcome : Outcome) (after : Worked) (at : Found) → IsPut posts memory queue target number outcome after at → StaysThere posts after.posts thread
+    same-put : (posts : Posts) (memory : Memory) (outcome : Outcome) (after : PostsAndMemory) (at : EntryPosition) → IsPut posts memory queue target number outcome after at → StaysThere posts after.posts thread
     same-put posts memory Applied after at h is = rw h.leaves is
     same-put posts memory Failed after at h is = rw h.leaves is
 
@@ -183,5 +183,5 @@ declared-stays s t (e ∷ events) rank thread h there =
     let first = after-first s t e events h in
     declared-stays first.0 t events rank thread first.2 (declared-step s first.0 e rank thread first.1 there)
 
-pub reached-declared : (w : World) (history : List Event) (s : State) (c : CallerId) → IsWorld w → list_any (is_caller c.rank c.thread) w.callers ≡ true → reached w history ≡ Ok s → is_declared s c.rank c.thread ≡ true
+pub reached-declared : (w : ShapeValue) (history : List Event) (s : State) (c : CallerId) → IsShape w → list_any (is_caller c.rank c.thread) w.callers ≡ true → reached w history ≡ Ok s → is_declared s c.rank c.thread ≡ true
 reached-declared w history s c world mine h = declared-stays (opening w) s history c.rank c.thread h (declared-opening w c.rank c.thread world mine)

@@ -22,5 +22,5 @@ pub mod Rising
 pub mod Steps
 pub mod Successors
 pub mod TableLengths
-pub mod Told
-pub mod Turns
+pub mod Registered
+pub mod Rounds

@@ -10,7 +10,7 @@ use Rattle.gaspi_model.specs.State.{opening}
 use Rattle.gaspi_model.specs.Step.{is_legal, reached}
 use Rattle.gaspi_model.specs.declared.states.State.{State}
 use Rattle.gaspi_model.specs.declared.states.Why.{Why}
-use Rattle.gaspi_model.proofs.WorkedHistories.{two_ranks}
+use Rattle.gaspi_model.proofs.HistoriesOnPosts.{two_ranks}
 use Rattle.gaspi_model.specs.Notifications.{SetsSlot, IsHandedOut}
 use Rattle.gaspi_model.proofs.HandedOut.{one-slot}
 

@@ -1,7 +1,7 @@
 -- The calls on a word of a segment of a rank: what they find, and what they leave. The memory is that of the rank.
 -- (GASPI: atomics)
 use Rattle.std.specs.Prelude.{ℕ, nat_lt, Option, Some, Result, Ok}
-use Rattle.gaspi_types.specs.Checks.{◌>>=◌, check, found}
+use Rattle.gaspi_types.specs.Checks.{◌>>=◌, check, ok_or}
 use Rattle.gaspi_types.specs.SegmentTables.{known_extent}
 use Rattle.gaspi_types.specs.SegmentWords.{word_checks, word_at, with_sum, with_swap}
 use Rattle.gaspi_types.specs.declared.calls.atomics.FetchAdd as fetch_add
@@ -19,10 +19,10 @@ use Rattle.gaspi_model.specs.declared.states.Memory.{Memory}
 
 -- An atomic of the word at an offset of a segment of a rank, which the caller knows, and which is there in the generation
 -- that the caller knows: what stood there. (atomic_fetch_add, atomic_compare_swap)
-abbrev pub word_finds : Limits → ℕ → Posts → Memory → ℕ → ℕ → ℕ → Result (Option Reply) Refusal
-word_finds limits me posts memory seg offset rank = do
+abbrev pub word_result : Limits → ℕ → Posts → Memory → ℕ → ℕ → ℕ → Result (Option Reply) Refusal
+word_result limits me posts memory seg offset rank = do
   ranked ← check (nat_lt rank limits.ranks) BadRank
-  theirs ← found (known_extent me posts.segments rank seg) Unregistered
+  theirs ← ok_or (known_extent me posts.segments rank seg) Unregistered
   there ← check (is_generation theirs.generation (segment_at memory seg)) Unregistered
   fits ← word_checks theirs.size offset
   Ok (Some (replies.Value (word_at (bytes_of memory seg) offset)))

@@ -20,14 +20,14 @@ use Rattle.gaspi_types.specs.declared.replies.Ready.{Ready}
 use Rattle.gaspi_types.specs.declared.replies.Ready.TheVariants as ready
 use Rattle.gaspi_model.specs.State.{thread_at, is_running}
 use Rattle.gaspi_model.specs.Posting.{with_post, counted}
-use Rattle.gaspi_model.specs.SegmentCalls.{alloc_finds, with_own, alloc_leaves, register_finds, with_known, delete_finds, without_own, delete_leaves}
-use Rattle.gaspi_model.specs.MemoryCalls.{store_finds, store_leaves, load_finds}
-use Rattle.gaspi_model.specs.PostCalls.{asked_finds}
-use Rattle.gaspi_model.specs.QueueCalls.{wait_finds, purge_finds, qsize_finds, state_finds, closed, purged}
-use Rattle.gaspi_model.specs.NotificationCalls.{waitsome_finds, reset_finds, reset_leaves}
-use Rattle.gaspi_model.specs.AtomicCalls.{word_finds, fetch_add_leaves, compare_swap_leaves}
-use Rattle.gaspi_model.specs.PassiveCalls.{send_finds, send_leaves, receive_finds, receive_leaves}
-use Rattle.gaspi_model.specs.GroupCalls.{group_create_finds, group_create_leaves, group_add_finds, group_add_leaves, group_delete_finds, group_delete_leaves}
+use Rattle.gaspi_model.specs.SegmentCalls.{alloc_result, with_own, alloc_effect, register_result, with_known, delete_result, without_own, delete_effect}
+use Rattle.gaspi_model.specs.MemoryCalls.{store_result, store_leaves, load_result}
+use Rattle.gaspi_model.specs.PostCalls.{post_request_result}
+use Rattle.gaspi_model.specs.QueueCalls.{wait_result, purge_result, qsize_result, state_result, closed, purged}
+use Rattle.gaspi_model.specs.NotificationCalls.{waitsome_result, reset_result, reset_leaves}
+use Rattle.gaspi_model.specs.AtomicCalls.{word_result, fetch_add_leaves, compare_swap_leaves}
+use Rattle.gaspi_model.specs.PassiveCalls.{send_result, send_effect, receive_result, receive_effect}
+use Rattle.gaspi_model.specs.GroupCalls.{group_create_result, group_create_leaves, group_add_result, group_add_leaves, group_delete_result, group_delete_leaves}
 use Rattle.gaspi_types.specs.declared.inboxes.Message.{Message}
 use Rattle.gaspi_model.specs.declared.states.ThreadState.{ThreadState}
 use Rattle.gaspi_model.specs.declared.states.ThreadState.TheVariants as threads
@@ -35,38 +35,38 @@ use Rattle.gaspi_model.specs.declared.states.Posts.{Posts}
 use Rattle.gaspi_model.specs.declared.states.Memory.{Memory}
 
 -- what a call finds that posts nothing: its refusal, or a reply, or that it is not ready
-abbrev pub plain_finds : Limits → ℕ → Posts → Memory → Call → Result (Option Reply) Refusal
-plain_finds limits me posts memory (Alloc call) = alloc_finds posts call
-plain_finds limits me posts memory (Register call) = register_finds limits posts call
-plain_finds limits me posts memory (Delete call) = delete_finds posts call
-plain_finds limits me posts memory (Store call) = store_finds posts call
-plain_finds limits me posts memory (Load call) = load_finds posts memory call
-plain_finds limits me posts memory (Wait call) = wait_finds posts call
-plain_finds limits me posts memory (Purge call) = purge_finds posts call
-plain_finds limits me posts memory (Qsize call) = qsize_finds posts call
-plain_finds limits me posts memory (Waitsome call) = waitsome_finds limits posts memory call
-plain_finds limits me posts memory (Reset call) = reset_finds limits posts memory call
-plain_finds limits me posts memory (PassiveSend call) = send_finds limits posts memory call
-plain_finds limits me posts memory (PassiveReceive call) = receive_finds posts memory call
-plain_finds limits me posts memory (FetchAdd call) = word_finds limits me posts memory call.seg call.offset call.rank
-plain_finds limits me posts memory (CompareSwap call) = word_finds limits me posts memory call.seg call.offset call.rank
-plain_finds limits me posts memory GroupCreate = group_create_finds posts
-plain_finds limits me posts memory (GroupAdd call) = group_add_finds limits posts call
-plain_finds limits me posts memory (GroupDelete call) = group_delete_finds posts call
-plain_finds limits me posts memory State = state_finds posts
-plain_finds limits me posts memory call = Ok (Some replies.Done)
+abbrev pub plain_result : Limits → ℕ → Posts → Memory → Call → Result (Option Reply) Refusal
+plain_result limits me posts memory (Alloc call) = alloc_result posts call
+plain_result limits me posts memory (Register call) = register_result limits posts call
+plain_result limits me posts memory (Delete call) = delete_result posts call
+plain_result limits me posts memory (Store call) = store_result posts call
+plain_result limits me posts memory (Load call) = load_result posts memory call
+plain_result limits me posts memory (Wait call) = wait_result posts call
+plain_result limits me posts memory (Purge call) = purge_result posts call
+plain_result limits me posts memory (Qsize call) = qsize_result posts call
+plain_result limits me posts memory (Waitsome call) = waitsome_result limits posts memory call
+plain_result limits me posts memory (Reset call) = reset_result limits posts memory call
+plain_result limits me posts memory (PassiveSend call) = send_result limits posts memory call
+plain_result limits me posts memory (PassiveReceive call) = receive_result posts memory call
+plain_result limits me posts memory (FetchAdd call) = word_result limits me posts memory call.seg call.offset call.rank
+plain_result limits me posts memory (CompareSwap call) = word_result limits me posts memory call.seg call.offset call.rank
+plain_result limits me posts memory GroupCreate = group_create_result posts
+plain_result limits me posts memory (GroupAdd call) = group_add_result limits posts call
+plain_result limits me posts memory (GroupDelete call) = group_delete_result posts call
+plain_result limits me posts memory State = state_result posts
+plain_result limits me posts memory call = Ok (Some replies.Done)
 
 -- what a call asks to be appended that posts
-abbrev pub call_asks : Limits → ℕ → Posts → Call → Result (List Kind) Refusal
-call_asks limits me posts call = call_kinds limits.notes me posts.segments call
+abbrev pub requested_kinds : Limits → ℕ → Posts → Call → Result (List Kind) Refusal
+requested_kinds limits me posts call = call_kinds limits.notes me posts.segments call
 
 -- what a call finds
-abbrev pub call_finds : Limits → ℕ → Posts → Memory → Call → Result (Option Reply) Refusal
-call_finds limits me posts memory call = finds_by (row_of call).posting
+abbrev pub call_result : Limits → ℕ → Posts → Memory → Call → Result (Option Reply) Refusal
+call_result limits me posts memory call = finds_by (row_of call).posting
   where
     finds_by : Option Posting → Result (Option Reply) Refusal
-    finds_by None = plain_finds limits me posts memory call
-    finds_by (Some to) = asked_finds limits posts to.rank to.queue (call_asks limits me posts call)
+    finds_by None = plain_result limits me posts memory call
+    finds_by (Some to) = post_request_result limits posts to.rank to.queue (requested_kinds limits me posts call)
 
 abbrev pub ready_of : Result (Option Reply) Refusal → Ready
 ready_of (Ok None) = ready.NotReady
@@ -77,7 +77,7 @@ ready_of (Err refusal) = ready.Reply (replies.Refused refusal)
 abbrev pub answer : Limits → ℕ → Posts → Memory → ℕ → Call → Ready
 answer limits me posts memory thread call =
     if is_running (thread_at posts thread)
-    then ready_of (call_finds limits me posts memory call)
+    then ready_of (call_result limits me posts memory call)
     else ready.Reply (replies.Refused CallerEnded)
 
 -- the one reply with which the call may be recorded: what it answers, or where it is not ready a timeout (timeouts); a collective
@@ -90,52 +90,52 @@ recorded_reply ready.NotReady = replies.Timeout
 -- What a call leaves that was answered neither with a refusal nor with a timeout.
 
 -- in the posts of its rank, where it posts nothing
-abbrev pub plain_done : Posts → ℕ → Call → Posts
-plain_done posts thread (Alloc call) = with_own posts call.seg call.size
-plain_done posts thread (Delete call) = without_own posts call.seg
-plain_done posts thread (Wait call) = closed posts call.queue
-plain_done posts thread (Purge call) = purged posts call.queue
-plain_done posts thread GroupCreate = group_create_leaves posts
-plain_done posts thread (GroupAdd call) = group_add_leaves posts call
-plain_done posts thread (GroupDelete call) = group_delete_leaves posts call
-plain_done posts thread End = record posts { threads = slice_set posts.threads thread threads.Ended }
-plain_done posts thread call = posts
+abbrev pub plain_effect : Posts → ℕ → Call → Posts
+plain_effect posts thread (Alloc call) = with_own posts call.seg call.size
+plain_effect posts thread (Delete call) = without_own posts call.seg
+plain_effect posts thread (Wait call) = closed posts call.queue
+plain_effect posts thread (Purge call) = purged posts call.queue
+plain_effect posts thread GroupCreate = group_create_leaves posts
+plain_effect posts thread (GroupAdd call) = group_add_leaves posts call
+plain_effect posts thread (GroupDelete call) = group_delete_leaves posts call
+plain_effect posts thread End = record posts { threads = slice_set posts.threads thread threads.Ended }
+plain_effect posts thread call = posts
 
-abbrev pub posts_done : Limits → ℕ → Posts → ℕ → Call → Posts
-posts_done limits me posts thread call = done_by (row_of call).posting
+abbrev pub posts_effect : Limits → ℕ → Posts → ℕ → Call → Posts
+posts_effect limits me posts thread call = done_by (row_of call).posting
   where
     done_by : Option Posting → Posts
-    done_by None = plain_done posts thread call
-    done_by (Some to) = with_post posts to.queue to.rank (call_asks limits me posts call)
+    done_by None = plain_effect posts thread call
+    done_by (Some to) = with_post posts to.queue to.rank (requested_kinds limits me posts call)
 
 -- In the memory that it works on, where the posts were so before it, and with the message that it brings. The bytes of a
 -- segment are changed by the words that say what a store and an atomic change.
-abbrev pub memory_done : Limits → Posts → Option Message → Memory → Call → Memory
-memory_done limits posts brought memory (Alloc call) = alloc_leaves limits posts memory call
-memory_done limits posts brought memory (Delete call) = delete_leaves memory call
-memory_done limits posts brought memory (Store call) = store_leaves memory call
-memory_done limits posts brought memory (Reset call) = reset_leaves memory call
-memory_done limits posts brought memory (PassiveSend call) = send_leaves brought memory
-memory_done limits posts brought memory (PassiveReceive call) = receive_leaves memory call
-memory_done limits posts brought memory (FetchAdd call) = fetch_add_leaves memory call
-memory_done limits posts brought memory (CompareSwap call) = compare_swap_leaves memory call
-memory_done limits posts brought memory call = memory
+abbrev pub memory_effect : Limits → Posts → Option Message → Memory → Call → Memory
+memory_effect limits posts brought memory (Alloc call) = alloc_effect limits posts memory call
+memory_effect limits posts brought memory (Delete call) = delete_effect memory call
+memory_effect limits posts brought memory (Store call) = store_leaves memory call
+memory_effect limits posts brought memory (Reset call) = reset_leaves memory call
+memory_effect limits posts brought memory (PassiveSend call) = send_effect brought memory
+memory_effect limits posts brought memory (PassiveReceive call) = receive_effect memory call
+memory_effect limits posts brought memory (FetchAdd call) = fetch_add_leaves memory call
+memory_effect limits posts brought memory (CompareSwap call) = compare_swap_leaves memory call
+memory_effect limits posts brought memory call = memory
 
 -- in the posts of a peer that it reaches, where its own were so before it (segments: segment_register)
-abbrev pub peer_done : ℕ → Posts → Call → Posts → Posts
-peer_done me posts (Register call) peer = with_known me call.seg (extent_in posts.segments.own call.seg) peer
-peer_done me posts call peer = peer
+abbrev pub peer_effect : ℕ → Posts → Call → Posts → Posts
+peer_effect me posts (Register call) peer = with_known me call.seg (extent_in posts.segments.own call.seg) peer
+peer_effect me posts call peer = peer
 
 -- a refusal or a timeout changes nothing but the count of events
 abbrev pub posts_after : Limits → ℕ → Posts → ℕ → Call → Reply → Posts
 posts_after limits me posts thread call reply =
-    counted (if is_idle reply then posts else posts_done limits me posts thread call)
+    counted (if is_idle reply then posts else posts_effect limits me posts thread call)
 
 abbrev pub memory_after : Limits → Posts → Option Message → Memory → Call → Reply → Memory
-memory_after limits posts brought memory call reply = if is_idle reply then memory else memory_done limits posts brought memory call
+memory_after limits posts brought memory call reply = if is_idle reply then memory else memory_effect limits posts brought memory call
 
 abbrev pub peer_after : ℕ → Posts → Call → Reply → Posts → Posts
-peer_after me posts call reply peer = if is_idle reply then peer else peer_done me posts call peer
+peer_after me posts call reply peer = if is_idle reply then peer else peer_effect me posts call peer
 
 -- own choice: what the event takes of the rank's room: nothing for the end of a caller that has not ended, itself and
 -- the two transfers of each entry for a post that is done, and else itself

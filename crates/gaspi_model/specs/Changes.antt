@@ -11,7 +11,7 @@ use Rattle.gaspi_types.specs.Queues.{user_of}
 use Rattle.gaspi_types.specs.SegmentBytes.{range_of}
 use Rattle.gaspi_types.specs.Segments.{IsSegmentWritten}
 use Rattle.gaspi_types.specs.Slots.{IsSlotWritten}
-use Rattle.gaspi_types.specs.Tables.{entry_at}
+use Rattle.gaspi_types.specs.Tables.{item_at}
 use Rattle.gaspi_types.specs.SegmentTables.{extent_in}
 use Rattle.gaspi_types.specs.declared.segments.Extent.{Extent}
 use Rattle.gaspi_types.specs.declared.entries.Phase.TheVariants.{Carried, Failed}
@@ -27,7 +27,7 @@ use Rattle.gaspi_types.specs.declared.groups.Handle.{Handle}
 use Rattle.gaspi_types.specs.declared.groups.Handles.{Handles}
 use Rattle.gaspi_types.specs.declared.inboxes.Message.{Message}
 use Rattle.gaspi_model.specs.State.{segment_at}
-use Rattle.gaspi_model.specs.Calls.{call_asks}
+use Rattle.gaspi_model.specs.Calls.{requested_kinds}
 use Rattle.gaspi_model.specs.Posting.{counted}
 use Rattle.gaspi_model.specs.Memories.{slots_of}
 use Rattle.gaspi_model.specs.Transfers.{carried_bytes}
@@ -70,7 +70,7 @@ pub record IsAnsweredOfSlots (s : State) (rank segment : ℕ) (P : List ℕ → 
   pub memory : Memory
   pub memory_there : slice_get s.memories rank ≡ Some memory
   pub slots : List ℕ
-  pub slots_there : entry_at memory.slots segment ≡ Some slots
+  pub slots_there : item_at memory.slots segment ≡ Some slots
   pub answers : P slots
 
 -- A call that answers what stands in a segment of its caller's rank, or in its slots, and changes nothing but the count of
@@ -156,7 +156,7 @@ may_put_fail e = is_carried e && is_outward e.kind
 -- A transfer that failed, since the target's segment of the entry's generation is gone: the entry with its number, of which
 -- that may fail, has failed in its place; its queue is broken with that target, and the target is corrupt for its origin;
 -- and nothing else has changed but the count of events of its origin. (state vector)
-pub record IsFailed (s t : State) (origin queue target number : ℕ) (may_fail : Entry → Bool) : Type 0 where
+pub record IsFailureDone (s t : State) (origin queue target number : ℕ) (may_fail : Entry → Bool) : Type 0 where
   pub posts : Posts
   pub q : Queue
   pub lane : List Entry
@@ -180,13 +180,13 @@ pub record IsFailed (s t : State) (origin queue target number : ℕ) (may_fail :
   }
 
 -- what an entry takes: the bytes that its source has now in the segment of its generation, where it has a source
-abbrev pub TakesFrom : Option ByteRange → Memory → List ℕ → Type 0
-TakesFrom None memory bytes = bytes ≡ []
-TakesFrom (Some range) memory bytes =
+abbrev pub TakesBytesFrom : Option ByteRange → Memory → List ℕ → Type 0
+TakesBytesFrom None memory bytes = bytes ≡ []
+TakesBytesFrom (Some range) memory bytes =
     (segment : Segment) × (segment_at memory range.segment ≡ Some segment) × (segment.generation ≡ range.generation) × (bytes ≡ range_of segment.bytes range.offset range.size)
 
-abbrev pub Takes : Entry → Memory → List ℕ → Type 0
-Takes e memory bytes = TakesFrom (source_of e.kind) memory bytes
+abbrev pub TakesBytes : Entry → Memory → List ℕ → Type 0
+TakesBytes e memory bytes = TakesBytesFrom (source_of e.kind) memory bytes
 
 -- the rank from whose memory an entry takes: a read from its target's, each other from its origin's
 abbrev pub take_rank : ℕ → ℕ → Kind → ℕ
@@ -194,7 +194,7 @@ take_rank origin target kind = if is_read_kind kind then target else origin
 
 -- A take that was made: the entry with its number, which was posted, has taken its bytes in its place; and nothing else has
 -- changed but the count of events of its origin.
-pub record IsTaken (s t : State) (origin queue target number : ℕ) : Type 0 where
+pub record IsTakeDone (s t : State) (origin queue target number : ℕ) : Type 0 where
   pub posts : Posts
   pub q : Queue
   pub lane : List Entry
@@ -210,7 +210,7 @@ pub record IsTaken (s t : State) (origin queue target number : ℕ) : Type 0 whe
   pub posted : is_posted entry ≡ true
   pub whole : q.broken ≡ None
   pub memory_there : slice_get s.memories (take_rank origin target entry.kind) ≡ Some memory
-  pub takes : Takes entry memory bytes
+  pub takes : TakesBytes entry memory bytes
   pub after : t ≡ record s {
     posts = slice_set s.posts origin (record (counted posts) {
       queues = slice_set posts.queues queue (record q { lanes = slice_set q.lanes target (slice_set lane place (record entry { phase = Carried bytes })) });
@@ -218,21 +218,21 @@ pub record IsTaken (s t : State) (origin queue target number : ℕ) : Type 0 whe
   }
 
 -- the posts of a rank that is told a segment of an owner: what it knows of it has changed, and nothing else
-abbrev pub with_told : Posts → ℕ → ℕ → Extent → List (Option Extent) → Posts
-with_told peer owner segment extent table = record peer {
+abbrev pub with_registered : Posts → ℕ → ℕ → Extent → List (Option Extent) → Posts
+with_registered peer owner segment extent table = record peer {
   segments = record peer.segments { known = slice_set peer.segments.known owner (slice_set table segment (Some extent)) };
 }
 
 -- A segment that is made known to a rank: that rank knows its present generation and size, and nothing else has changed but
 -- the count of events of its owner. To its owner it makes nothing known. (segments: segment_register)
-pub record IsRegistered (s t : State) (me segment rank : ℕ) : Type 0 where
+pub record IsRegisterDone (s t : State) (me segment rank : ℕ) : Type 0 where
   pub posts : Posts
   pub extent : Extent
   pub posts_there : slice_get s.posts me ≡ Some posts
   pub own_there : extent_in posts.segments.own segment ≡ Some extent
   pub itself : rank ≡ me → t ≡ record s { posts = slice_set s.posts me (counted posts) }
   pub peer : (rank ≡ me → ⊥) → (p : Posts) × (table : List (Option Extent)) × (slice_get s.posts rank ≡ Some p) × (slice_get p.segments.known me ≡ Some table)
-      × (t ≡ record s { posts = slice_set (slice_set s.posts me (counted posts)) rank (with_told p me segment extent table) })
+      × (t ≡ record s { posts = slice_set (slice_set s.posts me (counted posts)) rank (with_registered p me segment extent table) })
 
 -- A notification that is taken: its slot had the value that was answered and is 0, and nothing else has changed but the
 -- count of events of the caller's rank. (notifications: notify_reset)
@@ -250,7 +250,7 @@ pub record IsReset (s t : State) (me segment note value : ℕ) : Type 0 where
 -- A wait that is done: the queue is not broken, none of its entries has still to take its bytes, and no read and no
 -- notification of a read stands in it; its open count is 0, and nothing else has changed but the count of events of its
 -- rank. (one-sided communication: wait)
-pub record IsWaited (s t : State) (me queue : ℕ) : Type 0 where
+pub record IsWaitDone (s t : State) (me queue : ℕ) : Type 0 where
   pub posts : Posts
   pub q : Queue
   pub posts_there : slice_get s.posts me ≡ Some posts
@@ -261,7 +261,7 @@ pub record IsWaited (s t : State) (me queue : ℕ) : Type 0 where
 
 -- A purge that is done: its queue has no entry, its open count is 0 and it is whole, and nothing else has changed but the
 -- count of events of its rank: corrupt ranks stay so. (one-sided communication: queue_purge)
-pub record IsPurged (s t : State) (me queue : ℕ) : Type 0 where
+pub record IsPurgeDone (s t : State) (me queue : ℕ) : Type 0 where
   pub posts : Posts
   pub q : Queue
   pub q' : Queue
@@ -291,7 +291,7 @@ IsStateAnswered s t me mask = ((rank : ℕ) → bit_at mask rank ≡ bit_of (is_
 -- A segment that is made: there was none of its number; it is there with its size, all bytes and slots 0, in the next
 -- generation of its number, which no segment of that number had; the rank's table of segments says so; and nothing else
 -- has changed but the count of events of its rank. (segments: segment_alloc)
-pub record IsMade (s t : State) (me segment size : ℕ) : Type 0 where
+pub record IsAllocDone (s t : State) (me segment size : ℕ) : Type 0 where
   pub posts : Posts
   pub memory : Memory
   pub generation : ℕ
@@ -314,7 +314,7 @@ pub record IsMade (s t : State) (me segment size : ℕ) : Type 0 where
 
 -- A segment that is gone: it was there, none of its rank's entries used it, and nothing else has changed but the rank's
 -- table of segments and its count of events. (segments: segment_delete)
-pub record IsGone (s t : State) (me segment : ℕ) : Type 0 where
+pub record IsDeleteDone (s t : State) (me segment : ℕ) : Type 0 where
   pub posts : Posts
   pub memory : Memory
   pub old : Segment
@@ -331,13 +331,13 @@ pub record IsGone (s t : State) (me segment : ℕ) : Type 0 where
 -- and they stand last in the lane of the rank that it names, posted, with numbers one after another from the rank's next
 -- number on. The open count of the queue, and the next number, are higher by so many; and nothing else has changed but the
 -- count of events of the caller's rank. (one-sided communication)
-pub record IsPosted (s t : State) (me : ℕ) (call : Call) (queue rank : ℕ) : Type 0 where
+pub record IsPostDone (s t : State) (me : ℕ) (call : Call) (queue rank : ℕ) : Type 0 where
   pub posts : Posts
   pub kinds : List Kind
   pub q : Queue
   pub lane : List Entry
   pub posts_there : slice_get s.posts me ≡ Some posts
-  pub asks : call_asks s.limits me posts call ≡ Ok kinds
+  pub asks : requested_kinds s.limits me posts call ≡ Ok kinds
   pub count : length kinds ≡ entries_of call
   pub queue_there : slice_get posts.queues queue ≡ Some q
   pub whole : q.broken ≡ None
@@ -357,7 +357,7 @@ pub record IsPosted (s t : State) (me : ℕ) (call : Call) (queue rank : ℕ) : 
 -- be the own one, has room. That inbox has one message more, which stands last: it is from the caller's rank, with the bytes
 -- that stand in the range now. Nothing else has changed but the count of events of the caller's rank. (passive communication:
 -- passive_send)
-pub record IsSent (s t : State) (me rank segment offset size : ℕ) : Type 0 where
+pub record IsSendDone (s t : State) (me rank segment offset size : ℕ) : Type 0 where
   pub posts : Posts
   pub own : Memory
   pub item : Segment
@@ -377,7 +377,7 @@ pub record IsSent (s t : State) (me rank segment offset size : ℕ) : Type 0 whe
 -- not longer than the range, is gone from it; its bytes, and no more, stand in the segment from the offset on; it answers the
 -- rank that sent it; and nothing else has changed but the count of events of the caller's rank. (passive communication:
 -- passive_receive)
-pub record IsReceived (s t : State) (me segment offset size sender : ℕ) : Type 0 where
+pub record IsReceiveDone (s t : State) (me segment offset size sender : ℕ) : Type 0 where
   pub posts : Posts
   pub old : Memory
   pub new : Memory
@@ -402,13 +402,13 @@ pub record IsGroupMade (s t : State) (me id : ℕ) : Type 0 where
   pub groups : Handles
   pub handle : Handle
   pub posts_there : slice_get s.posts me ≡ Some posts
-  pub next : id ≡ posts.groups.made + 1
+  pub next : id ≡ posts.groups.last_id + 1
   pub few : id ≤ 7
   pub free : handle_at posts.groups id ≡ None
   pub there : handle_at groups id ≡ Some handle
   pub building : handle.stage ≡ Building
   pub empty : (rank : ℕ) → is_member handle.members rank ≡ false
-  pub made : groups.made ≡ id
+  pub made : groups.last_id ≡ id
   pub table : groups.table ≡ slice_set posts.groups.table id (Some handle)
   pub after : t ≡ record s { posts = slice_set s.posts me (record (counted posts) { groups = groups }) }
 
@@ -423,7 +423,7 @@ pub record IsGroupAdded (s t : State) (me id rank : ℕ) : Type 0 where
   pub ranked : rank < s.limits.ranks
   pub old_there : handle_at posts.groups id ≡ Some old
   pub building : old.stage ≡ Building
-  pub idle : entry_at posts.pending id ≡ None
+  pub idle : item_at posts.pending id ≡ None
   pub stage : new.stage ≡ old.stage
   pub members : (other : ℕ) → is_member new.members other ≡ (rank == other) || is_member old.members other
   pub after : t ≡ record s {
@@ -433,13 +433,13 @@ pub record IsGroupAdded (s t : State) (me id rank : ℕ) : Type 0 where
 -- A group that is dropped: it was there, it is not group 0, and no collective of the caller's rank is pending on it; it is
 -- gone, with its number used for good; and nothing else has changed but the count of events of the caller's rank. (groups:
 -- group_delete)
-pub record IsGroupDropped (s t : State) (me id : ℕ) : Type 0 where
+pub record IsGroupDeleted (s t : State) (me id : ℕ) : Type 0 where
   pub posts : Posts
   pub old : Handle
   pub posts_there : slice_get s.posts me ≡ Some posts
   pub old_there : handle_at posts.groups id ≡ Some old
   pub other : id ≢ 0
-  pub idle : entry_at posts.pending id ≡ None
+  pub idle : item_at posts.pending id ≡ None
   pub after : t ≡ record s {
     posts = slice_set s.posts me (record (counted posts) { groups = record posts.groups { table = slice_set posts.groups.table id None } });
   }

@@ -86,22 +86,22 @@ abbrev pub HasTarget : Tables → ByteRange → ByteRange → Type 0
 HasTarget theirs own target =
     (own.size ≡ target.size) × (nat_lt target.segment 32 ≡ true) × WasMade theirs target.segment target.generation × LiesInIfThere theirs.own target
 
-abbrev pub FitsTarget : ℕ → Tables → Kind → Type 0
-FitsTarget notes theirs (Write own target) = HasTarget theirs own target
-FitsTarget notes theirs (Read own target) = HasTarget theirs own target
-FitsTarget notes theirs (Notify target value) = (target.note < notes) × WasMade theirs target.segment target.generation
-FitsTarget notes theirs (ReadNote own) = own.note < notes
+abbrev pub IsWithinTarget : ℕ → Tables → Kind → Type 0
+IsWithinTarget notes theirs (Write own target) = HasTarget theirs own target
+IsWithinTarget notes theirs (Read own target) = HasTarget theirs own target
+IsWithinTarget notes theirs (Notify target value) = (target.note < notes) × WasMade theirs target.segment target.generation
+IsWithinTarget notes theirs (ReadNote own) = own.note < notes
 
 -- an entry's ranges and its slot, where its origin and its target have those segments
-abbrev pub Fits : ℕ → Tables → Tables → Entry → Type 0
-Fits notes mine theirs e = FitsTarget notes theirs e.kind × HasOwn mine.own e.kind e.phase
+abbrev pub IsWithinSegments : ℕ → Tables → Tables → Entry → Type 0
+IsWithinSegments notes mine theirs e = IsWithinTarget notes theirs e.kind × HasOwn mine.own e.kind e.phase
 
 -- each entry of the queues of an origin fits
-abbrev pub AllFit : ℕ → List Tables → ℕ → List Queue → Type 0
-AllFit notes tables origin queues =
+abbrev pub AreWithinSegments : ℕ → List Tables → ℕ → List Queue → Type 0
+AreWithinSegments notes tables origin queues =
     (queue : ℕ) (q : Queue) → slice_get queues queue ≡ Some q → (target : ℕ) (lane : List Entry) → slice_get q.lanes target ≡ Some lane
     → (place : ℕ) (e : Entry) → slice_get lane place ≡ Some e → (mine theirs : Tables) → slice_get tables origin ≡ Some mine → slice_get tables target ≡ Some theirs
-    → Fits notes mine theirs e
+    → IsWithinSegments notes mine theirs e
 
 -- what a rank knows of the segments of others was made, and is their size where they are there in that generation
 abbrev pub Knows : List Tables → List (List (Option Extent)) → Type 0
@@ -110,9 +110,9 @@ Knows tables known =
     → (segment : ℕ) (x : Extent) → extent_in table segment ≡ Some x
     → WasMade theirs segment x.generation × ((y : Extent) → extent_in theirs.own segment ≡ Some y → y.generation ≡ x.generation → y.size ≡ x.size)
 
-pub record IsCoherent (s : State) : Type 0 where
+pub record AgreesOnSegments (s : State) : Type 0 where
   pub own : (rank : ℕ) (posts : Posts) (memory : Memory) → slice_get s.posts rank ≡ Some posts → slice_get s.memories rank ≡ Some memory → posts.segments.own ≡ extents_of memory.segments
   pub slots : (rank : ℕ) (memory : Memory) → slice_get s.memories rank ≡ Some memory → HasSlots s.limits.notes memory
   pub made : (rank : ℕ) (posts : Posts) → slice_get s.posts rank ≡ Some posts → AreMade (tables_of posts)
   pub known : (rank : ℕ) (posts : Posts) → slice_get s.posts rank ≡ Some posts → Knows (all_tables s.posts) posts.segments.known
-  pub entries : (origin : ℕ) (posts : Posts) → slice_get s.posts origin ≡ Some posts → AllFit s.limits.notes (all_tables s.posts) origin posts.queues
+  pub entries : (origin : ℕ) (posts : Posts) → slice_get s.posts origin ≡ Some posts → AreWithinSegments s.limits.notes (all_tables s.posts) origin posts.queues

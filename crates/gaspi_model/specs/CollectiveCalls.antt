@@ -4,13 +4,13 @@
 use Rattle.std.specs.Prelude.{ℕ, ◌&&◌, Bool, true, false, not, nat_lt, List, [], ◌∷◌, length, Option, None, Some, Result, Ok, Err, if◌then◌else◌, slice_set}
 use Rattle.std.specs.Option.{unwrap_or}
 use Rattle.gaspi_types.specs.CallRows.{row_of}
-use Rattle.gaspi_types.specs.Checks.{◌>>=◌, check, found}
-use Rattle.gaspi_types.specs.Collectives.{no_values, count_checks, type_checks, same_args, resume, is_turn_full, turn_checks, turn_fold, turn_made}
+use Rattle.gaspi_types.specs.Checks.{◌>>=◌, check, ok_or}
+use Rattle.gaspi_types.specs.Collectives.{no_values, count_checks, type_checks, same_args, resume, is_round_full, round_checks, round_reduction, round_segments}
 use Rattle.gaspi_types.specs.Groups.{is_building, handle_at, building_at, with_committed, fix_checks}
 use Rattle.gaspi_types.specs.Masks.{is_member}
 use Rattle.gaspi_types.specs.Replies.{same_reply}
 use Rattle.gaspi_types.specs.SegmentTables.{alloc_checks, next_generation}
-use Rattle.gaspi_types.specs.Tables.{entry_at}
+use Rattle.gaspi_types.specs.Tables.{item_at}
 use Rattle.gaspi_types.specs.declared.calls.Call.{Call}
 use Rattle.gaspi_types.specs.declared.calls.Call.TheVariants as calls
 use Rattle.gaspi_types.specs.declared.collectives.Coll.{Coll}
@@ -20,8 +20,8 @@ use Rattle.gaspi_types.specs.declared.groups.Contribution.{Contribution}
 use Rattle.gaspi_types.specs.declared.groups.Group.{Group}
 use Rattle.gaspi_types.specs.declared.groups.Handle.{Handle}
 use Rattle.gaspi_types.specs.declared.groups.Handles.{Handles}
-use Rattle.gaspi_types.specs.declared.groups.Made.{Made}
-use Rattle.gaspi_types.specs.declared.groups.Pending.{Pending}
+use Rattle.gaspi_types.specs.declared.groups.MemberSegment.{MemberSegment}
+use Rattle.gaspi_types.specs.declared.groups.PendingCollective.{PendingCollective}
 use Rattle.gaspi_types.specs.declared.groups.Resume.{Resume}
 use Rattle.gaspi_types.specs.declared.groups.Resume.TheVariants.{Fresh, Same}
 use Rattle.gaspi_types.specs.declared.events.Event.{Event}
@@ -34,7 +34,7 @@ use Rattle.gaspi_types.specs.declared.replies.Reply.{Reply}
 use Rattle.gaspi_types.specs.declared.replies.Reply.TheVariants as replies
 use Rattle.gaspi_types.specs.declared.replies.Ready.{Ready}
 use Rattle.gaspi_types.specs.declared.replies.Ready.TheVariants as ready
-use Rattle.gaspi_model.specs.SegmentCalls.{with_own, alloc_leaves, with_known}
+use Rattle.gaspi_model.specs.SegmentCalls.{with_own, alloc_effect, with_known}
 use Rattle.gaspi_model.specs.State.{thread_at, is_running}
 use Rattle.gaspi_model.specs.declared.states.Posts.{Posts}
 use Rattle.gaspi_model.specs.declared.states.Memory.{Memory}
@@ -51,7 +51,7 @@ element_checks call = Ok tt
 -- a group that is committed
 abbrev pub committed_at : Handles → ℕ → Result Handle Refusal
 committed_at groups id = do
-  handle ← found (handle_at groups id) NoGroup
+  handle ← ok_or (handle_at groups id) NoGroup
   committed ← check (not (is_building handle.stage)) (GroupStage handle.stage)
   Ok handle
 
@@ -87,64 +87,64 @@ segment_checks posts call = Ok tt
 
 -- what a collective is refused for by what other ranks have brought to the group: a commit by the list that is fixed, each other by
 -- the turn
-abbrev pub meeting_checks : Group → ℕ → Coll → Result (Unit {0}) Refusal
-meeting_checks group me (Commit mask) = fix_checks group.members mask
-meeting_checks group me coll = turn_checks group me coll
+abbrev pub agreement_checks : Group → ℕ → Coll → Result (Unit {0}) Refusal
+agreement_checks group me (Commit mask) = fix_checks group.members mask
+agreement_checks group me coll = round_checks group me coll
 
 -- one that is not pending may join
-abbrev pub fresh_finds : Posts → Group → ℕ → ℕ → Call → Result Ready Refusal
-fresh_finds posts group me members call = do
+abbrev pub fresh_result : Posts → Group → ℕ → ℕ → Call → Result Ready Refusal
+fresh_result posts group me members call = do
   free ← segment_checks posts call
-  args ← found (args_of members call) BadSize
-  meets ← meeting_checks group me args.coll
+  args ← ok_or (args_of members call) BadSize
+  meets ← agreement_checks group me args.coll
   Ok (ready.Join args)
 
 -- what it answers whose turn is full (allreduce: the numbers of all members)
 abbrev pub full_reply : Group → ℕ → Call → Reply
-full_reply group me (calls.Allreduce call) = replies.List (turn_fold group me call.op call.values.num_type)
+full_reply group me (calls.Allreduce call) = replies.List (round_reduction group me call.op call.values.num_type)
 full_reply group me call = replies.Done
 
 -- one that is pending for its caller is ready where its turn is full
-abbrev pub resumed_finds : Group → ℕ → Call → Ready
-resumed_finds group me call = if is_turn_full group me then ready.Reply (full_reply group me call) else ready.NotReady
+abbrev pub resumed_answer : Group → ℕ → Call → Ready
+resumed_answer group me call = if is_round_full group me then ready.Reply (full_reply group me call) else ready.NotReady
 
-abbrev pub met_finds : Resume → Posts → Group → ℕ → ℕ → Call → Result Ready Refusal
-met_finds Fresh posts group me members call = fresh_finds posts group me members call
-met_finds Same posts group me members call = Ok (resumed_finds group me call)
+abbrev pub resume_result : Resume → Posts → Group → ℕ → ℕ → Call → Result Ready Refusal
+resume_result Fresh posts group me members call = fresh_result posts group me members call
+resume_result Same posts group me members call = Ok (resumed_answer group me call)
 
-abbrev pub collective_finds : Posts → Group → ℕ → ℕ → ℕ → Call → Result Ready Refusal
-collective_finds posts group me thread id call = do
+abbrev pub collective_result : Posts → Group → ℕ → ℕ → ℕ → Call → Result Ready Refusal
+collective_result posts group me thread id call = do
   elements ← element_checks call
   handle ← staged_at posts.groups me id call
-  resumed ← resume (entry_at posts.pending id) thread (args_of handle.members call)
-  met_finds resumed posts group me handle.members call
+  resumed ← resume (item_at posts.pending id) thread (args_of handle.members call)
+  resume_result resumed posts group me handle.members call
 
 abbrev pub collective_ready : Result Ready Refusal → Ready
-collective_ready (Ok found) = found
+collective_ready (Ok ok_or) = ok_or
 collective_ready (Err refusal) = ready.Reply (replies.Refused refusal)
 
 -- what a look at a collective answers: that the caller has ended comes before everything else
 abbrev pub collective_answer : Posts → Group → ℕ → ℕ → ℕ → Call → Ready
 collective_answer posts group me thread id call =
     if is_running (thread_at posts thread)
-    then collective_ready (collective_finds posts group me thread id call)
+    then collective_ready (collective_result posts group me thread id call)
     else ready.Reply (replies.Refused CallerEnded)
 
 -- whether a reply is the one with which a collective may be recorded that was looked at: one that has not joined has none
 abbrev pub is_reply_of : Ready → Reply → Bool
-is_reply_of (ready.Reply found) reply = same_reply reply found
+is_reply_of (ready.Reply ok_or) reply = same_reply reply ok_or
 is_reply_of (ready.Join args) reply = false
 is_reply_of ready.NotReady reply = same_reply reply replies.Timeout
 
 -- whether it may join
 abbrev pub is_joining : Ready → Bool
-is_joining (ready.Reply found) = false
+is_joining (ready.Reply ok_or) = false
 is_joining (ready.Join may) = true
 is_joining ready.NotReady = false
 
 -- and with those arguments
 abbrev pub is_join_of : Ready → Args → Bool
-is_join_of (ready.Reply found) args = false
+is_join_of (ready.Reply ok_or) args = false
 is_join_of (ready.Join may) args = same_args may args
 is_join_of ready.NotReady args = false
 
@@ -174,11 +174,11 @@ made_posts posts (Create seg size) = with_own posts seg size
 made_posts posts coll = posts
 
 abbrev pub made_memory : Limits → Posts → Memory → Coll → Memory
-made_memory limits posts memory (Create seg size) = alloc_leaves limits posts memory (record { seg = seg; size = size })
+made_memory limits posts memory (Create seg size) = alloc_effect limits posts memory (record { seg = seg; size = size })
 made_memory limits posts memory coll = memory
 
 -- and is pending for its caller
-abbrev pub with_pending : ℕ → Option Pending → Posts → Posts
+abbrev pub with_pending : ℕ → Option PendingCollective → Posts → Posts
 with_pending id pending posts = record posts { pending = slice_set posts.pending id pending }
 
 abbrev pub joined_posts : Posts → ℕ → ℕ → Args → Posts
@@ -187,20 +187,20 @@ joined_posts posts thread id args = with_pending id (Some (record { thread = thr
 -- What a completion leaves.
 
 -- the segments of members known, in the generations in which they were made (segment_create)
-abbrev pub with_made_known : ℕ → ℕ → List Made → Posts → Posts
+abbrev pub with_made_known : ℕ → ℕ → List MemberSegment → Posts → Posts
 with_made_known seg size [] posts = posts
 with_made_known seg size (m ∷ made) posts =
     with_made_known seg size made (with_known m.rank seg (Some (record { generation = m.generation; size = size })) posts)
 
 -- a commit marks the group committed, and a segment_create makes the segments of all members known
-abbrev pub told_posts : Group → ℕ → ℕ → Call → Posts → Posts
-told_posts group me id (calls.Commit call) posts = record posts { groups = with_committed posts.groups id }
-told_posts group me id (calls.Create call) posts = with_made_known call.seg call.size (turn_made group me) posts
-told_posts group me id call posts = posts
+abbrev pub posts_at_completion : Group → ℕ → ℕ → Call → Posts → Posts
+posts_at_completion group me id (calls.Commit call) posts = record posts { groups = with_committed posts.groups id }
+posts_at_completion group me id (calls.Create call) posts = with_made_known call.seg call.size (round_segments group me) posts
+posts_at_completion group me id call posts = posts
 
 -- and none is pending
 abbrev pub completed_posts : Posts → Group → ℕ → ℕ → Call → Posts
-completed_posts posts group me id call = with_pending id None (told_posts group me id call posts)
+completed_posts posts group me id call = with_pending id None (posts_at_completion group me id call posts)
 
 -- the group of a collective
 abbrev pub group_of : Call → ℕ

@@ -1,10 +1,10 @@
 -- What ranks have given to groups, and what is pending of it, in the states of legal histories. (GASPI: collectives, groups, segments)
 use Rattle.std.specs.Prelude.{◌≡◌, ℕ, ◌+◌, ◌<◌, ◌≤◌, true, length, slice_get, Option, None, Some, Ok}
-use Rattle.gaspi_types.specs.Collectives.{AreWhole, part_of, given_in}
+use Rattle.gaspi_types.specs.Collectives.{HaveOwnValues, contributions_of, contribution_in}
 use Rattle.gaspi_types.specs.Groups.{handle_at}
 use Rattle.gaspi_types.specs.Masks.{is_member}
 use Rattle.gaspi_types.specs.SegmentTables.{extent_in}
-use Rattle.gaspi_types.specs.Tables.{entry_at}
+use Rattle.gaspi_types.specs.Tables.{item_at}
 use Rattle.gaspi_types.specs.declared.collectives.Coll.TheVariants.{Create, Commit}
 use Rattle.gaspi_types.specs.declared.collectives.Stage.TheVariants.{Building, Committed}
 use Rattle.gaspi_types.specs.declared.groups.Args.{Args}
@@ -12,8 +12,8 @@ use Rattle.gaspi_types.specs.declared.groups.Contribution.{Contribution}
 use Rattle.gaspi_types.specs.declared.groups.Group.{Group}
 use Rattle.gaspi_types.specs.declared.groups.Handle.{Handle}
 use Rattle.gaspi_types.specs.declared.groups.Handles.{Handles}
-use Rattle.gaspi_types.specs.declared.groups.Part.{Part}
-use Rattle.gaspi_types.specs.declared.groups.Pending.{Pending}
+use Rattle.gaspi_types.specs.declared.groups.RankContributions.{RankContributions}
+use Rattle.gaspi_types.specs.declared.groups.PendingCollective.{PendingCollective}
 use Rattle.gaspi_types.specs.declared.segments.Extent.{Extent}
 use Rattle.gaspi_model.specs.Coherence.{Tables, WasMade, tables_of}
 use Rattle.gaspi_model.specs.CollectiveCalls.{element_checks, staged_at, args_of, joining_call}
@@ -21,9 +21,9 @@ use Rattle.gaspi_model.specs.declared.states.Posts.{Posts}
 use Rattle.gaspi_model.specs.declared.states.State.{State}
 
 -- how many collectives of a rank are pending on a group
-abbrev pub waits : Option Pending → ℕ
-waits None = 0
-waits (Some p) = 1
+abbrev pub pending_count : Option PendingCollective → ℕ
+pending_count None = 0
+pending_count (Some p) = 1
 
 -- a rank is one of members that are fixed
 pub record IsOneOf (members : Option ℕ) (rank : ℕ) : Type 0 where
@@ -33,15 +33,15 @@ pub record IsOneOf (members : Option ℕ) (rank : ℕ) : Type 0 where
 
 -- A rank has given to one turn more than it has completed where a collective of it is pending on the group, which is the one that it
 -- has given last, and else to as many; and it has completed no more turns than it has recorded events.
-pub record IsSoundPart (events : ℕ) (pending : Option Pending) (part : Part) : Type 0 where
-  pub count : length part.contributions ≡ part.completed + waits pending
-  pub last : (p : Pending) → pending ≡ Some p → (c : Contribution) × (slice_get part.contributions part.completed ≡ Some c) × (c.args ≡ p.args)
+pub record AreSoundContributions (events : ℕ) (pending : Option PendingCollective) (part : RankContributions) : Type 0 where
+  pub count : length part.contributions ≡ part.completed + pending_count pending
+  pub last : (p : PendingCollective) → pending ≡ Some p → (c : Contribution) × (slice_get part.contributions part.completed ≡ Some c) × (c.args ≡ p.args)
   pub few : part.completed ≤ events
 
 -- How far a rank has come with a group tells how many turns it has completed: none before it has committed it, and at least its
 -- commit after it; group 0 is committed from the start.
 pub record HasBegun (posts : Posts) (id completed : ℕ) : Type 0 where
-  pub unmade : posts.groups.made < id → completed ≡ 0
+  pub unmade : posts.groups.last_id < id → completed ≡ 0
   pub building : (h : Handle) → handle_at posts.groups id ≡ Some h → h.stage ≡ Building → completed ≡ 0
   pub committed : (h : Handle) → handle_at posts.groups id ≡ Some h → h.stage ≡ Committed → (id ≡ 0 → ⊥) → 1 ≤ completed
 
@@ -50,7 +50,7 @@ pub record HasBegun (posts : Posts) (id completed : ℕ) : Type 0 where
 pub record IsResumable (groups : Handles) (me id : ℕ) (args : Args) : Type 0 where
   pub handle : Handle
   pub there : handle_at groups id ≡ Some handle
-  pub made : id ≤ groups.made
+  pub made : id ≤ groups.last_id
   pub elements : element_checks (joining_call id args) ≡ Ok tt
   pub staged : staged_at groups me id (joining_call id args) ≡ Ok handle
   pub own : args_of handle.members (joining_call id args) ≡ Some args
@@ -58,11 +58,11 @@ pub record IsResumable (groups : Handles) (me id : ℕ) (args : Args) : Type 0 w
 -- What is given to one turn agrees in all but values and generation; who gives is a member; and a commit has the list of ranks that
 -- is fixed.
 pub record IsSoundGroup (ranks : ℕ) (g : Group) : Type 0 where
-  pub parts : length g.parts ≡ ranks
-  pub agree : (turn rank other : ℕ) (c d : Contribution) → given_in g turn rank ≡ Some c → given_in g turn other ≡ Some d → c.args.coll ≡ d.args.coll
-  pub whole : (turn rank : ℕ) (c : Contribution) → given_in g turn rank ≡ Some c → AreWhole c.args
-  pub members : (turn rank : ℕ) (c : Contribution) → given_in g turn rank ≡ Some c → IsOneOf g.members rank
-  pub commits : (turn rank : ℕ) (c : Contribution) (mask : ℕ) → given_in g turn rank ≡ Some c → c.args.coll ≡ Commit mask → g.members ≡ Some mask
+  pub parts : length g.contributions ≡ ranks
+  pub agree : (turn rank other : ℕ) (c d : Contribution) → contribution_in g turn rank ≡ Some c → contribution_in g turn other ≡ Some d → c.args.coll ≡ d.args.coll
+  pub whole : (turn rank : ℕ) (c : Contribution) → contribution_in g turn rank ≡ Some c → HaveOwnValues c.args
+  pub members : (turn rank : ℕ) (c : Contribution) → contribution_in g turn rank ≡ Some c → IsOneOf g.members rank
+  pub commits : (turn rank : ℕ) (c : Contribution) (mask : ℕ) → contribution_in g turn rank ≡ Some c → c.args.coll ≡ Commit mask → g.members ≡ Some mask
 
 -- a segment of that number and generation was made, and has that size where it is there
 abbrev pub WasMadeSo : Tables → ℕ → ℕ → ℕ → Type 0
@@ -76,14 +76,14 @@ pub record AreSoundCollectives (s : State) : Type 0 where
   pub eight : length s.groups ≡ 8
   pub groups : (id : ℕ) (g : Group) → slice_get s.groups id ≡ Some g → IsSoundGroup s.limits.ranks g
   pub parts : (id : ℕ) (g : Group) (rank : ℕ) (posts : Posts) → slice_get s.groups id ≡ Some g → slice_get s.posts rank ≡ Some posts
-      → IsSoundPart posts.events (entry_at posts.pending id) (part_of g rank)
+      → AreSoundContributions posts.events (item_at posts.pending id) (contributions_of g rank)
   pub begun : (id : ℕ) (g : Group) (rank : ℕ) (posts : Posts) → slice_get s.groups id ≡ Some g → slice_get s.posts rank ≡ Some posts
-      → HasBegun posts id (part_of g rank).completed
-  pub resumable : (id rank : ℕ) (posts : Posts) (p : Pending) → slice_get s.posts rank ≡ Some posts → entry_at posts.pending id ≡ Some p
+      → HasBegun posts id (contributions_of g rank).completed
+  pub resumable : (id rank : ℕ) (posts : Posts) (p : PendingCollective) → slice_get s.posts rank ≡ Some posts → item_at posts.pending id ≡ Some p
       → IsResumable posts.groups rank id p.args
-  pub first : (id : ℕ) (g : Group) (rank : ℕ) (c : Contribution) → slice_get s.groups id ≡ Some g → (id ≡ 0 → ⊥) → given_in g 0 rank ≡ Some c
+  pub first : (id : ℕ) (g : Group) (rank : ℕ) (c : Contribution) → slice_get s.groups id ≡ Some g → (id ≡ 0 → ⊥) → contribution_in g 0 rank ≡ Some c
       → (mask : ℕ) × (c.args.coll ≡ Commit mask)
   pub committed : (id : ℕ) (g : Group) (rank : ℕ) (posts : Posts) (h : Handle) → slice_get s.groups id ≡ Some g → slice_get s.posts rank ≡ Some posts
       → handle_at posts.groups id ≡ Some h → h.stage ≡ Committed → (g.members ≡ Some h.members) × (is_member h.members rank ≡ true)
   pub made : (id : ℕ) (g : Group) (rank : ℕ) (posts : Posts) → slice_get s.groups id ≡ Some g → slice_get s.posts rank ≡ Some posts
-      → (turn : ℕ) (c : Contribution) (seg size : ℕ) → given_in g turn rank ≡ Some c → c.args.coll ≡ Create seg size → WasMadeSo (tables_of posts) seg c.generation size
+      → (turn : ℕ) (c : Contribution) (seg size : ℕ) → contribution_in g turn rank ≡ Some c → c.args.coll ≡ Create seg size → WasMadeSo (tables_of posts) seg c.generation size

@@ -29,4 +29,4 @@ pub mod Sound
 pub mod State
 pub mod Step
 pub mod Transfers
-pub mod Turns
+pub mod Rounds

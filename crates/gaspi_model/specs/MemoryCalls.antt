@@ -12,15 +12,15 @@ use Rattle.gaspi_model.specs.Memories.{bytes_of, with_bytes}
 use Rattle.gaspi_model.specs.declared.states.Posts.{Posts}
 use Rattle.gaspi_model.specs.declared.states.Memory.{Memory}
 
-abbrev pub store_finds : Posts → store.Store → Result (Option Reply) Refusal
-store_finds posts call = do
+abbrev pub store_result : Posts → store.Store → Result (Option Reply) Refusal
+store_result posts call = do
   fits ← own_range_checks posts.segments.own call.seg call.offset (length call.bytes)
   Ok (Some replies.Done)
 
 abbrev pub store_leaves : Memory → store.Store → Memory
 store_leaves memory call = with_bytes memory call.seg (with_range (bytes_of memory call.seg) call.offset call.bytes)
 
-abbrev pub load_finds : Posts → Memory → load.Load → Result (Option Reply) Refusal
-load_finds posts memory call = do
+abbrev pub load_result : Posts → Memory → load.Load → Result (Option Reply) Refusal
+load_result posts memory call = do
   fits ← own_range_checks posts.segments.own call.seg call.offset call.size
   Ok (Some (replies.Bytes (range_of (bytes_of memory call.seg) call.offset call.size)))

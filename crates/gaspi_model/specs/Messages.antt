@@ -1,6 +1,6 @@
 -- What events send to a rank, and what a rank receives. (GASPI: passive communication)
 use Rattle.std.specs.Prelude.{◌≡◌, ℕ, ◌==◌, List, [], ◌∷◌, ◌++◌, length, take, Some, Result, Ok, Err, if◌then◌else◌, slice_get}
-use Rattle.gaspi_types.specs.World.{World}
+use Rattle.gaspi_types.specs.World.{ShapeValue}
 use Rattle.gaspi_types.specs.declared.calls.Call.TheVariants.{PassiveSend, PassiveReceive}
 use Rattle.gaspi_types.specs.declared.replies.Reply.TheVariants as replies
 use Rattle.gaspi_types.specs.declared.inboxes.Message.{Message}
@@ -31,9 +31,9 @@ received_by s (Called c (PassiveReceive call) (replies.Id sender)) rank = if c.r
 received_by s event rank = []
 
 -- what events bring, one after another from a state on, each of them in the state in which it comes
-abbrev pub gathered : (State → Event → List Message) → State → List Event → List Message
-gathered brings s [] = []
-gathered brings s (e ∷ events) = brings s e ++ in_next (step s e) (λ t. gathered brings t events)
+abbrev pub collected_from : (State → Event → List Message) → State → List Event → List Message
+collected_from brings s [] = []
+collected_from brings s (e ∷ events) = brings s e ++ in_next (step s e) (λ t. collected_from brings t events)
   where
     in_next : Result State Why → (State → List Message) → List Message
     in_next (Err why) rest = []
@@ -41,14 +41,14 @@ gathered brings s (e ∷ events) = brings s e ++ in_next (step s e) (λ t. gathe
 
 -- what a history sends to a rank, and what the rank receives in it, in the order of the events
 abbrev pub sent_in : State → List Event → ℕ → List Message
-sent_in s events rank = gathered (λ at e. sent_by at e rank) s events
+sent_in s events rank = collected_from (λ at e. sent_by at e rank) s events
 
 abbrev pub received_in : State → List Event → ℕ → List Message
-received_in s events rank = gathered (λ at e. received_by at e rank) s events
+received_in s events rank = collected_from (λ at e. received_by at e rank) s events
 
 -- A receive of a rank that comes after a history and answers that sender: the inbox has a first message; it is the earliest of
 -- those that the history has sent to the rank and that the rank has not received in it; and that rank sent it.
-pub record IsEarliest (w : World) (history : List Event) (s : State) (rank sender : ℕ) : Type 0 where
+pub record IsEarliest (w : ShapeValue) (history : List Event) (s : State) (rank sender : ℕ) : Type 0 where
   pub message : Message
   pub rest : List Message
   pub first : inbox_of s rank ≡ message ∷ rest

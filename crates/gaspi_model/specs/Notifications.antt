@@ -1,6 +1,6 @@
 -- Which put has set a notification slot last, and that each value that was set is handed out once. (GASPI: notifications)
 use Rattle.std.specs.Prelude.{◌≡◌, ◌≢◌, ℕ, ◌<◌, List, take, slice_get, Some, Ok}
-use Rattle.gaspi_types.specs.World.{World}
+use Rattle.gaspi_types.specs.World.{ShapeValue}
 use Rattle.gaspi_types.specs.declared.calls.Call.TheVariants.{Reset}
 use Rattle.gaspi_types.specs.declared.calls.notifications.Reset as reset
 use Rattle.gaspi_types.specs.declared.entries.Entry.{Entry}
@@ -13,7 +13,7 @@ use Rattle.gaspi_types.specs.declared.events.Outcome.TheVariants.{Applied}
 use Rattle.gaspi_types.specs.declared.replies.Reply.TheVariants as replies
 use Rattle.gaspi_types.specs.declared.shapes.CallerId.{CallerId}
 use Rattle.gaspi_model.specs.Changes.{IsThere}
-use Rattle.gaspi_model.specs.Shards.{standing}
+use Rattle.gaspi_model.specs.Shards.{entry_after}
 use Rattle.gaspi_model.specs.Step.{reached}
 use Rattle.gaspi_model.specs.declared.states.Memory.{Memory}
 use Rattle.gaspi_model.specs.declared.states.State.{State}
@@ -28,7 +28,7 @@ Sets origin target (ReadNote own) rank slot value = (rank ≡ origin) × (slot �
 
 -- At a place of a history stands the put of an entry that sets a slot of a rank, in that generation of its segment, to a value. A put
 -- that failed sets nothing.
-pub record SetsSlot (w : World) (history : List Event) (place rank : ℕ) (slot : NoteSlot) (value : ℕ) : Type 0 where
+pub record SetsSlot (w : ShapeValue) (history : List Event) (place rank : ℕ) (slot : NoteSlot) (value : ℕ) : Type 0 where
   pub origin : ℕ
   pub queue : ℕ
   pub target : ℕ
@@ -37,12 +37,12 @@ pub record SetsSlot (w : World) (history : List Event) (place rank : ℕ) (slot 
   pub entry : Entry
   pub is : slice_get history place ≡ Some (Put origin queue target number Applied)
   pub leads : reached w (take place history) ≡ Ok state
-  pub stands : standing state origin queue target number ≡ Some entry
+  pub stands : entry_after state origin queue target number ≡ Some entry
   pub sets : Sets origin target entry.kind rank slot value
 
 -- At a place of a history stands a reset of a slot by a caller of its rank that was answered with a value, while the segment is there
 -- in that generation. (notify_reset)
-pub record IsResetOf (w : World) (history : List Event) (place rank : ℕ) (slot : NoteSlot) (value : ℕ) : Type 0 where
+pub record IsResetOf (w : ShapeValue) (history : List Event) (place rank : ℕ) (slot : NoteSlot) (value : ℕ) : Type 0 where
   pub caller : CallerId
   pub state : State
   pub memory : Memory
@@ -54,14 +54,14 @@ pub record IsResetOf (w : World) (history : List Event) (place rank : ℕ) (slot
 
 -- The put at a place is the last before another place that has set a slot of a rank in that generation of its segment; it has set
 -- it to a value.
-pub record IsLastSet (w : World) (history : List Event) (put place rank : ℕ) (slot : NoteSlot) (value : ℕ) : Type 0 where
+pub record IsLastSet (w : ShapeValue) (history : List Event) (put place rank : ℕ) (slot : NoteSlot) (value : ℕ) : Type 0 where
   pub sets : SetsSlot w history put rank slot value
   pub earlier : put < place
   pub last : (between other : ℕ) → put < between → between < place → SetsSlot w history between rank slot other → ⊥
 
 -- The reset at a place answers a value that is not 0, and the put at another is the last before it that has set its slot in that
 -- generation; that is set, and this is answered.
-pub record IsHandedOut (w : World) (history : List Event) (put place set answered : ℕ) : Type 0 where
+pub record IsHandedOut (w : ShapeValue) (history : List Event) (put place set answered : ℕ) : Type 0 where
   pub rank : ℕ
   pub slot : NoteSlot
   pub resets : IsResetOf w history place rank slot answered
@@ -70,7 +70,7 @@ pub record IsHandedOut (w : World) (history : List Event) (put place set answere
 
 -- Each value but 0 that a reset answers was set by the last put before it that has set its slot in the generation of its segment; and
 -- what a put has set is handed out by one reset alone.
-pub record HandsOutOnce (w : World) (history : List Event) : Type 0 where
+pub record HandsOutOnce (w : ShapeValue) (history : List Event) : Type 0 where
   pub each : (place : ℕ) (c : CallerId) (call : reset.Reset) (value : ℕ) → slice_get history place ≡ Some (Called c (Reset call) (replies.Value value)) → value ≢ 0
       → (put : ℕ) × IsHandedOut w history put place value value
   pub once : (put place other set later answered again : ℕ) → IsHandedOut w history put place set answered → IsHandedOut w history put other later again → place ≡ other

@@ -1,7 +1,7 @@
 -- Which pass may commit an event: each declared caller has a number, and a call and a join are their caller's alone. (own choice)
 use Rattle.std.specs.Prelude.{ℕ, ◌+◌, ◌*◌, nat_lt, Bool, List, Option, None, Some, count_by, if◌then◌else◌}
 use Rattle.std.specs.List.{list_any}
-use Rattle.gaspi_types.specs.World.{World, is_caller}
+use Rattle.gaspi_types.specs.World.{ShapeValue, is_caller}
 use Rattle.gaspi_types.specs.declared.events.Event.{Event}
 use Rattle.gaspi_types.specs.declared.events.Event.TheVariants.{Called, Joined, Take, Put}
 use Rattle.gaspi_types.specs.declared.shapes.CallerId.{CallerId}
@@ -17,7 +17,7 @@ abbrev pub caller_party : List CallerId → CallerId → Option ℕ
 caller_party callers c = if list_any (is_caller c.rank c.thread) callers then Some (number_of callers c) else None
 
 -- a call and a join are their caller's alone, a transfer may be made by every worker
-abbrev pub party_of : World → Event → Option ℕ
+abbrev pub party_of : ShapeValue → Event → Option ℕ
 party_of w (Called c call reply) = caller_party w.callers c
 party_of w (Joined c id args) = caller_party w.callers c
 party_of w (Take origin queue target number outcome) = None

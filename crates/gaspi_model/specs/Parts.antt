@@ -1,29 +1,29 @@
 -- The parts of the state that an event touches, and how a step on them alone is a step of the whole state. (own choice)
 use Rattle.std.specs.Prelude.{ℕ, List, [], Option, None, Some, Result, Ok, slice_get, slice_set}
-use Rattle.gaspi_types.specs.Checks.{◌>>=◌, found}
+use Rattle.gaspi_types.specs.Checks.{◌>>=◌, ok_or}
 use Rattle.gaspi_types.specs.declared.groups.Group as groups
-use Rattle.gaspi_types.specs.declared.touches.Reach.{Reach}
-use Rattle.gaspi_types.specs.declared.touches.Reach.TheVariants.{Alone, OwnMemory, PeerMemory, BothMemories, PeerPosts, Group, GroupAndMemory}
+use Rattle.gaspi_types.specs.declared.footprints.Footprint.{Footprint}
+use Rattle.gaspi_types.specs.declared.footprints.Footprint.TheVariants.{Alone, OwnMemory, PeerMemory, BothMemories, PeerPosts, Group, GroupAndMemory}
 use Rattle.gaspi_model.specs.declared.states.Posts.{Posts}
 use Rattle.gaspi_model.specs.declared.states.Memory.{Memory}
 use Rattle.gaspi_model.specs.declared.states.State.{State}
 use Rattle.gaspi_model.specs.declared.states.Why.{Why}
 
 -- which parts are touched beside the owner's posts, by the numbers of their ranks and the number of the group
-pub record Touched : Type 0 where
+pub record PartNumbers : Type 0 where
   pub memory : Option ℕ
   pub peer_posts : Option ℕ
   pub peer_memory : Option ℕ
   pub group : Option ℕ
 
-abbrev pub touched_of : ℕ → Reach → Touched
-touched_of me Alone = record { memory = None; peer_posts = None; peer_memory = None; group = None }
-touched_of me OwnMemory = record { memory = Some me; peer_posts = None; peer_memory = None; group = None }
-touched_of me (PeerMemory rank) = record { memory = None; peer_posts = None; peer_memory = Some rank; group = None }
-touched_of me (BothMemories rank) = record { memory = Some me; peer_posts = None; peer_memory = Some rank; group = None }
-touched_of me (PeerPosts rank) = record { memory = None; peer_posts = Some rank; peer_memory = None; group = None }
-touched_of me (Group id) = record { memory = None; peer_posts = None; peer_memory = None; group = Some id }
-touched_of me (GroupAndMemory id) = record { memory = Some me; peer_posts = None; peer_memory = None; group = Some id }
+abbrev pub part_numbers : ℕ → Footprint → PartNumbers
+part_numbers me Alone = record { memory = None; peer_posts = None; peer_memory = None; group = None }
+part_numbers me OwnMemory = record { memory = Some me; peer_posts = None; peer_memory = None; group = None }
+part_numbers me (PeerMemory rank) = record { memory = None; peer_posts = None; peer_memory = Some rank; group = None }
+part_numbers me (BothMemories rank) = record { memory = Some me; peer_posts = None; peer_memory = Some rank; group = None }
+part_numbers me (PeerPosts rank) = record { memory = None; peer_posts = Some rank; peer_memory = None; group = None }
+part_numbers me (Group id) = record { memory = None; peer_posts = None; peer_memory = None; group = Some id }
+part_numbers me (GroupAndMemory id) = record { memory = Some me; peer_posts = None; peer_memory = None; group = Some id }
 
 -- the owner's posts, and of the others those that are touched
 pub record Parts : Type 0 where
@@ -43,7 +43,7 @@ with_part table None part = table
 with_part table (Some place) None = table
 with_part table (Some place) (Some x) = slice_set table place x
 
-abbrev pub parts_of : State → Posts → Touched → Parts
+abbrev pub parts_of : State → Posts → PartNumbers → Parts
 parts_of s posts touched = record {
   posts = posts;
   memory = part_at s.memories touched.memory;
@@ -52,7 +52,7 @@ parts_of s posts touched = record {
   group = part_at s.groups touched.group;
 }
 
-abbrev pub with_parts : State → ℕ → Touched → Parts → State
+abbrev pub with_parts : State → ℕ → PartNumbers → Parts → State
 with_parts s me touched parts = record s {
   posts = with_part (slice_set s.posts me parts.posts) touched.peer_posts parts.peer_posts;
   memories = with_part (with_part s.memories touched.memory parts.memory) touched.peer_memory parts.peer_memory;
@@ -61,43 +61,43 @@ with_parts s me touched parts = record s {
 
 -- A step on the parts that are touched, for the whole state: they are looked up, the step is made on them, and they are
 -- written back. Which they are is told by the owner's posts.
-abbrev pub lifted : State → ℕ → Why → (Posts → Touched) → (Parts → Result Parts Why) → Result State Why
+abbrev pub lifted : State → ℕ → Why → (Posts → PartNumbers) → (Parts → Result Parts Why) → Result State Why
 lifted s me missing touched local = do
-  posts ← found (slice_get s.posts me) missing
+  posts ← ok_or (slice_get s.posts me) missing
   after ← local (parts_of s posts (touched posts))
   Ok (with_parts s me (touched posts) after)
 
 -- a memory with no segment, and a memory that may be missing
-abbrev pub no_memory : Memory
-no_memory = record { segments = []; slots = []; inbox = [] }
+abbrev pub empty_memory : Memory
+empty_memory = record { segments = []; slots = []; inbox = [] }
 
 abbrev pub memory_or_none : Option Memory → Memory
-memory_or_none None = no_memory
+memory_or_none None = empty_memory
 memory_or_none (Some memory) = memory
 
 -- the memory that an event of that reach works on; where it works on none, one with no segment; of two it reads the own one
-abbrev pub worked_memory : Reach → Parts → Memory
-worked_memory Alone parts = no_memory
-worked_memory OwnMemory parts = memory_or_none parts.memory
-worked_memory (PeerMemory rank) parts = memory_or_none parts.peer_memory
-worked_memory (BothMemories rank) parts = memory_or_none parts.peer_memory
-worked_memory (PeerPosts rank) parts = no_memory
-worked_memory (Group id) parts = no_memory
-worked_memory (GroupAndMemory id) parts = memory_or_none parts.memory
+abbrev pub accessed_memory : Footprint → Parts → Memory
+accessed_memory Alone parts = empty_memory
+accessed_memory OwnMemory parts = memory_or_none parts.memory
+accessed_memory (PeerMemory rank) parts = memory_or_none parts.peer_memory
+accessed_memory (BothMemories rank) parts = memory_or_none parts.peer_memory
+accessed_memory (PeerPosts rank) parts = empty_memory
+accessed_memory (Group id) parts = empty_memory
+accessed_memory (GroupAndMemory id) parts = memory_or_none parts.memory
 
-abbrev pub with_worked_memory : Reach → Parts → Memory → Parts
-with_worked_memory Alone parts memory = parts
-with_worked_memory OwnMemory parts memory = record parts { memory = Some memory }
-with_worked_memory (PeerMemory rank) parts memory = record parts { peer_memory = Some memory }
-with_worked_memory (BothMemories rank) parts memory = record parts { peer_memory = Some memory }
-with_worked_memory (PeerPosts rank) parts memory = parts
-with_worked_memory (Group id) parts memory = parts
-with_worked_memory (GroupAndMemory id) parts memory = record parts { memory = Some memory }
+abbrev pub with_accessed_memory : Footprint → Parts → Memory → Parts
+with_accessed_memory Alone parts memory = parts
+with_accessed_memory OwnMemory parts memory = record parts { memory = Some memory }
+with_accessed_memory (PeerMemory rank) parts memory = record parts { peer_memory = Some memory }
+with_accessed_memory (BothMemories rank) parts memory = record parts { peer_memory = Some memory }
+with_accessed_memory (PeerPosts rank) parts memory = parts
+with_accessed_memory (Group id) parts memory = parts
+with_accessed_memory (GroupAndMemory id) parts memory = record parts { memory = Some memory }
 
 -- a group without members and parts, and a group that may be missing
-abbrev pub no_group : groups.Group
-no_group = record { members = None; parts = [] }
+abbrev pub empty_group : groups.Group
+empty_group = record { members = None; contributions = [] }
 
 abbrev pub group_or_none : Option groups.Group → groups.Group
-group_or_none None = no_group
+group_or_none None = empty_group
 group_or_none (Some group) = group

@@ -20,8 +20,8 @@ use Rattle.gaspi_model.specs.declared.states.Posts.{Posts}
 use Rattle.gaspi_model.specs.declared.states.Memory.{Memory}
 
 -- ready where the inbox of the rank that it names has room for one more message (passive_send)
-abbrev pub send_finds : Limits → Posts → Memory → send.PassiveSend → Result (Option Reply) Refusal
-send_finds limits posts memory call = do
+abbrev pub send_result : Limits → Posts → Memory → send.PassiveSend → Result (Option Reply) Refusal
+send_result limits posts memory call = do
   ranked ← check (nat_lt call.rank limits.ranks) BadRank
   fits ← passive_checks posts.segments.own call.seg call.offset call.size
   Ok (if has_room limits.inbox memory.inbox then Some replies.Done else None)
@@ -31,25 +31,25 @@ abbrev pub message_of : ℕ → Memory → send.PassiveSend → Message
 message_of me own call = record { sender = me; bytes = range_of (bytes_of own call.seg) call.offset call.size }
 
 -- the message that a call brings: a send one, any other none
-abbrev pub brought_by : ℕ → Memory → Call → Option Message
-brought_by me own (PassiveSend call) = Some (message_of me own call)
-brought_by me own call = None
+abbrev pub sent_message : ℕ → Memory → Call → Option Message
+sent_message me own (PassiveSend call) = Some (message_of me own call)
+sent_message me own call = None
 
 -- the message stands last in the inbox
-abbrev pub send_leaves : Option Message → Memory → Memory
-send_leaves None memory = memory
-send_leaves (Some message) memory = record memory { inbox = deposited memory.inbox message }
+abbrev pub send_effect : Option Message → Memory → Memory
+send_effect None memory = memory
+send_effect (Some message) memory = record memory { inbox = deposited memory.inbox message }
 
 -- ready where a message is there, which has to be short enough: it answers the sender (passive_receive)
-abbrev pub receive_finds : Posts → Memory → receive.PassiveReceive → Result (Option Reply) Refusal
-receive_finds posts memory call = do
+abbrev pub receive_result : Posts → Memory → receive.PassiveReceive → Result (Option Reply) Refusal
+receive_result posts memory call = do
   fits ← passive_checks posts.segments.own call.seg call.offset call.size
   message ← first_within call.size memory.inbox
   Ok (option_map (λ (m : Message). replies.Id m.sender) message)
 
 -- the first message goes, and its bytes, no more, stand from the offset on
-abbrev pub receive_leaves : Memory → receive.PassiveReceive → Memory
-receive_leaves memory call = received memory.inbox
+abbrev pub receive_effect : Memory → receive.PassiveReceive → Memory
+receive_effect memory call = received memory.inbox
   where
     received : List Message → Memory
     received [] = memory

@@ -1,7 +1,7 @@
 -- The calls that post entries to a lane: what they find. What they ask for stands with the types.
 -- (GASPI: one-sided communication)
 use Rattle.std.specs.Prelude.{ℕ, ◌+◌, nat_le, nat_lt, List, length, Option, Some, Result, Ok, slice_get}
-use Rattle.gaspi_types.specs.Checks.{◌>>=◌, check, found, absent}
+use Rattle.gaspi_types.specs.Checks.{◌>>=◌, check, ok_or, err_if_some}
 use Rattle.gaspi_types.specs.declared.entries.Kind.{Kind}
 use Rattle.gaspi_types.specs.declared.shapes.Limits.{Limits}
 use Rattle.gaspi_types.specs.declared.replies.Refusal.{Refusal}
@@ -12,16 +12,16 @@ use Rattle.gaspi_types.specs.declared.entries.Queue.{Queue}
 use Rattle.gaspi_model.specs.declared.states.Posts.{Posts}
 
 -- a post is taken where its queue is not broken, and has room for all its entries
-abbrev pub post_finds : Limits → Queue → List Kind → Result (Option Reply) Refusal
-post_finds limits q kinds = do
-  whole ← absent q.broken QueueBroken
+abbrev pub post_result : Limits → Queue → List Kind → Result (Option Reply) Refusal
+post_result limits q kinds = do
+  whole ← err_if_some q.broken QueueBroken
   room ← check (nat_le (q.open_count + length kinds) limits.depth) (QueueFull q.open_count (length kinds))
   Ok (Some replies.Done)
 
 -- a call that posts: its target is a rank, its queue is there, and it asks for entries
-abbrev pub asked_finds : Limits → Posts → ℕ → ℕ → Result (List Kind) Refusal → Result (Option Reply) Refusal
-asked_finds limits posts rank queue asked = do
+abbrev pub post_request_result : Limits → Posts → ℕ → ℕ → Result (List Kind) Refusal → Result (Option Reply) Refusal
+post_request_result limits posts rank queue asked = do
   ranked ← check (nat_lt rank limits.ranks) BadRank
-  q ← found (slice_get posts.queues queue) BadQueue
+  q ← ok_or (slice_get posts.queues queue) BadQueue
   kinds ← asked
-  post_finds limits q kinds
+  post_result limits q kinds

@@ -1,7 +1,7 @@
 -- The calls on a queue and on the state vector: what they find, and what they leave. (GASPI: one-sided communication, state vector)
 use Rattle.std.specs.Prelude.{ℕ, List, [], map, Option, None, Some, Result, Ok, if◌then◌else◌, slice_get}
 use Rattle.std.specs.List.{list_any}
-use Rattle.gaspi_types.specs.Checks.{◌>>=◌, found, absent}
+use Rattle.gaspi_types.specs.Checks.{◌>>=◌, ok_or, err_if_some}
 use Rattle.gaspi_types.specs.Lanes.{has_awaited}
 use Rattle.gaspi_types.specs.Masks.{mask_of}
 use Rattle.gaspi_types.specs.declared.calls.queues.Wait as wait
@@ -17,27 +17,27 @@ use Rattle.gaspi_types.specs.declared.entries.Queue.{Queue}
 use Rattle.gaspi_model.specs.declared.states.Posts.{Posts}
 
 -- ready where no entry of the queue is posted, and no read and no notification of a read stands in it (wait)
-abbrev pub wait_finds : Posts → wait.Wait → Result (Option Reply) Refusal
-wait_finds posts call = do
-  q ← found (slice_get posts.queues call.queue) BadQueue
-  whole ← absent q.broken QueueBroken
+abbrev pub wait_result : Posts → wait.Wait → Result (Option Reply) Refusal
+wait_result posts call = do
+  q ← ok_or (slice_get posts.queues call.queue) BadQueue
+  whole ← err_if_some q.broken QueueBroken
   Ok (if list_any has_awaited q.lanes then None else Some replies.Done)
 
 -- at any time, also of a broken queue (queue_purge)
-abbrev pub purge_finds : Posts → purge.Purge → Result (Option Reply) Refusal
-purge_finds posts call = do
-  q ← found (slice_get posts.queues call.queue) BadQueue
+abbrev pub purge_result : Posts → purge.Purge → Result (Option Reply) Refusal
+purge_result posts call = do
+  q ← ok_or (slice_get posts.queues call.queue) BadQueue
   Ok (Some replies.Done)
 
 -- the open count: the entries that were posted since it last was 0, and not those that stand (queue_size)
-abbrev pub qsize_finds : Posts → qsize.Qsize → Result (Option Reply) Refusal
-qsize_finds posts call = do
-  q ← found (slice_get posts.queues call.queue) BadQueue
+abbrev pub qsize_result : Posts → qsize.Qsize → Result (Option Reply) Refusal
+qsize_result posts call = do
+  q ← ok_or (slice_get posts.queues call.queue) BadQueue
   Ok (Some (replies.Value q.open_count))
 
 -- the ranks that are corrupt for the caller's rank (state_vec_get)
-abbrev pub state_finds : Posts → Result (Option Reply) Refusal
-state_finds posts = Ok (Some (replies.Mask (mask_of posts.corrupt)))
+abbrev pub state_result : Posts → Result (Option Reply) Refusal
+state_result posts = Ok (Some (replies.Mask (mask_of posts.corrupt)))
 
 -- the open count returns to 0
 abbrev pub closed : Posts → ℕ → Posts

@@ -1,7 +1,7 @@
 -- The calls of segments: what they find, and what they leave. The lines of what a call finds stand in the order of its
 -- checks. (GASPI: segments)
 use Rattle.std.specs.Prelude.{ℕ, nat_lt, Option, None, Some, Result, Ok, slice_set}
-use Rattle.gaspi_types.specs.Checks.{◌>>=◌, check, found, absent}
+use Rattle.gaspi_types.specs.Checks.{◌>>=◌, check, ok_or, err_if_some}
 use Rattle.gaspi_types.specs.Queues.{user_of}
 use Rattle.gaspi_types.specs.Segments.{new_segment}
 use Rattle.gaspi_types.specs.SegmentTables.{extent_in, alloc_checks, next_generation}
@@ -20,8 +20,8 @@ use Rattle.gaspi_model.specs.declared.states.Posts.{Posts}
 use Rattle.gaspi_model.specs.declared.states.Memory.{Memory}
 
 -- (segment_alloc)
-abbrev pub alloc_finds : Posts → alloc.Alloc → Result (Option Reply) Refusal
-alloc_finds posts call = do
+abbrev pub alloc_result : Posts → alloc.Alloc → Result (Option Reply) Refusal
+alloc_result posts call = do
   fits ← alloc_checks posts.segments.own call.seg call.size
   Ok (Some replies.Done)
 
@@ -29,17 +29,17 @@ alloc_finds posts call = do
 abbrev pub with_own : Posts → ℕ → ℕ → Posts
 with_own posts seg size = record posts { segments = tables.with_own posts.segments seg size }
 
-abbrev pub alloc_leaves : Limits → Posts → Memory → alloc.Alloc → Memory
-alloc_leaves limits posts memory call = record memory {
+abbrev pub alloc_effect : Limits → Posts → Memory → alloc.Alloc → Memory
+alloc_effect limits posts memory call = record memory {
   segments = slice_set memory.segments call.seg (Some (new_segment (next_generation posts.segments.next_generations call.seg) call.size));
   slots = slice_set memory.slots call.seg (Some (new_slots limits.notes));
 }
 
 -- (segment_register)
-abbrev pub register_finds : Limits → Posts → register.Register → Result (Option Reply) Refusal
-register_finds limits posts call = do
+abbrev pub register_result : Limits → Posts → register.Register → Result (Option Reply) Refusal
+register_result limits posts call = do
   ranked ← check (nat_lt call.rank limits.ranks) BadRank
-  mine ← found (extent_in posts.segments.own call.seg) NoSegment
+  mine ← ok_or (extent_in posts.segments.own call.seg) NoSegment
   Ok (Some replies.Done)
 
 -- the posts of a rank to which a segment of an owner is made known
@@ -47,14 +47,14 @@ abbrev pub with_known : ℕ → ℕ → Option Extent → Posts → Posts
 with_known owner seg extent posts = record posts { segments = tables.with_known owner seg extent posts.segments }
 
 -- no entry of the rank's own uses the segment (segment_delete)
-abbrev pub delete_finds : Posts → delete.Delete → Result (Option Reply) Refusal
-delete_finds posts call = do
-  mine ← found (extent_in posts.segments.own call.seg) NoSegment
-  unused ← absent (user_of posts.queues call.seg) SegmentBusy
+abbrev pub delete_result : Posts → delete.Delete → Result (Option Reply) Refusal
+delete_result posts call = do
+  mine ← ok_or (extent_in posts.segments.own call.seg) NoSegment
+  unused ← err_if_some (user_of posts.queues call.seg) SegmentBusy
   Ok (Some replies.Done)
 
 abbrev pub without_own : Posts → ℕ → Posts
 without_own posts seg = record posts { segments = tables.without_own posts.segments seg }
 
-abbrev pub delete_leaves : Memory → delete.Delete → Memory
-delete_leaves memory call = record memory { segments = slice_set memory.segments call.seg None; slots = slice_set memory.slots call.seg None }
+abbrev pub delete_effect : Memory → delete.Delete → Memory
+delete_effect memory call = record memory { segments = slice_set memory.segments call.seg None; slots = slice_set memory.slots call.seg None }

@@ -10,10 +10,10 @@ use Rattle.gaspi_types.specs.declared.calls.Call.TheVariants as calls
 use Rattle.gaspi_types.specs.declared.collectives.Coll.{Coll}
 use Rattle.gaspi_types.specs.declared.collectives.Coll.TheVariants as colls
 use Rattle.gaspi_types.specs.declared.events.Event.TheVariants.{Called, Joined}
-use Rattle.gaspi_types.specs.declared.touches.Reach.{Reach}
-use Rattle.gaspi_types.specs.declared.touches.Reach.TheVariants.{Alone, OwnMemory, PeerMemory, BothMemories, PeerPosts, Group, GroupAndMemory}
+use Rattle.gaspi_types.specs.declared.footprints.Footprint.{Footprint}
+use Rattle.gaspi_types.specs.declared.footprints.Footprint.TheVariants.{Alone, OwnMemory, PeerMemory, BothMemories, PeerPosts, Group, GroupAndMemory}
 use Rattle.gaspi_model.specs.Transfers.{entry_in}
-use Rattle.gaspi_model.specs.Step.{owner_of, event_reach}
+use Rattle.gaspi_model.specs.Step.{owner_of, event_footprint}
 use Rattle.gaspi_model.specs.declared.states.Posts.{Posts}
 use Rattle.gaspi_model.specs.declared.states.State.{State}
 use Rattle.gaspi_model.specs.declared.states.Shard.{Shard}
@@ -21,30 +21,30 @@ use Rattle.gaspi_model.specs.declared.states.Shard.TheVariants as shards
 use Rattle.gaspi_model.specs.declared.states.Why.{Why}
 
 -- the entry with a number in a lane of a rank
-abbrev pub standing : State → ℕ → ℕ → ℕ → ℕ → Option Entry
-standing s origin queue target number = in_posts (slice_get s.posts origin)
+abbrev pub entry_after : State → ℕ → ℕ → ℕ → ℕ → Option Entry
+entry_after s origin queue target number = in_posts (slice_get s.posts origin)
   where
     in_posts : Option Posts → Option Entry
     in_posts None = None
     in_posts (Some posts) = entry_in posts queue target number
 
 -- the shards of an event of a rank, by what it reaches: its owner's posts come first
-abbrev pub reach_shards : ℕ → Reach → List Shard
-reach_shards me Alone = shards.Posts me ∷ []
-reach_shards me OwnMemory = shards.Posts me ∷ shards.Memory me ∷ []
-reach_shards me (PeerMemory rank) = shards.Posts me ∷ shards.Memory rank ∷ []
-reach_shards me (BothMemories rank) = shards.Posts me ∷ shards.Memory me ∷ shards.Memory rank ∷ []
-reach_shards me (PeerPosts rank) = shards.Posts me ∷ shards.Posts rank ∷ []
-reach_shards me (Group id) = shards.Posts me ∷ shards.Group id ∷ []
-reach_shards me (GroupAndMemory id) = shards.Posts me ∷ shards.Memory me ∷ shards.Group id ∷ []
+abbrev pub footprint_shards : ℕ → Footprint → List Shard
+footprint_shards me Alone = shards.Posts me ∷ []
+footprint_shards me OwnMemory = shards.Posts me ∷ shards.Memory me ∷ []
+footprint_shards me (PeerMemory rank) = shards.Posts me ∷ shards.Memory rank ∷ []
+footprint_shards me (BothMemories rank) = shards.Posts me ∷ shards.Memory me ∷ shards.Memory rank ∷ []
+footprint_shards me (PeerPosts rank) = shards.Posts me ∷ shards.Posts rank ∷ []
+footprint_shards me (Group id) = shards.Posts me ∷ shards.Group id ∷ []
+footprint_shards me (GroupAndMemory id) = shards.Posts me ∷ shards.Memory me ∷ shards.Group id ∷ []
 
 -- The footprint of an event: its shards, told by its owner's posts and the event without its reply.
-abbrev pub footprint : State → Event → List Shard
-footprint s e = by_posts (slice_get s.posts (owner_of e))
+abbrev pub event_shards : State → Event → List Shard
+event_shards s e = by_posts (slice_get s.posts (owner_of e))
   where
     by_posts : Option Posts → List Shard
     by_posts None = shards.Posts (owner_of e) ∷ []
-    by_posts (Some posts) = reach_shards (owner_of e) (event_reach s.limits posts e)
+    by_posts (Some posts) = footprint_shards (owner_of e) (event_footprint s.limits posts e)
 
 abbrev pub is_create : Coll → Bool
 is_create (colls.Create seg size) = true
@@ -88,22 +88,22 @@ abbrev pub is_shard : List Shard → Shard → Bool
 is_shard list shard = list_any (λ x. same_shard x shard) list
 
 -- a shard is the same in two states
-abbrev pub HaveSamePart : State → State → Shard → Type 0
-HaveSamePart s s' (shards.Posts rank) = slice_get s.posts rank ≡ slice_get s'.posts rank
-HaveSamePart s s' (shards.Memory rank) = slice_get s.memories rank ≡ slice_get s'.memories rank
-HaveSamePart s s' (shards.Group group) = slice_get s.groups group ≡ slice_get s'.groups group
+abbrev pub AgreeOnShard : State → State → Shard → Type 0
+AgreeOnShard s s' (shards.Posts rank) = slice_get s.posts rank ≡ slice_get s'.posts rank
+AgreeOnShard s s' (shards.Memory rank) = slice_get s.memories rank ≡ slice_get s'.memories rank
+AgreeOnShard s s' (shards.Group group) = slice_get s.groups group ≡ slice_get s'.groups group
 
 -- the limits, and those shards for which a test holds, are the same in two states
 pub record AgreeOn (is_in : Shard → Bool) (s s' : State) : Type 0 where
   pub limits : s.limits ≡ s'.limits
-  pub parts : (shard : Shard) → is_in shard ≡ true → HaveSamePart s s' shard
+  pub parts : (shard : Shard) → is_in shard ≡ true → AgreeOnShard s s' shard
 
 -- Steps from two states come to the same: to the same cause, or to states that agree on each shard on which the two agreed.
-abbrev pub ComeToSame : State → State → Result State Why → Result State Why → Type 0
-ComeToSame s s' (Ok t) (Ok t') = (t.limits ≡ t'.limits) × ((shard : Shard) → HaveSamePart s s' shard → HaveSamePart t t' shard)
-ComeToSame s s' (Err why) (Err why') = why ≡ why'
-ComeToSame s s' (Ok t) (Err why) = ⊥
-ComeToSame s s' (Err why) (Ok t) = ⊥
+abbrev pub HaveSameResult : State → State → Result State Why → Result State Why → Type 0
+HaveSameResult s s' (Ok t) (Ok t') = (t.limits ≡ t'.limits) × ((shard : Shard) → AgreeOnShard s s' shard → AgreeOnShard t t' shard)
+HaveSameResult s s' (Err why) (Err why') = why ≡ why'
+HaveSameResult s s' (Ok t) (Err why) = ⊥
+HaveSameResult s s' (Err why) (Ok t) = ⊥
 
 -- numbers without those that stand again behind
 abbrev pub without_repeats : List ℕ → List ℕ
@@ -113,4 +113,4 @@ without_repeats (n ∷ list) = if list_any (nat_eq n) list then without_repeats 
 -- Coarser shards: each shard has a number, and those of one number are one. So a rank's posts and memory can be one shard,
 -- or the whole state. The numbers of an event's shards, each once.
 abbrev pub numbers_of : (Shard → ℕ) → State → Event → List ℕ
-numbers_of number s e = without_repeats (map number (footprint s e))
+numbers_of number s e = without_repeats (map number (event_shards s e))

@@ -12,7 +12,7 @@ use Rattle.gaspi_types.specs.declared.inboxes.Message.{Message}
 use Rattle.gaspi_types.specs.World.{are_limits}
 use Rattle.gaspi_types.specs.declared.shapes.Limits.{Limits}
 use Rattle.gaspi_model.specs.State.{owed}
-use Rattle.gaspi_model.specs.Coherence.{IsCoherent}
+use Rattle.gaspi_model.specs.Coherence.{AgreesOnSegments}
 use Rattle.gaspi_model.specs.Contributions.{AreSoundCollectives}
 use Rattle.gaspi_types.specs.declared.entries.Queue.{Queue}
 use Rattle.gaspi_model.specs.declared.states.Posts.{Posts}
@@ -61,9 +61,9 @@ pub record IsSoundQueue (depth : ℕ) (q : Queue) : Type 0 where
 -- to 7, and there is no further one; and who is in a group is a rank of the world.
 pub record AreSoundGroups (ranks : ℕ) (groups : Handles) : Type 0 where
   pub table : length groups.table ≡ 8
-  pub made : groups.made ≤ 7
+  pub made : groups.last_id ≤ 7
   pub all : handle_at groups 0 ≡ Some (handle_of_all ranks)
-  pub unmade : (id : ℕ) → groups.made < id → handle_at groups id ≡ None
+  pub unmade : (id : ℕ) → groups.last_id < id → handle_at groups id ≡ None
   pub members : (id : ℕ) (h : Handle) → handle_at groups id ≡ Some h → (rank : ℕ) → is_member h.members rank ≡ true → rank < ranks
 
 -- An inbox: it has at most INBOX messages, each from a rank of the world and of a message's size.
@@ -102,7 +102,7 @@ pub record IsSound (s : State) : Type 0 where
   pub memories : length s.memories ≡ s.limits.ranks
   pub posts : (rank : ℕ) (posts : Posts) → slice_get s.posts rank ≡ Some posts → IsSoundPosts s.limits posts
   pub inboxes : (rank : ℕ) (memory : Memory) → slice_get s.memories rank ≡ Some memory → IsSoundInbox s.limits memory.inbox
-  pub coherent : IsCoherent s
+  pub coherent : AgreesOnSegments s
   pub collectives : AreSoundCollectives s
 
 -- the events that may still be recorded, in all ranks

@@ -2,12 +2,12 @@
 use Rattle.std.specs.Prelude.{ℕ, ◌+◌, ◌==◌, Bool, true, false, List, [], replicate, map, find, sum_by, count_by, Option, None, Some, if◌then◌else◌, slice_get}
 use Rattle.std.specs.List.{list_any, range_with_len}
 use Rattle.std.specs.Option.{option_map}
-use Rattle.gaspi_types.specs.World.{World, is_segment, is_caller}
+use Rattle.gaspi_types.specs.World.{ShapeValue, is_segment, is_caller}
 use Rattle.gaspi_types.specs.Queues.{queue_owed}
 use Rattle.gaspi_types.specs.Segments.{segment_in, new_segment}
 use Rattle.gaspi_types.specs.Groups.{opening_handles}
 use Rattle.gaspi_types.specs.Masks.{all_below}
-use Rattle.gaspi_types.specs.declared.groups.Part.{Part}
+use Rattle.gaspi_types.specs.declared.groups.RankContributions.{RankContributions}
 use Rattle.gaspi_types.specs.declared.groups.Group.{Group}
 use Rattle.gaspi_types.specs.declared.segments.Extent.{Extent}
 use Rattle.gaspi_types.specs.declared.entries.Queue.{Queue}
@@ -20,11 +20,11 @@ use Rattle.gaspi_model.specs.declared.states.Memory.{Memory}
 use Rattle.gaspi_model.specs.declared.states.State.{State}
 
 -- the size with which a segment of a rank is declared
-abbrev pub declared_size : World → ℕ → ℕ → Option ℕ
+abbrev pub declared_size : ShapeValue → ℕ → ℕ → Option ℕ
 declared_size w rank segment = option_map (λ d. d.size) (find (is_segment rank segment) w.segments)
 
 -- the segments that a rank declares, by their numbers: of generation 0 (segments)
-abbrev pub opening_extents : World → ℕ → List (Option Extent)
+abbrev pub opening_extents : ShapeValue → ℕ → List (Option Extent)
 opening_extents w rank =
     map (λ segment. option_map (λ size. record { generation = 0; size = size }) (declared_size w rank segment)) (range_with_len 0 32)
 
@@ -33,10 +33,10 @@ abbrev pub generations_used : Option ℕ → ℕ
 generations_used None = 0
 generations_used (Some size) = 1
 
-abbrev pub opening_generations : World → ℕ → List ℕ
+abbrev pub opening_generations : ShapeValue → ℕ → List ℕ
 opening_generations w rank = map (λ segment. generations_used (declared_size w rank segment)) (range_with_len 0 32)
 
-abbrev pub opening_thread : World → ℕ → ℕ → ThreadState
+abbrev pub opening_thread : ShapeValue → ℕ → ℕ → ThreadState
 opening_thread w rank thread = if list_any (is_caller rank thread) w.callers then Running else Absent
 
 -- a queue with no entry, one empty lane for each rank
@@ -44,14 +44,14 @@ abbrev pub opening_queue : ℕ → Queue
 opening_queue ranks = record { open_count = 0; broken = None; lanes = replicate ranks [] }
 
 -- what a rank has and knows of segments: every rank knows the declared segments of all
-abbrev pub opening_table : World → ℕ → SegmentTable
+abbrev pub opening_table : ShapeValue → ℕ → SegmentTable
 opening_table w rank = record {
   own = opening_extents w rank;
   next_generations = opening_generations w rank;
   known = map (opening_extents w) (range_with_len 0 w.limits.ranks);
 }
 
-abbrev pub opening_posts : World → ℕ → Posts
+abbrev pub opening_posts : ShapeValue → ℕ → Posts
 opening_posts w rank = record {
   queues = replicate w.limits.queues (opening_queue w.limits.ranks);
   corrupt = replicate w.limits.ranks false;
@@ -68,24 +68,24 @@ abbrev pub new_slots : ℕ → List ℕ
 new_slots notes = replicate notes 0
 
 -- the segments that a rank declares and their slots, by their numbers
-abbrev pub opening_segments : World → ℕ → List (Option Segment)
+abbrev pub opening_segments : ShapeValue → ℕ → List (Option Segment)
 opening_segments w rank = map (λ segment. option_map (new_segment 0) (declared_size w rank segment)) (range_with_len 0 32)
 
-abbrev pub opening_slots : World → ℕ → List (Option (List ℕ))
+abbrev pub opening_slots : ShapeValue → ℕ → List (Option (List ℕ))
 opening_slots w rank = map (λ segment. option_map (λ size. new_slots w.limits.notes) (declared_size w rank segment)) (range_with_len 0 32)
 
-abbrev pub opening_memory : World → ℕ → Memory
+abbrev pub opening_memory : ShapeValue → ℕ → Memory
 opening_memory w rank = record { segments = opening_segments w rank; slots = opening_slots w rank; inbox = [] }
 
 -- a group to which no rank has contributed: of group 0 every rank is a member, and the members of another are not fixed
-abbrev pub opening_part : Part
+abbrev pub opening_part : RankContributions
 opening_part = record { contributions = []; completed = 0 }
 
 abbrev pub opening_group : ℕ → ℕ → Group
-opening_group ranks group = record { members = (if group == 0 then Some (all_below ranks) else None); parts = replicate ranks opening_part }
+opening_group ranks group = record { members = (if group == 0 then Some (all_below ranks) else None); contributions = replicate ranks opening_part }
 
 -- the state at the start: the shape's, all else zero or empty
-abbrev pub opening : World → State
+abbrev pub opening : ShapeValue → State
 opening w = record {
   limits = w.limits;
   posts = map (opening_posts w) (range_with_len 0 w.limits.ranks);

@@ -3,14 +3,14 @@ use Rattle.std.specs.Prelude.{◌&&◌, ◌≡◌, ◌==◌, ℕ, ◌+◌, Bool,
 use Rattle.gaspi_types.specs.Checks.{◌>>=◌, check}
 use Rattle.gaspi_types.specs.CallRows.{row_of, is_end, need_of}
 use Rattle.gaspi_types.specs.Replies.{is_idle, same_reply}
-use Rattle.gaspi_types.specs.Touches.{reach_of, take_touch, put_touch}
+use Rattle.gaspi_types.specs.Footprints.{footprint_of, take_footprint, put_footprint}
 use Rattle.std.specs.Option.{option_map}
-use Rattle.gaspi_types.specs.World.{World, is_caller}
+use Rattle.gaspi_types.specs.World.{ShapeValue, is_caller}
 use Rattle.gaspi_types.specs.declared.entries.Kind.{Kind}
 use Rattle.gaspi_types.specs.declared.entries.Entry.{Entry}
-use Rattle.gaspi_types.specs.declared.touches.Touch.{Touch}
-use Rattle.gaspi_types.specs.declared.touches.Touch.TheVariants as touches
-use Rattle.gaspi_types.specs.declared.touches.Reach.{Reach}
+use Rattle.gaspi_types.specs.declared.footprints.DeclaredFootprint.{DeclaredFootprint}
+use Rattle.gaspi_types.specs.declared.footprints.DeclaredFootprint.TheVariants as touches
+use Rattle.gaspi_types.specs.declared.footprints.Footprint.{Footprint}
 use Rattle.gaspi_types.specs.declared.shapes.CallerId.{CallerId}
 use Rattle.gaspi_types.specs.declared.shapes.Limits.{Limits}
 use Rattle.gaspi_types.specs.declared.calls.Call.{Call}
@@ -23,19 +23,19 @@ use Rattle.gaspi_types.specs.declared.events.Event.{Event}
 use Rattle.gaspi_types.specs.declared.events.Event.TheVariants.{Called, Joined, Take, Put}
 use Rattle.gaspi_model.specs.State.{opening, owed, thread_at, is_running}
 use Rattle.gaspi_model.specs.Calls.{answer, recorded_reply, charge, posts_after, memory_after, peer_after}
-use Rattle.gaspi_model.specs.PassiveCalls.{brought_by}
+use Rattle.gaspi_model.specs.PassiveCalls.{sent_message}
 use Rattle.gaspi_model.specs.CollectiveCalls.{collective_answer, is_reply_of, is_join_of, joining_call, joined_posts, made_memory, contribution_of, completed_posts}
 use Rattle.gaspi_model.specs.Posting.{counted}
 use Rattle.gaspi_types.specs.Collectives.{with_joined, with_completed}
-use Rattle.gaspi_types.specs.Tables.{entry_at}
+use Rattle.gaspi_types.specs.Tables.{item_at}
 use Rattle.gaspi_types.specs.declared.collectives.Coll.{Coll}
 use Rattle.gaspi_types.specs.declared.collectives.Coll.TheVariants.{Barrier, Allreduce, Create, Commit}
 use Rattle.gaspi_types.specs.declared.groups.Args.{Args}
 use Rattle.gaspi_types.specs.declared.groups.Group.{Group}
-use Rattle.gaspi_types.specs.declared.groups.Pending.{Pending}
+use Rattle.gaspi_types.specs.declared.groups.PendingCollective.{PendingCollective}
 use Rattle.gaspi_types.specs.declared.inboxes.Message.{Message}
-use Rattle.gaspi_model.specs.Parts.{Parts, touched_of, parts_of, part_at, lifted, memory_or_none, group_or_none, worked_memory, with_worked_memory}
-use Rattle.gaspi_model.specs.Transfers.{take, put, Worked, Found, find_entry, entry_in, take_outcome, put_outcome}
+use Rattle.gaspi_model.specs.Parts.{Parts, part_numbers, parts_of, part_at, lifted, memory_or_none, group_or_none, accessed_memory, with_accessed_memory}
+use Rattle.gaspi_model.specs.Transfers.{take, put, PostsAndMemory, EntryPosition, find_entry, entry_in, take_outcome, put_outcome}
 use Rattle.gaspi_model.specs.declared.states.ThreadState.{ThreadState}
 use Rattle.gaspi_model.specs.declared.states.ThreadState.TheVariants.{Absent, Running, Ended}
 use Rattle.gaspi_model.specs.declared.states.Posts.{Posts}
@@ -53,7 +53,7 @@ is_there Ended = true
 
 -- A call with its reply, on its caller's posts and the memory that it works on, with the message that it brings: the caller
 -- has a section, the reply is the one that may be recorded, and the rank has room.
-abbrev pub called : Limits → ℕ → Posts → Option Message → Memory → ℕ → Call → Reply → Result Worked Why
+abbrev pub called : Limits → ℕ → Posts → Option Message → Memory → ℕ → Call → Reply → Result PostsAndMemory Why
 called limits me posts brought memory thread call reply = do
   there ← check (is_there (thread_at posts thread)) whys.Caller
   answered ← check (same_reply reply (recorded_reply (answer limits me posts memory thread call))) whys.Reply
@@ -61,13 +61,13 @@ called limits me posts brought memory thread call reply = do
   Ok (record { posts = posts_after limits me posts thread call reply; memory = memory_after limits posts brought memory call reply })
 
 -- what is left of its caller's posts and of its group by a collective
-pub record Met : Type 0 where
+pub record PostsAndGroup : Type 0 where
   pub posts : Posts
   pub group : Group
 
 -- A collective with its reply: its caller has a section, the reply is the one that may be recorded, and the rank has room. A refusal
 -- or a timeout changes nothing but the count of events. (collectives)
-abbrev pub completed : Limits → ℕ → Posts → Group → ℕ → ℕ → Call → Reply → Result Met Why
+abbrev pub completed : Limits → ℕ → Posts → Group → ℕ → ℕ → Call → Reply → Result PostsAndGroup Why
 completed limits me posts group thread id call reply = do
   there ← check (is_there (thread_at posts thread)) whys.Caller
   answered ← check (is_reply_of (collective_answer posts group me thread id call) reply) whys.Reply
@@ -79,7 +79,7 @@ completed limits me posts group thread id call reply = do
 
 -- A join: its caller has a section, its collective may join with these arguments, and the rank has room. It is pending then for its
 -- caller, and the rank has given to its turn.
-abbrev pub joined : Limits → ℕ → Posts → Group → ℕ → ℕ → Args → Result Met Why
+abbrev pub joined : Limits → ℕ → Posts → Group → ℕ → ℕ → Args → Result PostsAndGroup Why
 joined limits me posts group thread id args = do
   there ← check (is_there (thread_at posts thread)) whys.Caller
   joins ← check (is_join_of (collective_answer posts group me thread id (joining_call id args)) args) whys.Join
@@ -95,39 +95,39 @@ owner_of (Put origin queue target number outcome) = origin
 
 -- what an event touches beside its owner's posts: a call what its row says, a join its group and, where it makes a segment, the own
 -- memory, a transfer what its entry's kind says
-abbrev pub join_touch : ℕ → Coll → Touch
-join_touch id Barrier = touches.GroupOf id
-join_touch id (Allreduce op num_type count) = touches.GroupOf id
-join_touch id (Create seg size) = touches.GroupAndMemory id
-join_touch id (Commit mask) = touches.GroupOf id
+abbrev pub join_footprint : ℕ → Coll → DeclaredFootprint
+join_footprint id Barrier = touches.GroupOf id
+join_footprint id (Allreduce op num_type count) = touches.GroupOf id
+join_footprint id (Create seg size) = touches.GroupAndMemory id
+join_footprint id (Commit mask) = touches.GroupOf id
 
-abbrev pub entry_touch : (Kind → Touch) → Option Entry → Touch
-entry_touch touch None = touches.Nothing
-entry_touch touch (Some e) = touch e.kind
+abbrev pub declared_entry_footprint : (Kind → DeclaredFootprint) → Option Entry → DeclaredFootprint
+declared_entry_footprint touch None = touches.Nothing
+declared_entry_footprint touch (Some e) = touch e.kind
 
-abbrev pub event_touch : Posts → Event → Touch
-event_touch posts (Called c call reply) = (row_of call).touch
-event_touch posts (Joined c id args) = join_touch id args.coll
-event_touch posts (Take origin queue target number outcome) = entry_touch (take_touch target) (entry_in posts queue target number)
-event_touch posts (Put origin queue target number outcome) = entry_touch (put_touch target) (entry_in posts queue target number)
+abbrev pub declared_footprint : Posts → Event → DeclaredFootprint
+declared_footprint posts (Called c call reply) = (row_of call).footprint
+declared_footprint posts (Joined c id args) = join_footprint id args.coll
+declared_footprint posts (Take origin queue target number outcome) = declared_entry_footprint (take_footprint target) (entry_in posts queue target number)
+declared_footprint posts (Put origin queue target number outcome) = declared_entry_footprint (put_footprint target) (entry_in posts queue target number)
 
-abbrev pub event_reach : Limits → Posts → Event → Reach
-event_reach limits posts e = reach_of limits.ranks (owner_of e) (event_touch posts e)
+abbrev pub event_footprint : Limits → Posts → Event → Footprint
+event_footprint limits posts e = footprint_of limits.ranks (owner_of e) (declared_footprint posts e)
 
 -- why an event is no step whose owner is no rank
-abbrev pub missing : Event → Why
-missing (Called c call reply) = whys.Caller
-missing (Joined c id args) = whys.Caller
-missing (Take origin queue target number outcome) = whys.Take
-missing (Put origin queue target number outcome) = whys.Put
+abbrev pub cause_without_owner : Event → Why
+cause_without_owner (Called c call reply) = whys.Caller
+cause_without_owner (Joined c id args) = whys.Caller
+cause_without_owner (Take origin queue target number outcome) = whys.Take
+cause_without_owner (Put origin queue target number outcome) = whys.Put
 
 -- The local step: an event of that reach on the parts that it touches.
 
 -- a call that is no collective
-abbrev pub called_on : Limits → Reach → CallerId → Call → Reply → Parts → Result Parts Why
+abbrev pub called_on : Limits → Footprint → CallerId → Call → Reply → Parts → Result Parts Why
 called_on limits reach c call reply parts = do
-  after ← called limits c.rank parts.posts (brought_by c.rank (memory_or_none parts.memory) call) (worked_memory reach parts) c.thread call reply
-  Ok (record (with_worked_memory reach parts after.memory) {
+  after ← called limits c.rank parts.posts (sent_message c.rank (memory_or_none parts.memory) call) (accessed_memory reach parts) c.thread call reply
+  Ok (record (with_accessed_memory reach parts after.memory) {
     posts = after.posts;
     peer_posts = option_map (peer_after c.rank parts.posts call reply) parts.peer_posts;
   })
@@ -138,31 +138,31 @@ completed_on limits c id call reply parts = do
   after ← completed limits c.rank parts.posts (group_or_none parts.group) c.thread id call reply
   Ok (record parts { posts = after.posts; group = Some after.group })
 
-abbrev pub answered_on : Limits → Reach → CallerId → Call → Reply → Parts → Option ℕ → Result Parts Why
+abbrev pub answered_on : Limits → Footprint → CallerId → Call → Reply → Parts → Option ℕ → Result Parts Why
 answered_on limits reach c call reply parts None = called_on limits reach c call reply parts
 answered_on limits reach c call reply parts (Some id) = completed_on limits c id call reply parts
 
-abbrev pub on_parts : Limits → Reach → Event → Parts → Result Parts Why
+abbrev pub on_parts : Limits → Footprint → Event → Parts → Result Parts Why
 on_parts limits reach (Called c call reply) parts = answered_on limits reach c call reply parts (row_of call).group
 on_parts limits reach (Joined c id args) parts = do
   after ← joined limits c.rank parts.posts (group_or_none parts.group) c.thread id args
-  Ok (record (with_worked_memory reach parts (made_memory limits parts.posts (worked_memory reach parts) args.coll)) {
+  Ok (record (with_accessed_memory reach parts (made_memory limits parts.posts (accessed_memory reach parts) args.coll)) {
     posts = after.posts;
     group = Some after.group;
   })
 on_parts limits reach (Take origin queue target number outcome) parts = do
-  after ← take limits parts.posts (worked_memory reach parts) queue target number outcome
+  after ← take limits parts.posts (accessed_memory reach parts) queue target number outcome
   Ok (record parts { posts = after })
 on_parts limits reach (Put origin queue target number outcome) parts = do
-  after ← put parts.posts (worked_memory reach parts) queue target number outcome
-  Ok (record (with_worked_memory reach parts after.memory) { posts = after.posts })
+  after ← put parts.posts (accessed_memory reach parts) queue target number outcome
+  Ok (record (with_accessed_memory reach parts after.memory) { posts = after.posts })
 
 abbrev pub local_step : Limits → Event → Parts → Result Parts Why
-local_step limits e parts = on_parts limits (event_reach limits parts.posts e) e parts
+local_step limits e parts = on_parts limits (event_footprint limits parts.posts e) e parts
 
 -- The step: the state after the event, or why it is none.
 abbrev pub step : State → Event → Result State Why
-step s e = lifted s (owner_of e) (missing e) (λ posts. touched_of (owner_of e) (event_reach s.limits posts e)) (local_step s.limits e)
+step s e = lifted s (owner_of e) (cause_without_owner e) (λ posts. part_numbers (owner_of e) (event_footprint s.limits posts e)) (local_step s.limits e)
 
 -- the state after events, one after another
 abbrev pub after : State → List Event → Result State Why
@@ -172,18 +172,18 @@ after s (e ∷ events) = do
   after next events
 
 -- a history is legal where its events, one after another, are steps from the opening state
-abbrev pub reached : World → List Event → Result State Why
+abbrev pub reached : ShapeValue → List Event → Result State Why
 reached w history = after (opening w) history
 
-abbrev pub is_legal : World → List Event → Bool
+abbrev pub is_legal : ShapeValue → List Event → Bool
 is_legal w history = is_ok (reached w history)
 
 -- the calls of a caller in a history, with their replies, in order
-abbrev pub own_calls : ℕ → ℕ → List Event → List (Call × Reply)
-own_calls rank thread [] = []
-own_calls rank thread (Called c call reply ∷ events) =
-    if is_caller rank thread c then (call, reply) ∷ own_calls rank thread events else own_calls rank thread events
-own_calls rank thread (transfer ∷ events) = own_calls rank thread events
+abbrev pub recorded_calls : ℕ → ℕ → List Event → List (Call × Reply)
+recorded_calls rank thread [] = []
+recorded_calls rank thread (Called c call reply ∷ events) =
+    if is_caller rank thread c then (call, reply) ∷ recorded_calls rank thread events else recorded_calls rank thread events
+recorded_calls rank thread (transfer ∷ events) = recorded_calls rank thread events
 
 -- What a function that steps has done: at Ok the step's state stands; an illegal event is none, for that cause, and
 -- changed nothing; without memory nothing changed.
@@ -194,14 +194,14 @@ Steps (Err faults.NoMemory) old new outcome = new ≡ old
 
 -- the memory that a call of a rank works on in a state
 abbrev pub call_memory : State → ℕ → Posts → Call → Memory
-call_memory s rank posts call = memory_at (reach_of s.limits.ranks rank (row_of call).touch)
+call_memory s rank posts call = memory_at (footprint_of s.limits.ranks rank (row_of call).footprint)
   where
-    memory_at : Reach → Memory
-    memory_at reach = worked_memory reach (parts_of s posts (touched_of rank reach))
+    memory_at : Footprint → Memory
+    memory_at reach = accessed_memory reach (parts_of s posts (part_numbers rank reach))
 
 -- the message that a call of a rank brings in a state: a send takes it from the own memory
-abbrev pub call_brought : State → ℕ → Call → Option Message
-call_brought s rank call = brought_by rank (memory_or_none (part_at s.memories (touched_of rank (reach_of s.limits.ranks rank (row_of call).touch)).memory)) call
+abbrev pub call_message : State → ℕ → Call → Option Message
+call_message s rank call = sent_message rank (memory_or_none (part_at s.memories (part_numbers rank (footprint_of s.limits.ranks rank (row_of call).footprint)).memory)) call
 
 -- the group with a number in a state; where there is none, one without members
 abbrev pub group_in : State → ℕ → Group
@@ -220,13 +220,13 @@ answer_in s rank thread call = answer_with (slice_get s.posts rank)
     answer_with (Some posts) = Some (answer_for s rank thread call posts (row_of call).group)
 
 -- whether a collective is pending for a caller on the group that a call names
-abbrev pub is_pending_of : ℕ → Option Pending → Bool
+abbrev pub is_pending_of : ℕ → Option PendingCollective → Bool
 is_pending_of thread None = false
 is_pending_of thread (Some p) = p.thread == thread
 
 abbrev pub is_pending_on : ℕ → Posts → Option ℕ → Bool
 is_pending_on thread posts None = false
-is_pending_on thread posts (Some id) = is_pending_of thread (entry_at posts.pending id)
+is_pending_on thread posts (Some id) = is_pending_of thread (item_at posts.pending id)
 
 abbrev pub is_pending : State → ℕ → ℕ → Call → Bool
 is_pending s rank thread call = in_posts (slice_get s.posts rank)
@@ -252,23 +252,23 @@ is_active s rank thread = in_posts (slice_get s.posts rank)
     in_posts (Some posts) = is_running (thread_at posts thread)
 
 -- own choice: the room that a rank has taken, which never comes over EVENTS
-abbrev pub room_taken : State → ℕ → ℕ
-room_taken s rank = in_posts (slice_get s.posts rank)
+abbrev pub used_room : State → ℕ → ℕ
+used_room s rank = in_posts (slice_get s.posts rank)
   where
     in_posts : Option Posts → ℕ
     in_posts None = 0
     in_posts (Some posts) = posts.events + owed posts
 
 -- own choice: whether the rank of a caller has no room for the events that its call needs
-abbrev pub is_full_in : State → CallerId → Call → Bool
-is_full_in s c call = nat_lt s.limits.events (room_taken s c.rank + need_of call (is_pending s c.rank c.thread call) (not (is_active s c.rank c.thread)))
+abbrev pub lacks_room_in : State → CallerId → Call → Bool
+lacks_room_in s c call = nat_lt s.limits.events (used_room s c.rank + need_of call (is_pending s c.rank c.thread call) (not (is_active s c.rank c.thread)))
 
 -- the machine's outcome of a transfer that may come next, which is told by the memory of its target; where that is no
 -- rank, by one with no segment
 abbrev pub transfer_outcome : State → Transfer → (Memory → Kind → Outcome) → Outcome
 transfer_outcome s t outcome = in_state (slice_get s.posts t.origin) (slice_get s.memories t.target)
   where
-    of_entry : Result Found Why → Memory → Outcome
+    of_entry : Result EntryPosition Why → Memory → Outcome
     of_entry (Err why) memory = Failed
     of_entry (Ok at) memory = outcome memory at.entry.kind
 

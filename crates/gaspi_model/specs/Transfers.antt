@@ -1,10 +1,10 @@
 -- Takes and puts: what a transfer may do, and what it leaves. (GASPI: one-sided communication, notification order)
 use Rattle.std.specs.Prelude.{nat_lt, ◌==◌, ◌||◌, ◌&&◌, ℕ, Bool, true, false, List, [], ◌∷◌, remove, Option, None, Some, Result, Ok, Err, if◌then◌else◌, slice_get, slice_set, is_none}
 use Rattle.std.specs.List.{flat_map, enumerate_from}
-use Rattle.gaspi_types.specs.Checks.{◌>>=◌, check, found}
+use Rattle.gaspi_types.specs.Checks.{◌>>=◌, check, ok_or}
 use Rattle.gaspi_types.specs.SegmentBytes.{range_of, with_range}
 use Rattle.gaspi_types.specs.Kinds.{source_of, destination_of}
-use Rattle.gaspi_types.specs.Lanes.{place_of, may_take, may_put}
+use Rattle.gaspi_types.specs.Lanes.{position_of, may_take, may_put}
 use Rattle.gaspi_types.specs.declared.entries.ByteRange.{ByteRange}
 use Rattle.gaspi_types.specs.declared.entries.Destination.{Destination}
 use Rattle.gaspi_types.specs.declared.entries.Destination.TheVariants.{Range, Slot}
@@ -35,25 +35,25 @@ same_outcome Applied Failed = false
 same_outcome Failed Applied = false
 
 -- where an entry stands: its queue, its lane, its place there and itself
-pub record Found : Type 0 where
+pub record EntryPosition : Type 0 where
   pub queue : Queue
   pub lane : List Entry
-  pub place : ℕ
+  pub position : ℕ
   pub entry : Entry
 
-abbrev pub find_entry : Posts → ℕ → ℕ → ℕ → Why → Result Found Why
+abbrev pub find_entry : Posts → ℕ → ℕ → ℕ → Why → Result EntryPosition Why
 find_entry posts queue target number why = do
-  q ← found (slice_get posts.queues queue) why
-  lane ← found (slice_get q.lanes target) why
-  place ← found (place_of lane number) why
-  entry ← found (slice_get lane place) why
-  Ok (record { queue = q; lane = lane; place = place; entry = entry })
+  q ← ok_or (slice_get posts.queues queue) why
+  lane ← ok_or (slice_get q.lanes target) why
+  place ← ok_or (position_of lane number) why
+  entry ← ok_or (slice_get lane place) why
+  Ok (record { queue = q; lane = lane; position = place; entry = entry })
 
 -- the entry with a number in a lane
 abbrev pub entry_in : Posts → ℕ → ℕ → ℕ → Option Entry
 entry_in posts queue target number = of_found (find_entry posts queue target number whys.Put)
   where
-    of_found : Result Found Why → Option Entry
+    of_found : Result EntryPosition Why → Option Entry
     of_found (Ok at) = Some at.entry
     of_found (Err why) = None
 
@@ -101,17 +101,17 @@ abbrev pub bytes_from : Memory → Option ByteRange → List ℕ
 bytes_from memory None = []
 bytes_from memory (Some range) = range_of (bytes_of memory range.segment) range.offset range.size
 
-abbrev pub taken_bytes : Memory → Kind → List ℕ
-taken_bytes memory kind = bytes_from memory (source_of kind)
+abbrev pub source_bytes : Memory → Kind → List ℕ
+source_bytes memory kind = bytes_from memory (source_of kind)
 
 -- The bytes of an entry that may be taken: it is posted, its queue is not broken, and fewer than DEPTH entries of its lane
 -- have taken their bytes. The outcome is the machine's.
-abbrev pub bytes_taken : Limits → Memory → Found → Outcome → Result (List ℕ) Why
-bytes_taken limits memory at outcome = do
+abbrev pub take_result : Limits → Memory → EntryPosition → Outcome → Result (List ℕ) Why
+take_result limits memory at outcome = do
   whole ← check (is_none at.queue.broken) whys.Take
   permitted ← check (may_take limits.depth at.lane at.entry) whys.Take
   fits ← check (same_outcome outcome (take_outcome memory at.entry.kind)) whys.Take
-  Ok (taken_bytes memory at.entry.kind)
+  Ok (source_bytes memory at.entry.kind)
 
 -- the posts of an origin after a take: the entry stays in its place, with its bytes, or as failed
 abbrev pub posts_after_take : Posts → ℕ → ℕ → ℕ → List ℕ → Outcome → Posts
@@ -122,8 +122,8 @@ posts_after_take posts queue target place bytes Failed = counted (posts_failed p
 abbrev pub take : Limits → Posts → Memory → ℕ → ℕ → ℕ → Outcome → Result Posts Why
 take limits posts memory queue target number outcome = do
   at ← find_entry posts queue target number whys.Take
-  bytes ← bytes_taken limits memory at outcome
-  Ok (posts_after_take posts queue target at.place bytes outcome)
+  bytes ← take_result limits memory at outcome
+  Ok (posts_after_take posts queue target at.position bytes outcome)
 
 abbrev pub carried_bytes : Phase → List ℕ
 carried_bytes phases.Posted = []
@@ -139,14 +139,14 @@ abbrev pub memory_put : Memory → Entry → Memory
 memory_put memory entry = memory_with_put memory (destination_of entry.kind) (carried_bytes entry.phase)
 
 -- a put that failed changes nothing there
-abbrev pub memory_with : Memory → Found → Outcome → Memory
+abbrev pub memory_with : Memory → EntryPosition → Outcome → Memory
 memory_with memory at Applied = memory_put memory at.entry
 memory_with memory at Failed = memory
 
 -- The memory that a put works on, after it. An entry may be put that has taken its bytes, whose queue is not broken, and,
 -- for a notification, before which no write, or no read, with a smaller number stands in its lane. It stores the bytes or
 -- sets the slot.
-abbrev pub memory_after_put : Memory → Found → Outcome → Result Memory Why
+abbrev pub memory_after_put : Memory → EntryPosition → Outcome → Result Memory Why
 memory_after_put memory at outcome = do
   whole ← check (is_none at.queue.broken) whys.Put
   permitted ← check (may_put at.lane at.entry) whys.Put
@@ -166,16 +166,16 @@ posts_after_put posts queue target place Applied = counted (posts_without posts 
 posts_after_put posts queue target place Failed = counted (posts_failed posts queue target place)
 
 -- the posts of an event's owner, and the memory that it works on
-pub record Worked : Type 0 where
+pub record PostsAndMemory : Type 0 where
   pub posts : Posts
   pub memory : Memory
 
 -- A put: the posts of its origin and the memory that it works on, after it.
-abbrev pub put : Posts → Memory → ℕ → ℕ → ℕ → Outcome → Result Worked Why
+abbrev pub put : Posts → Memory → ℕ → ℕ → ℕ → Outcome → Result PostsAndMemory Why
 put posts memory queue target number outcome = do
   at ← find_entry posts queue target number whys.Put
   after ← memory_after_put memory at outcome
-  Ok (record { posts = posts_after_put posts queue target at.place outcome; memory = after })
+  Ok (record { posts = posts_after_put posts queue target at.position outcome; memory = after })
 
 -- The transfers that may come next, by queue, target and number.
 

@@ -9,7 +9,7 @@ ghost use Rattle.gaspi_types.specs.declared.collectives.Stage.TheVariants.{Commi
 ghost use Rattle.gaspi_types.specs.declared.groups.Handle.{Handle};
 ghost use Rattle.gaspi_types.specs.Replies.{is_idle, same_reply};
 ghost use Rattle.std.specs.List.{list_any, count_by};
-ghost use Rattle.gaspi_types.specs.World.{World, IsWorld, is_caller};
+ghost use Rattle.gaspi_types.specs.World.{ShapeValue, IsShape, is_caller};
 ghost use Rattle.gaspi_types.specs.declared.calls.Call.{Call};
 ghost use Rattle.gaspi_types.specs.declared.calls.Call.TheVariants.{Alloc, Register, Delete, Store, Load, Write, Read, Notify, WriteNotify, ReadNotify, WriteList, WriteListNotify, ReadList, ReadListNotify, Wait, Purge, Qsize, Waitsome, Reset, PassiveSend, PassiveReceive, FetchAdd, CompareSwap, GroupCreate, GroupAdd, GroupDelete, End};
 ghost use Rattle.gaspi_types.specs.declared.calls.Call.TheVariants as calls;
@@ -50,11 +50,11 @@ ghost use Rattle.gaspi_types.specs.declared.calls.collectives.Commit as commit;
 ghost use Rattle.gaspi_types.specs.declared.calls.collectives.Create as create;
 ghost use Rattle.gaspi_types.specs.declared.groups.Contribution.{Contribution};
 ghost use Rattle.gaspi_types.specs.declared.groups.Group.{Group};
-ghost use Rattle.gaspi_types.specs.Collectives.{no_values, given_in, part_of, turn_of, turn_made};
+ghost use Rattle.gaspi_types.specs.Collectives.{no_values, contribution_in, contributions_of, round_of, round_segments};
 ghost use Rattle.gaspi_types.specs.NumberTypes.{TypedNumbers};
-ghost use Rattle.gaspi_types.specs.Tables.{entry_at};
-ghost use Rattle.gaspi_model.specs.Contributions.{IsOneOf, waits};
-ghost use Rattle.gaspi_model.specs.Turns.{AreMadeKnown, Grows, HaveAllGiven, IsCommitDone, IsCompletionDone, IsCreateJoined, IsFolded, IsJoinDone, MayMeet, IsPendingAs, IsReplyFor, IsWaiting, completions_on, joins_on};
+ghost use Rattle.gaspi_types.specs.Tables.{item_at};
+ghost use Rattle.gaspi_model.specs.Contributions.{IsOneOf, pending_count};
+ghost use Rattle.gaspi_model.specs.Rounds.{AreMadeKnown, Grows, HaveAllContributed, IsCommitDone, IsCompletionDone, IsCreateJoined, IsReduction, IsJoinDone, MayJoinRound, IsPendingAs, IsReplyFor, IsPendingUnready, completions_on, joins_on};
 ghost use Rattle.gaspi_types.specs.declared.events.Outcome.TheVariants.{Applied, Failed};
 ghost use Rattle.gaspi_types.specs.declared.events.Outcome.{Outcome};
 ghost use Rattle.gaspi_types.specs.declared.events.Transfer.{Transfer};
@@ -63,17 +63,17 @@ ghost use Rattle.gaspi_types.specs.declared.replies.Reply.{Reply};
 ghost use Rattle.gaspi_types.specs.declared.replies.Reply.TheVariants as replies;
 ghost use Rattle.gaspi_types.specs.declared.shapes.CallerId.{CallerId};
 ghost use Rattle.gaspi_model.specs.Calls.{recorded_reply};
-ghost use Rattle.gaspi_model.specs.Changes.{IsOnlyCounted, IsAnswered, IsRead, AreSlotsRead, IsReset, IsWaited, IsPurged, IsSizeAnswered, IsStateAnswered, IsMade, IsGone, IsPutDone, IsFailed, IsTaken, IsRegistered, IsWritten, IsPosted, IsSent, IsReceived, IsGroupMade, IsGroupAdded, IsGroupDropped, IsEnded, is_corrupt, may_take_fail, may_put_fail};
+ghost use Rattle.gaspi_model.specs.Changes.{IsOnlyCounted, IsAnswered, IsRead, AreSlotsRead, IsReset, IsWaitDone, IsPurgeDone, IsSizeAnswered, IsStateAnswered, IsAllocDone, IsDeleteDone, IsPutDone, IsFailureDone, IsTakeDone, IsRegisterDone, IsWritten, IsPostDone, IsSendDone, IsReceiveDone, IsGroupMade, IsGroupAdded, IsGroupDeleted, IsEnded, is_corrupt, may_take_fail, may_put_fail};
 ghost use Rattle.gaspi_types.specs.Lanes.{is_write, is_read};
 ghost use Rattle.gaspi_model.specs.Messages.{IsEarliest, inbox_of, sent_in, received_in};
-ghost use Rattle.gaspi_model.specs.Order.{AreStanding, IsNotificationStanding, IsReadNoteStanding, IsReadStanding, IsWriteStanding, is_purge_of};
+ghost use Rattle.gaspi_model.specs.Order.{AreInLane, IsNotificationInLane, IsReadNoteInLane, IsReadInLane, IsWriteInLane, is_purge_of};
 ghost use Rattle.gaspi_model.specs.RankGroups.{handle_of, is_drop_of};
-ghost use Rattle.gaspi_model.specs.Shards.{AgreeOn, ComeToSame, HaveSamePart, is_wide, is_create, group_shards, create_shards, send_shards, is_group_call, is_shard, same_shard, footprint, numbers_of};
+ghost use Rattle.gaspi_model.specs.Shards.{AgreeOn, HaveSameResult, AgreeOnShard, is_wide, is_create, group_shards, create_shards, send_shards, is_group_call, is_shard, same_shard, event_shards, numbers_of};
 ghost use Rattle.gaspi_model.specs.declared.states.Shard.{Shard};
 ghost use Rattle.gaspi_model.specs.declared.states.Shard.TheVariants as shards;
 ghost use Rattle.gaspi_model.specs.Settled.{AreLanesEmpty, IsSettled};
 ghost use Rattle.gaspi_model.specs.State.{opening};
-ghost use Rattle.gaspi_model.specs.Step.{step, owner_of, after, reached, own_calls, is_legal, ends_caller, answer_in, is_active, is_pending, room_taken, transfer_event};
+ghost use Rattle.gaspi_model.specs.Step.{step, owner_of, after, reached, recorded_calls, is_legal, ends_caller, answer_in, is_active, is_pending, used_room, transfer_event};
 ghost use Rattle.gaspi_model.specs.CollectiveCalls.{element_checks, is_joining, joining_call, with_made_known};
 ghost use Rattle.gaspi_types.specs.declared.collectives.Coll.TheVariants.{Create};
 ghost use Rattle.gaspi_types.specs.declared.collectives.Coll.TheVariants as colls;
@@ -99,9 +99,9 @@ ghost use Rattle.gaspi_model.specs.declared.states.State.{State};
 /// given last, and else to as many; what is pending may be looked at again: its rank has the group, as the collective wants it; what
 /// is given to one turn agrees in all but values and generation, and its givers are members.
 pub fn soundness()
-    ensures opens { (w : World) → IsWorld w → IsSound (opening w) }
+    ensures opens { (w : ShapeValue) → IsShape w → IsSound (opening w) }
     ensures steps { (s t : State) (e : Event) → IsSound s → step s e ≡ Ok t → IsSound t }
-    ensures histories { (w : World) (history : List Event) (s : State) → IsWorld w → reached w history ≡ Ok s → IsSound s }
+    ensures histories { (w : ShapeValue) (history : List Event) (s : State) → IsShape w → reached w history ≡ Ok s → IsSound s }
     ensures limits { (s t : State) (e : Event) → step s e ≡ Ok t → t.limits ≡ s.limits }
     // A memory has a place for each number of a segment.
     ensures segments { (s : State) (rank : ℕ) (memory : Memory) → IsSound s → slice_get s.memories rank ≡ Some memory → length memory.segments ≡ 32 }
@@ -122,15 +122,15 @@ pub fn enabled()
     ensures transfer { (s : State) (t : Transfer) (k : ℕ) → IsSound s → slice_get (transfers s.limits s.posts) k ≡ Some t
         → IsOk (step s (transfer_event s t)) }
     ensures call { (s : State) (rank thread : ℕ) (call : Call) (ready : Ready) → IsSound s → is_active s rank thread ≡ true
-        → room_taken s rank + need_of call (is_pending s rank thread call) false ≤ s.limits.events → answer_in s rank thread call ≡ Some ready → is_joining ready ≡ false
+        → used_room s rank + need_of call (is_pending s rank thread call) false ≤ s.limits.events → answer_in s rank thread call ≡ Some ready → is_joining ready ≡ false
         → IsOk (step s (Called (record { rank = rank; thread = thread }) call (recorded_reply ready))) }
     ensures join { (s : State) (rank thread id : ℕ) (call : Call) (args : Args) → IsSound s → is_active s rank thread ≡ true
-        → room_taken s rank + need_of call (is_pending s rank thread call) false ≤ s.limits.events → (row_of call).group ≡ Some id
+        → used_room s rank + need_of call (is_pending s rank thread call) false ≤ s.limits.events → (row_of call).group ≡ Some id
         → answer_in s rank thread call ≡ Some (Join args) → IsOk (step s (Joined (record { rank = rank; thread = thread }) id args)) }
     ensures itself { (s : State) (rank thread id : ℕ) (call : Call) (args : Args) → (row_of call).group ≡ Some id
         → answer_in s rank thread call ≡ Some (Join args) → joining_call id args ≡ call }
     ensures joined { (s t : State) (c : CallerId) (call : Call) (id : ℕ) (args : Args) → IsSound s → (row_of call).group ≡ Some id → step s (Joined c id args) ≡ Ok t
-        → (is_pending t c.rank c.thread call ≡ true) × (room_taken t c.rank ≡ room_taken s c.rank + 1) }
+        → (is_pending t c.rank c.thread call ≡ true) × (used_room t c.rank ≡ used_room s c.rank + 1) }
     ensures pending { (s : State) (rank thread : ℕ) (call : Call) (ready : Ready) → is_pending s rank thread call ≡ true → answer_in s rank thread call ≡ Some ready
         → is_joining ready ≡ false }
     ensures needs { (call : Call) (id : ℕ) → (row_of call).group ≡ Some id → (need_of call false false ≡ 2) × (need_of call true false ≡ 1) }
@@ -162,23 +162,23 @@ pub fn changes()
     ensures put { (s t : State) (origin queue target number : ℕ) → IsSound s → step s (Put origin queue target number Applied) ≡ Ok t
         → IsPutDone s t origin queue target number }
     ensures failed { (s t : State) (origin queue target number : ℕ) → IsSound s → step s (Put origin queue target number Failed) ≡ Ok t
-        → IsFailed s t origin queue target number may_put_fail }
+        → IsFailureDone s t origin queue target number may_put_fail }
     ensures taken { (s t : State) (origin queue target number : ℕ) → IsSound s → step s (Take origin queue target number Applied) ≡ Ok t
-        → IsTaken s t origin queue target number }
+        → IsTakeDone s t origin queue target number }
     ensures take_failed { (s t : State) (origin queue target number : ℕ) → IsSound s → step s (Take origin queue target number Failed) ≡ Ok t
-        → IsFailed s t origin queue target number may_take_fail }
+        → IsFailureDone s t origin queue target number may_take_fail }
     ensures registered { (s t : State) (c : CallerId) (call : register.Register) → IsSound s → step s (Called c (Register call) replies.Done) ≡ Ok t
-        → IsRegistered s t c.rank call.seg call.rank }
+        → IsRegisterDone s t c.rank call.seg call.rank }
     ensures idle { (s t : State) (c : CallerId) (call : Call) (reply : Reply) → is_idle reply ≡ true → step s (Called c call reply) ≡ Ok t
         → IsOnlyCounted s t c.rank }
     ensures made { (s t : State) (c : CallerId) (call : alloc.Alloc) → IsSound s → step s (Called c (Alloc call) replies.Done) ≡ Ok t
-        → IsMade s t c.rank call.seg call.size }
+        → IsAllocDone s t c.rank call.seg call.size }
     ensures gone { (s t : State) (c : CallerId) (call : delete.Delete) → IsSound s → step s (Called c (Delete call) replies.Done) ≡ Ok t
-        → IsGone s t c.rank call.seg }
+        → IsDeleteDone s t c.rank call.seg }
     ensures waited { (s t : State) (c : CallerId) (call : wait.Wait) → IsSound s → step s (Called c (Wait call) replies.Done) ≡ Ok t
-        → IsWaited s t c.rank call.queue }
+        → IsWaitDone s t c.rank call.queue }
     ensures purged { (s t : State) (c : CallerId) (call : purge.Purge) → IsSound s → step s (Called c (Purge call) replies.Done) ≡ Ok t
-        → IsPurged s t c.rank call.queue }
+        → IsPurgeDone s t c.rank call.queue }
     ensures queue_size { (s t : State) (c : CallerId) (call : qsize.Qsize) (value : ℕ) → IsSound s → step s (Called c (Qsize call) (replies.Value value)) ≡ Ok t
         → IsSizeAnswered s t c.rank call.queue value }
     ensures state { (s t : State) (c : CallerId) (mask : ℕ) → IsSound s → step s (Called c calls.State (replies.Mask mask)) ≡ Ok t
@@ -202,17 +202,17 @@ pub fn changes()
     ensures kept { (s t : State) (c : CallerId) (call : compare_swap.CompareSwap) (old : ℕ) → old ≢ call.comparator → step s (Called c (CompareSwap call) (replies.Value old)) ≡ Ok t
         → IsOnlyCounted s t c.rank }
     ensures posted { (s t : State) (c : CallerId) (call : Call) (to : Posting) → IsSound s → (row_of call).posting ≡ Some to → step s (Called c call replies.Done) ≡ Ok t
-        → IsPosted s t c.rank call to.queue to.rank }
+        → IsPostDone s t c.rank call to.queue to.rank }
     ensures sent { (s t : State) (c : CallerId) (call : send.PassiveSend) → IsSound s → step s (Called c (PassiveSend call) replies.Done) ≡ Ok t
-        → IsSent s t c.rank call.rank call.seg call.offset call.size }
+        → IsSendDone s t c.rank call.rank call.seg call.offset call.size }
     ensures received { (s t : State) (c : CallerId) (call : receive.PassiveReceive) (sender : ℕ) → IsSound s → step s (Called c (PassiveReceive call) (replies.Id sender)) ≡ Ok t
-        → IsReceived s t c.rank call.seg call.offset call.size sender }
+        → IsReceiveDone s t c.rank call.seg call.offset call.size sender }
     ensures group_made { (s t : State) (c : CallerId) (id : ℕ) → IsSound s → step s (Called c GroupCreate (replies.Id id)) ≡ Ok t
         → IsGroupMade s t c.rank id }
     ensures group_added { (s t : State) (c : CallerId) (call : group_add.GroupAdd) → IsSound s → step s (Called c (GroupAdd call) replies.Done) ≡ Ok t
         → IsGroupAdded s t c.rank call.group call.rank }
     ensures group_dropped { (s t : State) (c : CallerId) (call : group_delete.GroupDelete) → IsSound s → step s (Called c (GroupDelete call) replies.Done) ≡ Ok t
-        → IsGroupDropped s t c.rank call.group }
+        → IsGroupDeleted s t c.rank call.group }
     ensures joined { (s t : State) (c : CallerId) (id : ℕ) (args : Args) → IsSound s → is_create args.coll ≡ false → step s (Joined c id args) ≡ Ok t → IsJoinDone s t c id args }
     ensures create_joined { (s t : State) (c : CallerId) (id : ℕ) (args : Args) (segment size : ℕ) → IsSound s → args.coll ≡ Create segment size → step s (Joined c id args) ≡ Ok t
         → IsCreateJoined s t c id args segment size }
@@ -221,19 +221,19 @@ pub fn changes()
     ensures barrier { (s t : State) (c : CallerId) (call : barrier.Barrier) → IsSound s → step s (Called c (calls.Barrier call) replies.Done) ≡ Ok t
         → IsCompletionDone s t c call.group (calls.Barrier call) (λ g posts. posts) }
     ensures created { (s t : State) (c : CallerId) (call : create.Create) → IsSound s → step s (Called c (calls.Create call) replies.Done) ≡ Ok t
-        → IsCompletionDone s t c call.group (calls.Create call) (λ g posts. with_made_known call.seg call.size (turn_made g c.rank) posts) }
+        → IsCompletionDone s t c call.group (calls.Create call) (λ g posts. with_made_known call.seg call.size (round_segments g c.rank) posts) }
     ensures known { (s t : State) (c : CallerId) (call : create.Create) → IsSound s → step s (Called c (calls.Create call) replies.Done) ≡ Ok t
         → AreMadeKnown s t c call.group call.seg call.size }
     ensures reduced { (s t : State) (c : CallerId) (call : allreduce.Allreduce) (answer : TypedNumbers) → IsSound s
         → step s (Called c (calls.Allreduce call) (replies.List answer)) ≡ Ok t → IsCompletionDone s t c call.group (calls.Allreduce call) (λ g posts. posts) }
     ensures folded { (s t : State) (c : CallerId) (call : allreduce.Allreduce) (answer : TypedNumbers) → IsSound s
-        → step s (Called c (calls.Allreduce call) (replies.List answer)) ≡ Ok t → IsFolded s c call answer }
+        → step s (Called c (calls.Allreduce call) (replies.List answer)) ≡ Ok t → IsReduction s c call answer }
     ensures ended { (s t : State) (c : CallerId) → step s (Called c End replies.Done) ≡ Ok t → IsEnded s t c }
 {}
 
 /// A rank that is once corrupt in the state vector of a rank stays so. (GASPI: state vector)
 pub fn corruption()
-    ensures { (w : World) (earlier later : List Event) (s t : State) (rank target : ℕ) → reached w earlier ≡ Ok s → reached w (earlier ++ later) ≡ Ok t
+    ensures { (w : ShapeValue) (earlier later : List Event) (s t : State) (rank target : ℕ) → reached w earlier ≡ Ok s → reached w (earlier ++ later) ≡ Ok t
         → is_corrupt s rank target ≡ true → is_corrupt t rank target ≡ true }
 {}
 
@@ -244,54 +244,54 @@ pub fn corruption()
 /// was done, the write was put in between. So it is with reads and their notifications. (GASPI: notification order,
 /// queue_purge)
 pub fn notification_order()
-    ensures write { (w : World) (history : List Event) (c : CallerId) (call : write.Write) (s : State) (posts : Posts)
-        → IsWorld w → reached w history ≡ Ok s → slice_get s.posts c.rank ≡ Some posts
+    ensures write { (w : ShapeValue) (history : List Event) (c : CallerId) (call : write.Write) (s : State) (posts : Posts)
+        → IsShape w → reached w history ≡ Ok s → slice_get s.posts c.rank ≡ Some posts
         → is_legal w (history ++ Called c (Write call) replies.Done ∷ []) ≡ true
-        → IsWriteStanding w (history ++ Called c (Write call) replies.Done ∷ []) c.rank call.queue call.rank posts.next }
-    ensures read { (w : World) (history : List Event) (c : CallerId) (call : read.Read) (s : State) (posts : Posts)
-        → IsWorld w → reached w history ≡ Ok s → slice_get s.posts c.rank ≡ Some posts
+        → IsWriteInLane w (history ++ Called c (Write call) replies.Done ∷ []) c.rank call.queue call.rank posts.next }
+    ensures read { (w : ShapeValue) (history : List Event) (c : CallerId) (call : read.Read) (s : State) (posts : Posts)
+        → IsShape w → reached w history ≡ Ok s → slice_get s.posts c.rank ≡ Some posts
         → is_legal w (history ++ Called c (Read call) replies.Done ∷ []) ≡ true
-        → IsReadStanding w (history ++ Called c (Read call) replies.Done ∷ []) c.rank call.queue call.rank posts.next }
-    ensures notify { (w : World) (history : List Event) (c : CallerId) (call : notify.Notify) (s : State) (posts : Posts)
-        → IsWorld w → reached w history ≡ Ok s → slice_get s.posts c.rank ≡ Some posts
+        → IsReadInLane w (history ++ Called c (Read call) replies.Done ∷ []) c.rank call.queue call.rank posts.next }
+    ensures notify { (w : ShapeValue) (history : List Event) (c : CallerId) (call : notify.Notify) (s : State) (posts : Posts)
+        → IsShape w → reached w history ≡ Ok s → slice_get s.posts c.rank ≡ Some posts
         → is_legal w (history ++ Called c (Notify call) replies.Done ∷ []) ≡ true
-        → IsNotificationStanding w (history ++ Called c (Notify call) replies.Done ∷ []) c.rank call.queue call.rank posts.next }
-    ensures write_notify { (w : World) (history : List Event) (c : CallerId) (call : write_notify.WriteNotify) (s : State) (posts : Posts)
-        → IsWorld w → reached w history ≡ Ok s → slice_get s.posts c.rank ≡ Some posts
+        → IsNotificationInLane w (history ++ Called c (Notify call) replies.Done ∷ []) c.rank call.queue call.rank posts.next }
+    ensures write_notify { (w : ShapeValue) (history : List Event) (c : CallerId) (call : write_notify.WriteNotify) (s : State) (posts : Posts)
+        → IsShape w → reached w history ≡ Ok s → slice_get s.posts c.rank ≡ Some posts
         → is_legal w (history ++ Called c (WriteNotify call) replies.Done ∷ []) ≡ true
-        → IsWriteStanding w (history ++ Called c (WriteNotify call) replies.Done ∷ []) c.rank call.queue call.rank posts.next
-        × IsNotificationStanding w (history ++ Called c (WriteNotify call) replies.Done ∷ []) c.rank call.queue call.rank (posts.next + 1) }
-    ensures read_notify { (w : World) (history : List Event) (c : CallerId) (call : read_notify.ReadNotify) (s : State) (posts : Posts)
-        → IsWorld w → reached w history ≡ Ok s → slice_get s.posts c.rank ≡ Some posts
+        → IsWriteInLane w (history ++ Called c (WriteNotify call) replies.Done ∷ []) c.rank call.queue call.rank posts.next
+        × IsNotificationInLane w (history ++ Called c (WriteNotify call) replies.Done ∷ []) c.rank call.queue call.rank (posts.next + 1) }
+    ensures read_notify { (w : ShapeValue) (history : List Event) (c : CallerId) (call : read_notify.ReadNotify) (s : State) (posts : Posts)
+        → IsShape w → reached w history ≡ Ok s → slice_get s.posts c.rank ≡ Some posts
         → is_legal w (history ++ Called c (ReadNotify call) replies.Done ∷ []) ≡ true
-        → IsReadStanding w (history ++ Called c (ReadNotify call) replies.Done ∷ []) c.rank call.queue call.rank posts.next
-        × IsReadNoteStanding w (history ++ Called c (ReadNotify call) replies.Done ∷ []) c.rank call.queue call.rank (posts.next + 1) }
-    ensures write_list { (w : World) (history : List Event) (c : CallerId) (call : write_list.WriteList) (s : State) (posts : Posts)
-        → IsWorld w → reached w history ≡ Ok s → slice_get s.posts c.rank ≡ Some posts
+        → IsReadInLane w (history ++ Called c (ReadNotify call) replies.Done ∷ []) c.rank call.queue call.rank posts.next
+        × IsReadNoteInLane w (history ++ Called c (ReadNotify call) replies.Done ∷ []) c.rank call.queue call.rank (posts.next + 1) }
+    ensures write_list { (w : ShapeValue) (history : List Event) (c : CallerId) (call : write_list.WriteList) (s : State) (posts : Posts)
+        → IsShape w → reached w history ≡ Ok s → slice_get s.posts c.rank ≡ Some posts
         → is_legal w (history ++ Called c (WriteList call) replies.Done ∷ []) ≡ true
-        → AreStanding is_write w (history ++ Called c (WriteList call) replies.Done ∷ []) c.rank call.queue call.rank posts.next (length call.items) }
-    ensures read_list { (w : World) (history : List Event) (c : CallerId) (call : read_list.ReadList) (s : State) (posts : Posts)
-        → IsWorld w → reached w history ≡ Ok s → slice_get s.posts c.rank ≡ Some posts
+        → AreInLane is_write w (history ++ Called c (WriteList call) replies.Done ∷ []) c.rank call.queue call.rank posts.next (length call.items) }
+    ensures read_list { (w : ShapeValue) (history : List Event) (c : CallerId) (call : read_list.ReadList) (s : State) (posts : Posts)
+        → IsShape w → reached w history ≡ Ok s → slice_get s.posts c.rank ≡ Some posts
         → is_legal w (history ++ Called c (ReadList call) replies.Done ∷ []) ≡ true
-        → AreStanding is_read w (history ++ Called c (ReadList call) replies.Done ∷ []) c.rank call.queue call.rank posts.next (length call.items) }
-    ensures write_list_notify { (w : World) (history : List Event) (c : CallerId) (call : write_list_notify.WriteListNotify) (s : State) (posts : Posts)
-        → IsWorld w → reached w history ≡ Ok s → slice_get s.posts c.rank ≡ Some posts
+        → AreInLane is_read w (history ++ Called c (ReadList call) replies.Done ∷ []) c.rank call.queue call.rank posts.next (length call.items) }
+    ensures write_list_notify { (w : ShapeValue) (history : List Event) (c : CallerId) (call : write_list_notify.WriteListNotify) (s : State) (posts : Posts)
+        → IsShape w → reached w history ≡ Ok s → slice_get s.posts c.rank ≡ Some posts
         → is_legal w (history ++ Called c (WriteListNotify call) replies.Done ∷ []) ≡ true
-        → AreStanding is_write w (history ++ Called c (WriteListNotify call) replies.Done ∷ []) c.rank call.queue call.rank posts.next (length call.items)
-        × IsNotificationStanding w (history ++ Called c (WriteListNotify call) replies.Done ∷ []) c.rank call.queue call.rank (posts.next + length call.items) }
-    ensures read_list_notify { (w : World) (history : List Event) (c : CallerId) (call : read_list_notify.ReadListNotify) (s : State) (posts : Posts)
-        → IsWorld w → reached w history ≡ Ok s → slice_get s.posts c.rank ≡ Some posts
+        → AreInLane is_write w (history ++ Called c (WriteListNotify call) replies.Done ∷ []) c.rank call.queue call.rank posts.next (length call.items)
+        × IsNotificationInLane w (history ++ Called c (WriteListNotify call) replies.Done ∷ []) c.rank call.queue call.rank (posts.next + length call.items) }
+    ensures read_list_notify { (w : ShapeValue) (history : List Event) (c : CallerId) (call : read_list_notify.ReadListNotify) (s : State) (posts : Posts)
+        → IsShape w → reached w history ≡ Ok s → slice_get s.posts c.rank ≡ Some posts
         → is_legal w (history ++ Called c (ReadListNotify call) replies.Done ∷ []) ≡ true
-        → AreStanding is_read w (history ++ Called c (ReadListNotify call) replies.Done ∷ []) c.rank call.queue call.rank posts.next (length call.items)
-        × IsReadNoteStanding w (history ++ Called c (ReadListNotify call) replies.Done ∷ []) c.rank call.queue call.rank (posts.next + length call.items) }
-    ensures order { (w : World) (earlier later rest : List Event) (origin queue target m n : ℕ)
+        → AreInLane is_read w (history ++ Called c (ReadListNotify call) replies.Done ∷ []) c.rank call.queue call.rank posts.next (length call.items)
+        × IsReadNoteInLane w (history ++ Called c (ReadListNotify call) replies.Done ∷ []) c.rank call.queue call.rank (posts.next + length call.items) }
+    ensures order { (w : ShapeValue) (earlier later rest : List Event) (origin queue target m n : ℕ)
         → is_legal w (earlier ++ later ++ Put origin queue target n Applied ∷ rest) ≡ true
-        → IsWriteStanding w earlier origin queue target m → IsNotificationStanding w (earlier ++ later) origin queue target n → m < n
+        → IsWriteInLane w earlier origin queue target m → IsNotificationInLane w (earlier ++ later) origin queue target n → m < n
         → list_any (is_purge_of origin queue) later ≡ false
         → (place : ℕ) × (slice_get later place ≡ Some (Put origin queue target m Applied)) }
-    ensures read_order { (w : World) (earlier later rest : List Event) (origin queue target m n : ℕ)
+    ensures read_order { (w : ShapeValue) (earlier later rest : List Event) (origin queue target m n : ℕ)
         → is_legal w (earlier ++ later ++ Put origin queue target n Applied ∷ rest) ≡ true
-        → IsReadStanding w earlier origin queue target m → IsReadNoteStanding w (earlier ++ later) origin queue target n → m < n
+        → IsReadInLane w earlier origin queue target m → IsReadNoteInLane w (earlier ++ later) origin queue target n → m < n
         → list_any (is_purge_of origin queue) later ≡ false
         → (place : ℕ) × (slice_get later place ≡ Some (Put origin queue target m Applied)) }
 {}
@@ -304,10 +304,10 @@ pub fn notification_order()
 /// sent the first message of the inbox, which is the earliest of those that were sent to the rank and that it has not
 /// received. (GASPI: passive communication)
 pub fn messages()
-    ensures order { (w : World) (history : List Event) (s : State) (rank : ℕ) → IsWorld w → reached w history ≡ Ok s
+    ensures order { (w : ShapeValue) (history : List Event) (s : State) (rank : ℕ) → IsShape w → reached w history ≡ Ok s
         → sent_in (opening w) history rank ≡ received_in (opening w) history rank ++ inbox_of s rank }
-    ensures few { (w : World) (history : List Event) (s : State) (rank : ℕ) → IsWorld w → reached w history ≡ Ok s → length (inbox_of s rank) ≤ w.limits.inbox }
-    ensures received { (w : World) (history : List Event) (s : State) (c : CallerId) (call : receive.PassiveReceive) (sender : ℕ) → IsWorld w → reached w history ≡ Ok s
+    ensures few { (w : ShapeValue) (history : List Event) (s : State) (rank : ℕ) → IsShape w → reached w history ≡ Ok s → length (inbox_of s rank) ≤ w.limits.inbox }
+    ensures received { (w : ShapeValue) (history : List Event) (s : State) (c : CallerId) (call : receive.PassiveReceive) (sender : ℕ) → IsShape w → reached w history ≡ Ok s
         → is_legal w (history ++ Called c (PassiveReceive call) (replies.Id sender) ∷ []) ≡ true
         → IsEarliest w history s c.rank sender }
 {}
@@ -317,11 +317,11 @@ pub fn messages()
 /// the same members, by every event but a `group_delete` of it by that rank that is done. Group 0 of each rank is there in each
 /// state of a legal history: it is committed, and has every rank. (GASPI: groups)
 pub fn groups()
-    ensures rising { (w : World) (earlier later rest : List Event) (c d : CallerId) (m n : ℕ) → c.rank ≡ d.rank
+    ensures rising { (w : ShapeValue) (earlier later rest : List Event) (c d : CallerId) (m n : ℕ) → c.rank ≡ d.rank
         → is_legal w (earlier ++ Called c GroupCreate (replies.Id m) ∷ later ++ Called d GroupCreate (replies.Id n) ∷ rest) ≡ true → m < n }
     ensures kept { (s t : State) (e : Event) (rank id : ℕ) (h : Handle) → IsSound s → step s e ≡ Ok t → handle_of s rank id ≡ Some h → h.stage ≡ Committed
         → is_drop_of rank id e ≡ false → handle_of t rank id ≡ Some h }
-    ensures all { (w : World) (history : List Event) (s : State) (rank : ℕ) → IsWorld w → reached w history ≡ Ok s → rank < w.limits.ranks
+    ensures all { (w : ShapeValue) (history : List Event) (s : State) (rank : ℕ) → IsShape w → reached w history ≡ Ok s → rank < w.limits.ranks
         → handle_of s rank 0 ≡ Some (handle_of_all w.limits.ranks) }
 {}
 
@@ -329,13 +329,13 @@ pub fn groups()
 /// word that counts the events of a journal stays at most 16 * 65,536, far from the end of its type: no addition to it wraps, and what a
 /// commit finds there is exactly the place of its event.
 pub fn history_lengths()
-    ensures limits { (w : World) (history : List Event) → IsWorld w → is_legal w history ≡ true → length history ≤ w.limits.ranks * w.limits.events }
-    ensures most { (w : World) (history : List Event) → IsWorld w → is_legal w history ≡ true → length history ≤ 16 * 65536 }
+    ensures limits { (w : ShapeValue) (history : List Event) → IsShape w → is_legal w history ≡ true → length history ≤ w.limits.ranks * w.limits.events }
+    ensures most { (w : ShapeValue) (history : List Event) → IsShape w → is_legal w history ≡ true → length history ≤ 16 * 65536 }
 {}
 
 /// Where a history is legal, so is each part that it begins with.
 pub fn prefixes()
-    ensures { (w : World) (earlier later : List Event) → is_legal w (earlier ++ later) ≡ true → is_legal w earlier ≡ true }
+    ensures { (w : ShapeValue) (earlier later : List Event) → is_legal w (earlier ++ later) ≡ true → is_legal w earlier ≡ true }
 {}
 
 /// An event is a matter of its shards: the posts of its owner's rank, and with them at most the memory or the posts that it
@@ -345,39 +345,39 @@ pub fn prefixes()
 /// on the limits and on those parts alone; and which shards it has, its owner's posts among them and none twice, depends on the
 /// limits, on its owner's posts and on the event without its reply.
 pub fn locality()
-    ensures frame { (s t : State) (e : Event) (shard : Shard) → step s e ≡ Ok t → is_shard (footprint s e) shard ≡ false → HaveSamePart t s shard }
-    ensures determined { (s s' : State) (e : Event) → AgreeOn (is_shard (footprint s e)) s s' → ComeToSame s s' (step s e) (step s' e) }
-    ensures owner { (s : State) (e : Event) → is_shard (footprint s e) (shards.Posts (owner_of e)) ≡ true }
-    ensures footprint { (s s' : State) (e : Event) → s.limits ≡ s'.limits → HaveSamePart s s' (shards.Posts (owner_of e)) → footprint s e ≡ footprint s' e }
-    ensures reply { (s : State) (c : CallerId) (call : Call) (reply reply' : Reply) → footprint s (Called c call reply) ≡ footprint s (Called c call reply') }
-    ensures few { (s : State) (e : Event) → is_wide e ≡ false → length (footprint s e) ≤ 2 }
+    ensures frame { (s t : State) (e : Event) (shard : Shard) → step s e ≡ Ok t → is_shard (event_shards s e) shard ≡ false → AgreeOnShard t s shard }
+    ensures determined { (s s' : State) (e : Event) → AgreeOn (is_shard (event_shards s e)) s s' → HaveSameResult s s' (step s e) (step s' e) }
+    ensures owner { (s : State) (e : Event) → is_shard (event_shards s e) (shards.Posts (owner_of e)) ≡ true }
+    ensures footprint { (s s' : State) (e : Event) → s.limits ≡ s'.limits → AgreeOnShard s s' (shards.Posts (owner_of e)) → event_shards s e ≡ event_shards s' e }
+    ensures reply { (s : State) (c : CallerId) (call : Call) (reply reply' : Reply) → event_shards s (Called c call reply) ≡ event_shards s (Called c call reply') }
+    ensures few { (s : State) (e : Event) → is_wide e ≡ false → length (event_shards s e) ≤ 2 }
     ensures posting { (s : State) (c : CallerId) (call : Call) (reply : Reply) (to : Posting) → (row_of call).posting ≡ Some to
-        → footprint s (Called c call reply) ≡ shards.Posts c.rank ∷ [] }
-    ensures waiting { (s : State) (c : CallerId) (call : wait.Wait) (reply : Reply) → footprint s (Called c (Wait call) reply) ≡ shards.Posts c.rank ∷ [] }
-    ensures purging { (s : State) (c : CallerId) (call : purge.Purge) (reply : Reply) → footprint s (Called c (Purge call) reply) ≡ shards.Posts c.rank ∷ [] }
-    ensures sizing { (s : State) (c : CallerId) (call : qsize.Qsize) (reply : Reply) → footprint s (Called c (Qsize call) reply) ≡ shards.Posts c.rank ∷ [] }
-    ensures state { (s : State) (c : CallerId) (reply : Reply) → footprint s (Called c calls.State reply) ≡ shards.Posts c.rank ∷ [] }
+        → event_shards s (Called c call reply) ≡ shards.Posts c.rank ∷ [] }
+    ensures waiting { (s : State) (c : CallerId) (call : wait.Wait) (reply : Reply) → event_shards s (Called c (Wait call) reply) ≡ shards.Posts c.rank ∷ [] }
+    ensures purging { (s : State) (c : CallerId) (call : purge.Purge) (reply : Reply) → event_shards s (Called c (Purge call) reply) ≡ shards.Posts c.rank ∷ [] }
+    ensures sizing { (s : State) (c : CallerId) (call : qsize.Qsize) (reply : Reply) → event_shards s (Called c (Qsize call) reply) ≡ shards.Posts c.rank ∷ [] }
+    ensures state { (s : State) (c : CallerId) (reply : Reply) → event_shards s (Called c calls.State reply) ≡ shards.Posts c.rank ∷ [] }
     ensures sending { (s : State) (posts : Posts) (c : CallerId) (call : send.PassiveSend) (reply : Reply) → slice_get s.posts c.rank ≡ Some posts
-        → footprint s (Called c (PassiveSend call) reply) ≡ shards.Posts c.rank ∷ send_shards s.limits.ranks c.rank call.rank }
+        → event_shards s (Called c (PassiveSend call) reply) ≡ shards.Posts c.rank ∷ send_shards s.limits.ranks c.rank call.rank }
     ensures receiving { (s : State) (posts : Posts) (c : CallerId) (call : receive.PassiveReceive) (reply : Reply) → slice_get s.posts c.rank ≡ Some posts
-        → footprint s (Called c (PassiveReceive call) reply) ≡ shards.Posts c.rank ∷ shards.Memory c.rank ∷ [] }
-    ensures grouping { (s : State) (c : CallerId) (call : Call) (reply : Reply) → is_group_call call ≡ true → footprint s (Called c call reply) ≡ shards.Posts c.rank ∷ [] }
+        → event_shards s (Called c (PassiveReceive call) reply) ≡ shards.Posts c.rank ∷ shards.Memory c.rank ∷ [] }
+    ensures grouping { (s : State) (c : CallerId) (call : Call) (reply : Reply) → is_group_call call ≡ true → event_shards s (Called c call reply) ≡ shards.Posts c.rank ∷ [] }
     ensures meeting { (s : State) (posts : Posts) (c : CallerId) (call : Call) (id : ℕ) (reply : Reply) → slice_get s.posts c.rank ≡ Some posts → (row_of call).group ≡ Some id
-        → is_wide (Called c call reply) ≡ false → footprint s (Called c call reply) ≡ shards.Posts c.rank ∷ group_shards id }
+        → is_wide (Called c call reply) ≡ false → event_shards s (Called c call reply) ≡ shards.Posts c.rank ∷ group_shards id }
     ensures creating { (s : State) (posts : Posts) (c : CallerId) (call : create.Create) (reply : Reply) → slice_get s.posts c.rank ≡ Some posts
-        → footprint s (Called c (calls.Create call) reply) ≡ shards.Posts c.rank ∷ create_shards c.rank call.group }
+        → event_shards s (Called c (calls.Create call) reply) ≡ shards.Posts c.rank ∷ create_shards c.rank call.group }
     ensures joining { (s : State) (posts : Posts) (c : CallerId) (id : ℕ) (args : Args) → slice_get s.posts c.rank ≡ Some posts
-        → footprint s (Joined c id args) ≡ shards.Posts c.rank ∷ (if is_create args.coll then create_shards c.rank id else group_shards id) }
-    ensures once { (s : State) (e : Event) (shard : Shard) → count_by (λ x. same_shard x shard) (footprint s e) ≤ 1 }
+        → event_shards s (Joined c id args) ≡ shards.Posts c.rank ∷ (if is_create args.coll then create_shards c.rank id else group_shards id) }
+    ensures once { (s : State) (e : Event) (shard : Shard) → count_by (λ x. same_shard x shard) (event_shards s e) ≤ 1 }
 {}
 
 /// The same of coarser shards, where each shard has a number and those of one number are one: so of a rank's posts and
 /// memory as one shard, or of the whole state. The numbers of an event's shards are listed once each.
 pub fn coarser_locality()
     ensures frame { (number : Shard → ℕ) (s t : State) (e : Event) (shard : Shard) → step s e ≡ Ok t → list_any (nat_eq (number shard)) (numbers_of number s e) ≡ false
-        → HaveSamePart t s shard }
+        → AgreeOnShard t s shard }
     ensures determined { (number : Shard → ℕ) (s s' : State) (e : Event) → AgreeOn (λ shard. list_any (nat_eq (number shard)) (numbers_of number s e)) s s'
-        → ComeToSame s s' (step s e) (step s' e) }
+        → HaveSameResult s s' (step s e) (step s' e) }
     ensures owner { (number : Shard → ℕ) (s : State) (e : Event) → list_any (nat_eq (number (shards.Posts (owner_of e)))) (numbers_of number s e) ≡ true }
     ensures once { (number : Shard → ℕ) (s : State) (e : Event) (n : ℕ) → count_by (λ m. m == n) (numbers_of number s e) ≤ 1 }
 {}
@@ -403,9 +403,9 @@ pub fn listing()
 /// A caller that is active after a history is one of the world's, and has not recorded its end: so one that has is
 /// active no more.
 pub fn endings()
-    ensures { (w : World) (history : List Event) (s : State) (rank thread : ℕ) → reached w history ≡ Ok s → is_active s rank thread ≡ true
+    ensures { (w : ShapeValue) (history : List Event) (s : State) (rank thread : ℕ) → reached w history ≡ Ok s → is_active s rank thread ≡ true
         → (list_any (is_caller rank thread) w.callers ≡ true)
-        × ((k : ℕ) (reply : Reply) → slice_get (own_calls rank thread history) k ≡ Some (End, reply) → ⊥) }
+        × ((k : ℕ) (reply : Reply) → slice_get (recorded_calls rank thread history) k ≡ Some (End, reply) → ⊥) }
 {}
 
 /// An event stands in a history with the very reply that a look at its call answers then, or with a timeout where the call is not
@@ -431,33 +431,33 @@ pub fn replies()
 /// member has not given. A barrier that is done was joined by each member more often than its caller had
 /// completed collectives of the group before. (GASPI: collectives, allreduce, barrier)
 pub fn collectives()
-    ensures counted { (w : World) (history : List Event) (s : State) (rank id : ℕ) (posts : Posts) → IsWorld w → reached w history ≡ Ok s → slice_get s.posts rank ≡ Some posts → id < 8
-        → joins_on rank id history ≡ completions_on rank id history + waits (entry_at posts.pending id) }
-    ensures turns { (w : World) (history : List Event) (s : State) (rank id : ℕ) (g : Group) → IsWorld w → reached w history ≡ Ok s → slice_get s.groups id ≡ Some g
-        → (turn_of g rank ≡ completions_on rank id history) × (length (part_of g rank).contributions ≡ joins_on rank id history) }
-    ensures agree { (w : World) (history : List Event) (s : State) (id turn rank other : ℕ) (g : Group) (c d : Contribution) → IsWorld w → reached w history ≡ Ok s
-        → slice_get s.groups id ≡ Some g → given_in g turn rank ≡ Some c → given_in g turn other ≡ Some d → c.args.coll ≡ d.args.coll }
+    ensures counted { (w : ShapeValue) (history : List Event) (s : State) (rank id : ℕ) (posts : Posts) → IsShape w → reached w history ≡ Ok s → slice_get s.posts rank ≡ Some posts → id < 8
+        → joins_on rank id history ≡ completions_on rank id history + pending_count (item_at posts.pending id) }
+    ensures turns { (w : ShapeValue) (history : List Event) (s : State) (rank id : ℕ) (g : Group) → IsShape w → reached w history ≡ Ok s → slice_get s.groups id ≡ Some g
+        → (round_of g rank ≡ completions_on rank id history) × (length (contributions_of g rank).contributions ≡ joins_on rank id history) }
+    ensures agree { (w : ShapeValue) (history : List Event) (s : State) (id turn rank other : ℕ) (g : Group) (c d : Contribution) → IsShape w → reached w history ≡ Ok s
+        → slice_get s.groups id ≡ Some g → contribution_in g turn rank ≡ Some c → contribution_in g turn other ≡ Some d → c.args.coll ≡ d.args.coll }
     ensures grows { (s t : State) (e : Event) (id : ℕ) (g : Group) → IsSound s → step s e ≡ Ok t → slice_get s.groups id ≡ Some g
         → (g' : Group) × (slice_get t.groups id ≡ Some g') × Grows g g' }
     ensures same { (s t u v : State) (between : List Event) (c d : CallerId) (a b : allreduce.Allreduce) (x y : TypedNumbers) (g k : Group) → IsSound s
         → step s (Called c (calls.Allreduce a) (replies.List x)) ≡ Ok t → after t between ≡ Ok u → step u (Called d (calls.Allreduce b) (replies.List y)) ≡ Ok v
-        → a.group ≡ b.group → slice_get s.groups a.group ≡ Some g → slice_get u.groups b.group ≡ Some k → turn_of g c.rank ≡ turn_of k d.rank → x ≡ y }
+        → a.group ≡ b.group → slice_get s.groups a.group ≡ Some g → slice_get u.groups b.group ≡ Some k → round_of g c.rank ≡ round_of k d.rank → x ≡ y }
     ensures ready { (s : State) (c : CallerId) (id : ℕ) (call : Call) (p : IsPendingAs s c id call) → IsSound s → is_active s c.rank c.thread ≡ true
-        → HaveAllGiven s.limits.ranks p.group c.rank → (reply : Reply) × (answer_in s c.rank c.thread call ≡ Some (ready.Reply reply)) × IsReplyFor call reply }
-    ensures waits { (s : State) (c : CallerId) (id : ℕ) (call : Call) → IsSound s → is_active s c.rank c.thread ≡ true → IsWaiting s c id call
+        → HaveAllContributed s.limits.ranks p.group c.rank → (reply : Reply) × (answer_in s c.rank c.thread call ≡ Some (ready.Reply reply)) × IsReplyFor call reply }
+    ensures waits { (s : State) (c : CallerId) (id : ℕ) (call : Call) → IsSound s → is_active s c.rank c.thread ≡ true → IsPendingUnready s c id call
         → answer_in s c.rank c.thread call ≡ Some ready.NotReady }
     ensures not_ready { (s : State) (c : CallerId) (id : ℕ) (call : Call) → IsSound s → (row_of call).group ≡ Some id → answer_in s c.rank c.thread call ≡ Some ready.NotReady
-        → IsWaiting s c id call }
-    ensures barrier_joins { (s : State) (c : CallerId) (id : ℕ) → IsSound s → is_active s c.rank c.thread ≡ true → MayMeet s c id colls.Barrier
+        → IsPendingUnready s c id call }
+    ensures barrier_joins { (s : State) (c : CallerId) (id : ℕ) → IsSound s → is_active s c.rank c.thread ≡ true → MayJoinRound s c id colls.Barrier
         → answer_in s c.rank c.thread (calls.Barrier (record { group = id })) ≡ Some (Join (record { coll = colls.Barrier; values = no_values })) }
     ensures allreduce_joins { (s : State) (c : CallerId) (call : allreduce.Allreduce) → IsSound s → is_active s c.rank c.thread ≡ true → element_checks (calls.Allreduce call) ≡ Ok tt
-        → MayMeet s c call.group (colls.Allreduce call.op call.values.num_type (length call.values.items))
+        → MayJoinRound s c call.group (colls.Allreduce call.op call.values.num_type (length call.values.items))
         → answer_in s c.rank c.thread (calls.Allreduce call) ≡ Some (Join (record { coll = colls.Allreduce call.op call.values.num_type (length call.values.items); values = call.values })) }
     ensures answers { (s t : State) (c : CallerId) (id : ℕ) (call : Call) (reply : Reply) → IsSound s → (row_of call).group ≡ Some id → is_idle reply ≡ false
         → step s (Called c call reply) ≡ Ok t → IsReplyFor call reply }
     ensures timed_out { (s t : State) (c : CallerId) (id : ℕ) (call : Call) → IsSound s → (row_of call).group ≡ Some id → step s (Called c call replies.Timeout) ≡ Ok t
-        → IsWaiting s c id call }
-    ensures barrier { (w : World) (history : List Event) (s t : State) (c : CallerId) (call : barrier.Barrier) (g : Group) (rank : ℕ) → IsWorld w → reached w history ≡ Ok s
+        → IsPendingUnready s c id call }
+    ensures barrier { (w : ShapeValue) (history : List Event) (s t : State) (c : CallerId) (call : barrier.Barrier) (g : Group) (rank : ℕ) → IsShape w → reached w history ≡ Ok s
         → step s (Called c (calls.Barrier call) replies.Done) ≡ Ok t → slice_get s.groups call.group ≡ Some g → rank < s.limits.ranks → IsOneOf g.members rank
         → completions_on c.rank call.group history < joins_on rank call.group history }
 {}

@@ -6,7 +6,7 @@ ghost use Rattle.gaspi_types.specs.World.{is_caller};
 ghost use Rattle.gaspi_model.specs.State.{declared_size, opening_extents, opening_generations, opening_thread, opening_table};
 
 use crate::states::ThreadState;
-use gaspi_types::{Extent, Extents, NoMemory, Rows, SegmentTable, Shape};
+use gaspi_types::{Extent, Extents, NoMemory, SegmentTable, Sequence, Shape};
 use std::alloc::Global;
 
 /// The size with which a segment of a rank is declared.
@@ -25,7 +25,7 @@ pub fn declared_size(shape: &Shape, rank: u32, segment: u32) -> Option<u32>
 fn opening_extents(alloc: Global, shape: &Shape, rank: u32) -> Result<Extents, NoMemory>
     ensures { IfOk result (λ extents. extents ≡ opening_extents shape.now rank) }
 {
-    let mut extents = Rows::new(alloc);
+    let mut extents = Sequence::new(alloc);
     for segment in 0..32 {
         let extent = declared_size(shape, rank, segment).map(|size| Extent {
             generation: 0,
@@ -38,10 +38,10 @@ fn opening_extents(alloc: Global, shape: &Shape, rank: u32) -> Result<Extents, N
 
 /// What every rank knows of the segments of each rank.
 #[tactic(auto, using(crate::proofs::Ranges::map_range_more))]
-fn opening_known(alloc: Global, shape: &Shape) -> Result<Rows<Extents>, NoMemory>
+fn opening_known(alloc: Global, shape: &Shape) -> Result<Sequence<Extents>, NoMemory>
     ensures { IfOk result (λ known. known ≡ map (opening_extents shape.now) (range_with_len 0 shape.now.limits.ranks)) }
 {
-    let mut known = Rows::new(alloc);
+    let mut known = Sequence::new(alloc);
     for rank in 0..shape.ranks() {
         known.push(opening_extents(alloc, shape, rank)?)?;
     }
@@ -50,10 +50,10 @@ fn opening_known(alloc: Global, shape: &Shape) -> Result<Rows<Extents>, NoMemory
 
 /// The generation that the next segment of each number has.
 #[tactic(auto, using(crate::proofs::Ranges::map_range_more))]
-fn opening_generations(alloc: Global, shape: &Shape, rank: u32) -> Result<Rows<u32>, NoMemory>
+fn opening_generations(alloc: Global, shape: &Shape, rank: u32) -> Result<Sequence<u32>, NoMemory>
     ensures { IfOk result (λ generations. generations ≡ opening_generations shape.now rank) }
 {
-    let mut generations = Rows::new(alloc);
+    let mut generations = Sequence::new(alloc);
     for segment in 0..32 {
         let used = declared_size(shape, rank, segment).is_some();
         generations.push(u32::from(used))?;
@@ -88,10 +88,10 @@ pub fn opening_threads(
     alloc: Global,
     shape: &Shape,
     rank: u32,
-) -> Result<Rows<ThreadState>, NoMemory>
+) -> Result<Sequence<ThreadState>, NoMemory>
     ensures { IfOk result (λ threads. threads ≡ map (opening_thread shape.now rank) (range_with_len 0 4)) }
 {
-    let mut threads = Rows::new(alloc);
+    let mut threads = Sequence::new(alloc);
     for thread in 0..4 {
         threads.push(opening_thread(shape, rank, thread))?;
     }
@@ -99,10 +99,10 @@ pub fn opening_threads(
 }
 
 /// No rank is corrupt.
-pub fn opening_corrupt(alloc: Global, ranks: u32) -> Result<Rows<bool>, NoMemory>
+pub fn opening_corrupt(alloc: Global, ranks: u32) -> Result<Sequence<bool>, NoMemory>
     ensures { IfOk result (λ corrupt. corrupt ≡ replicate ranks false) }
 {
-    Ok(Rows::from_vec(vec![in alloc; false; ranks as usize]?))
+    Ok(Sequence::from_vec(vec![in alloc; false; ranks as usize]?))
 }
 
 /// What a rank has and knows of segments.

@@ -5,13 +5,13 @@ ghost use Rattle.std.specs.Option.{option_copied};
 ghost use Rattle.gaspi_types.specs.Collectives.{resume};
 
 use crate::comparisons::same_args;
-use gaspi_types::{Args, Pending, Refusal, Resume, ThreadId};
+use gaspi_types::{Args, PendingCollective, Refusal, Resume, ThreadId};
 
 /// What a collective of a thread meets where that one of the rank is pending on its group, or none: it is new, or it is the one that
 /// is pending. Else `ActiveCollective` where that is another thread's, or `ResumeOther` where it differs in kind, arguments or
 /// values. `args` is None for a call that has no arguments which could be kept. (GASPI: timeouts)
 pub fn resume(
-    pending: Option<&Pending>,
+    pending: Option<&PendingCollective>,
     thread: ThreadId,
     args: Option<&Args>,
 ) -> Result<Resume, Refusal>

@@ -1,8 +1,8 @@
 //! The state of the machine.
 
 use gaspi_types::{
-    Group, GroupId, Handles, Limits, Messages, OwnSegments, Pending, Queue, RankId, Rows,
-    SegmentTable,
+    Group, GroupId, Handles, Limits, Messages, OwnSegments, PendingCollective, Queue, RankId,
+    SegmentTable, Sequence,
 };
 
 /// Whether a thread of a rank has a script, and has ended.
@@ -16,17 +16,17 @@ pub enum ThreadState {
 /// The posts of a rank: all that is known of it but the bytes and slots of its segments, and its inbox.
 #[derive(Debug, PartialEq, Eq, Drop)]
 pub struct Posts {
-    pub queues: Rows<Queue>,
+    pub queues: Sequence<Queue>,
     /// Which ranks are corrupt for this one. (GASPI: state vector)
-    pub corrupt: Rows<bool>,
+    pub corrupt: Sequence<bool>,
     /// What it has and knows of segments.
     pub segments: SegmentTable,
     /// Its groups. (GASPI: groups)
     pub groups: Handles,
     /// Its collective that is pending on each group, by the numbers of the groups. (GASPI: collectives, timeouts)
-    pub pending: Rows<Option<Pending>>,
+    pub pending: Sequence<Option<PendingCollective>>,
     /// Its threads, by their numbers.
-    pub threads: Rows<ThreadState>,
+    pub threads: Sequence<ThreadState>,
     /// How many events it has recorded.
     pub events: u32,
     /// The number of its next entry.
@@ -38,7 +38,7 @@ pub struct Posts {
 pub struct Memory {
     pub segments: OwnSegments,
     /// The notification slots of each segment. (GASPI: notifications)
-    pub slots: Rows<Option<Rows<u32>>>,
+    pub slots: Sequence<Option<Sequence<u32>>>,
     /// The messages that it has not received, the earliest first. (GASPI: passive communication)
     pub inbox: Messages,
 }
@@ -47,10 +47,10 @@ pub struct Memory {
 #[derive(Debug, PartialEq, Eq, Drop)]
 pub struct State {
     pub limits: Limits,
-    pub posts: Rows<Posts>,
-    pub memories: Rows<Memory>,
+    pub posts: Sequence<Posts>,
+    pub memories: Sequence<Memory>,
     /// By their numbers. (GASPI: groups, collectives)
-    pub groups: Rows<Group>,
+    pub groups: Sequence<Group>,
 }
 
 /// A part of the state that an event reads or changes as a whole. (own choice)

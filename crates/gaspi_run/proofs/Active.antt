@@ -5,7 +5,7 @@ use Rattle.std.specs.Option.{option_map}
 use Rattle.std.proofs.lemmas.Bool.{eqb-true, ltb-true}
 use Rattle.std.proofs.lemmas.Option.{slice_get-map}
 use Rattle.gaspi_types.specs.CallRows.{is_end}
-use Rattle.gaspi_types.specs.World.{World, IsWorld, is_caller}
+use Rattle.gaspi_types.specs.World.{ShapeValue, IsShape, is_caller}
 use Rattle.gaspi_types.specs.declared.calls.Call.{Call}
 use Rattle.gaspi_types.specs.declared.calls.Call.TheVariants.{End}
 use Rattle.gaspi_types.specs.declared.events.Event.{Event}
@@ -16,7 +16,7 @@ use Rattle.gaspi_types.specs.declared.shapes.CallerId.{CallerId}
 use Rattle.gaspi_types.proofs.Chains.{both}
 use Rattle.gaspi_model.specs.Sound.{IsSound}
 use Rattle.gaspi_model.specs.State.{opening, opening_posts, opening_thread, is_running, thread_at}
-use Rattle.gaspi_model.specs.Step.{after, reached, is_active, ends_caller, answer_in, room_taken, is_full_in}
+use Rattle.gaspi_model.specs.Step.{after, reached, is_active, ends_caller, answer_in, used_room, lacks_room_in}
 use Rattle.gaspi_model.specs.declared.states.Posts.{Posts}
 use Rattle.gaspi_model.specs.declared.states.State.{State}
 use Rattle.gaspi_model.proofs.Ended.Activity.{active}
@@ -43,7 +43,7 @@ any-there {A} p (x ∷ xs) any = go (p x) refl any (any-there p xs)
     go true is h later = (0, x, refl, is)
     go false is h later = let there = later h in (suc there.0, there.1, there.2, there.3)
 
-starts-active : (w : World) (rank thread : ℕ) → IsWorld w → list_any (is_caller rank thread) w.callers ≡ true → is_active (opening w) rank thread ≡ true
+starts-active : (w : ShapeValue) (rank thread : ℕ) → IsShape w → list_any (is_caller rank thread) w.callers ≡ true → is_active (opening w) rank thread ≡ true
 starts-active w rank thread world any =
     let there = any-there (is_caller rank thread) w.callers any in
     let within = world.within there.0 there.1 there.2 in
@@ -91,7 +91,7 @@ module _ (c : CallerId) where
       stays-active first.0 t events first.2 (no-end-rest e events none) (active s first.0 e c.rank c.thread first.1 (no-end-first e events none) ∙ here)
 
   -- after a history without its end
-  pub still-active : (w : World) (history : List Event) (s : State) → IsWorld w → list_any (is_caller c.rank c.thread) w.callers ≡ true → reached w history ≡ Ok s → HasNoEnd c history → is_active s c.rank c.thread ≡ true
+  pub still-active : (w : ShapeValue) (history : List Event) (s : State) → IsShape w → list_any (is_caller c.rank c.thread) w.callers ≡ true → reached w history ≡ Ok s → HasNoEnd c history → is_active s c.rank c.thread ≡ true
   still-active w history s world declared is none = stays-active (opening w) s history is none (starts-active w c.rank c.thread world declared)
 
 -- Its end then.
@@ -106,12 +106,12 @@ end-answer s rank thread here = go (slice_get s.posts rank) refl
 room-none : (limit taken : ℕ) → taken ≤ limit → nat_lt limit (taken + 0) ≡ true → ⊥
 room-none limit taken fits less = (let over = ltb-true limit (taken + 0) less in omega arith)
 
-pub end-has-room : (s : State) (c : CallerId) → IsSound s → is_active s c.rank c.thread ≡ true → is_full_in s c End ≡ true → ⊥
+pub end-has-room : (s : State) (c : CallerId) → IsSound s → is_active s c.rank c.thread ≡ true → lacks_room_in s c End ≡ true → ⊥
 end-has-room s c sound here full = go (slice_get s.posts c.rank) refl
   where
     go : (o : Option Posts) → slice_get s.posts c.rank ≡ o → ⊥
     go None at = (let never : false ≡ true = rw at at here in let no : ⊥ = cc in no)
     go (Some posts) at =
         let room = (sound.posts c.rank posts at).room in
-        let taken : room_taken s c.rank ≤ s.limits.events = rw at room in
-        room-none s.limits.events (room_taken s c.rank) taken (rw here at full)
+        let taken : used_room s c.rank ≤ s.limits.events = rw at room in
+        room-none s.limits.events (used_room s c.rank) taken (rw here at full)

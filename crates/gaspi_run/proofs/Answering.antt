@@ -11,12 +11,12 @@ use Rattle.rank_script.specs.Lines.{input_limit}
 use Rattle.rank_script.specs.WorldText.{TextFault}
 use Rattle.rank_script.specs.declared.scripts.ScriptFault.{ScriptFault}
 use Rattle.rank_script.specs.declared.scripts.ScriptFault.TheVariants.{At, NoMemory}
-use Rattle.gaspi_run.specs.Command.{fault_text, IsTold, world_read, is_plain, HasBenched, AnswersInput, AnswersBench, Answers}
-use Rattle.gaspi_run.specs.Saying.{SaysFault, Says, SaysStop}
+use Rattle.gaspi_run.specs.Command.{fault_text, IsCommandResult, world_read, is_plain, HasBenched, AnswersInput, AnswersBench, Answers}
+use Rattle.gaspi_run.specs.Answering.{AnswersFault, AnswersResult, AnswersStop}
 use Rattle.command_line.specs.declared.words.Command.{Command}
 use Rattle.command_line.specs.declared.words.Command.TheVariants.{Run, Step, Check, Why, Bench}
 use Rattle.gaspi_run.specs.declared.commands.Answer.{Answer}
-use Rattle.gaspi_run.specs.declared.telling.Told.{Told}
+use Rattle.gaspi_run.specs.declared.results.CommandResult.{CommandResult}
 
 pub if-ok : {A E : Type 0} (P Q : A → Type 0) (r : Result A E) → ((x : A) → P x → Q x) → IfOk r P → IfOk r Q
 if-ok P Q (Ok x) f p = f x p
@@ -88,7 +88,7 @@ module _ (command : Command) (before after held held' : Option (List ℕ)) (faul
   abbrev IsAnswered : Type 0
   IsAnswered = AnswersInput command before after faults faults' held held' sink_faults sink_faults' answer
 
-  answered-fault : (fault : TextFault) → KnowsFault command before after fault → faults' ≡ faults → SaysFault held held' sink_faults sink_faults' answer fault → IsAnswered
+  answered-fault : (fault : TextFault) → KnowsFault command before after fault → faults' ≡ faults → AnswersFault held held' sink_faults sink_faults' answer fault → IsAnswered
   answered-fault fault k read (inl (inl told), none) = inr (inl (record {
     text = fault_text fault;
     still = (read, told.2);
@@ -114,16 +114,16 @@ module _ (command : Command) (before after held held' : Option (List ℕ)) (faul
   }))))
 
   -- what was told of an input that was read
-  pub answered-told : (input : List ℕ) (r : Result Told ScriptFault) → length input ≤ input_limit → ForSome before (λ told. input ≡ told) → ForSome before (λ told. after ≡ Some []) → faults' ≡ faults
-      → IfOk r (λ told. IsTold command input told.journal told.tally told.status told.text)
-      → ((number line : ℕ) → IsErrOf r (At number line) → world_read command input ≡ Err (record { number = number; line = line })) → Says held held' sink_faults sink_faults' answer r → IsAnswered
-  answered-told input (Ok told) short all end read tells faulty (inl written, journal, tally) = inl (record {
+  pub answered-result : (input : List ℕ) (r : Result CommandResult ScriptFault) → length input ≤ input_limit → ForSome before (λ told. input ≡ told) → ForSome before (λ told. after ≡ Some []) → faults' ≡ faults
+      → IfOk r (λ told. IsCommandResult command input told.journal told.tally told.status told.text)
+      → ((number line : ℕ) → IsErrOf r (At number line) → world_read command input ≡ Err (record { number = number; line = line })) → AnswersResult held held' sink_faults sink_faults' answer r → IsAnswered
+  answered-result input (Ok told) short all end read tells faulty (inl written, journal, tally) = inl (record {
     text = told.text;
     still = (read, written.2);
     told = record { input = input; all = all; end = end; tells = rw (written.0, journal, tally) tells };
     written = written.1;
   })
-  answered-told input (Ok told) short all end read tells faulty (inr failed, journal, tally) = inr (inr (inr (inl (record {
+  answered-result input (Ok told) short all end read tells faulty (inr failed, journal, tally) = inr (inr (inr (inl (record {
     text = told.text;
     of = inl (told.status, record { input = input; all = all; end = end; tells = rw (journal, tally) tells });
     front = failed.1;
@@ -131,9 +131,9 @@ module _ (command : Command) (before after held held' : Option (List ℕ)) (faul
     still = read;
     status = failed.0;
   }))))
-  answered-told input (Err (At number line)) short all end read tells faulty says =
+  answered-result input (Err (At number line)) short all end read tells faulty says =
       answered-fault (record { number = number; line = line }) (record { input = input; all = all; end = λ fits. end; past = λ long. absurd (omega arith); is = faulty number line refl }) read says
-  answered-told input (Err NoMemory) short all end read tells faulty (silent, none) = inr (inr (inr (inr (record {
+  answered-result input (Err NoMemory) short all end read tells faulty (silent, none) = inr (inr (inr (inr (record {
     taken = taken;
     kept = silent.1;
     still = (read, silent.2);
@@ -143,7 +143,7 @@ module _ (command : Command) (before after held held' : Option (List ℕ)) (faul
 
   -- an input that was not read to its end
   pub answered-stop : (stop : ReadStop) → (stop ≡ stops.Long → ForSome before (λ told. input_limit < length told)) → (stop ≡ stops.Long → after ≡ without before (input_limit + 1)) → (stop ≡ stops.Fault → HasCause faults faults')
-      → (stop ≡ stops.Long → faults' ≡ faults) → (stop ≡ stops.NoMemory → faults' ≡ faults) → SaysStop held held' sink_faults sink_faults' answer stop → IsAnswered
+      → (stop ≡ stops.Long → faults' ≡ faults) → (stop ≡ stops.NoMemory → faults' ≡ faults) → AnswersStop held held' sink_faults sink_faults' answer stop → IsAnswered
   answered-stop stops.Fault long past cause still_long still_memory (silent, none) = inr (inr (inl (record {
     cause = cause refl;
     still = silent.2;
@@ -164,8 +164,8 @@ module _ (command : Command) (before after held held' : Option (List ℕ)) (faul
 
 -- The answer of `bench`.
 
-pub answered-bench : (seed ranks rounds : ℕ) (held held' : Option (List ℕ)) (sink_faults sink_faults' : ℕ) (answer : Answer) (told : Told)
-    → HasBenched seed ranks rounds told.journal told.tally told.status told.text → Says held held' sink_faults sink_faults' answer (Ok told) → AnswersBench seed ranks rounds held held' sink_faults sink_faults' answer
+pub answered-bench : (seed ranks rounds : ℕ) (held held' : Option (List ℕ)) (sink_faults sink_faults' : ℕ) (answer : Answer) (told : CommandResult)
+    → HasBenched seed ranks rounds told.journal told.tally told.status told.text → AnswersResult held held' sink_faults sink_faults' answer (Ok told) → AnswersBench seed ranks rounds held held' sink_faults sink_faults' answer
 answered-bench seed ranks rounds held held' sink_faults sink_faults' answer told tells (inl written, journal, tally) = inl (record {
   text = told.text;
   still = written.2;

@@ -5,10 +5,10 @@ use Rattle.std.proofs.Math.Nat.{eq-or-lt_of_le}
 use Rattle.std.proofs.lemmas.Bool.{eqb-true, eq-eqb}
 use Rattle.std.proofs.lemmas.List.{map-append}
 use Rattle.std.proofs.lemmas.List.Elements.{All-nil, All-cons, All-append}
-use Rattle.gaspi_types.specs.World.{World, is_caller}
+use Rattle.gaspi_types.specs.World.{ShapeValue, is_caller}
 use Rattle.gaspi_types.specs.declared.events.Event.{Event}
 use Rattle.gaspi_types.specs.declared.shapes.CallerId.{CallerId}
-use Rattle.gaspi_model.specs.Step.{own_calls}
+use Rattle.gaspi_model.specs.Step.{recorded_calls}
 use Rattle.gaspi_model.proofs.Sound.OpenCounts.{count-append}
 use Rattle.gaspi_model.specs.declared.states.State.{State}
 use Rattle.gaspi_model.specs.declared.states.Why.{Why}
@@ -23,10 +23,10 @@ use Rattle.rank_script.specs.declared.scripts.RunOutcome.{RunOutcome}
 use Rattle.rank_script.specs.declared.scripts.RunOutcome.TheVariants as outcomes
 use Rattle.rank_script.specs.declared.scripts.Script.{Script}
 use Rattle.rank_script.specs.declared.scripts.ScriptLine.{ScriptLine}
-use Rattle.gaspi_run.specs.Command.{is_wrong_outcome, is_limit_outcome, is_any_wrong, is_any_limit, run_status, bench_limit, numbers_text, AreClosed, HasBenched}
+use Rattle.gaspi_run.specs.Command.{is_failed_or_stuck, is_limit_outcome, has_failed_or_stuck, is_any_limit, run_status, bench_limit, numbers_text, AreClosed, HasBenched}
 use Rattle.gaspi_run.specs.Endings.{HasLimitCause}
-use Rattle.gaspi_run.specs.Threads.{ToldTally, HasRunWorld}
-use Rattle.gaspi_run.specs.declared.turns.Finished.{Finished}
+use Rattle.gaspi_run.specs.Threads.{AnswerTally, HasRunWorld}
+use Rattle.gaspi_run.specs.declared.schedule_states.EndedCaller.{EndedCaller}
 use Rattle.gaspi_run.proofs.OneOfEach.{counts, found-is, found-all, none-there}
 use Rattle.gaspi_run.proofs.SameCallers.{is-itself, only-itself}
 
@@ -100,47 +100,47 @@ some-counted {A} p (y ∷ xs) some = go (p y) refl (some-counted p xs)
 -- A run of status 0 ended well.
 
 -- an outcome that is neither wrong nor at the limit, and has memory
-ended-well : (w : _) (journal : List Event) (c : CallerId) (lines : _) (o : RunOutcome) → is_wrong_outcome o ≡ false → is_limit_outcome o ≡ false → HasLimitCause w journal c lines o → o ≡ outcomes.Ended
+ended-well : (w : _) (journal : List Event) (c : CallerId) (lines : _) (o : RunOutcome) → is_failed_or_stuck o ≡ false → is_limit_outcome o ≡ false → HasLimitCause w journal c lines o → o ≡ outcomes.Ended
 ended-well w journal c lines outcomes.Ended right room cause = refl
 ended-well w journal c lines (outcomes.Failed line) right room cause = absurd (let no : ⊥ = cc in no)
 ended-well w journal c lines (outcomes.Stuck line) right room cause = absurd (let no : ⊥ = cc in no)
 ended-well w journal c lines (outcomes.Limit line) right room cause = absurd (let no : ⊥ = cc in no)
 ended-well w journal c lines (outcomes.NoMemory line) right room cause = absurd cause
 
-none-wrong : (finished : List Finished) → run_status finished ≡ 0 → (is_any_wrong finished ≡ false) × (is_any_limit finished ≡ false)
-none-wrong finished is = go (is_any_wrong finished) (is_any_limit finished) is
+none-wrong : (finished : List EndedCaller) → run_status finished ≡ 0 → (has_failed_or_stuck finished ≡ false) × (is_any_limit finished ≡ false)
+none-wrong finished is = go (has_failed_or_stuck finished) (is_any_limit finished) is
   where
     go : (a b : Bool) → ◌≡◌ {A = ℕ} (if a then 3 else (if b then 8 else 0)) 0 → (a ≡ false) × (b ≡ false)
     go false false at = (refl, refl)
     go false true at = absurd (omega arith)
     go true b at = absurd (omega arith)
 
-module _ (seed ranks rounds workers limit : ℕ) (journal : List Event) (tally : ToldTally) (finished : List Finished)
+module _ (seed ranks rounds workers limit : ℕ) (journal : List Event) (tally : AnswerTally) (finished : List EndedCaller)
     (ran : HasRunWorld (bench_shape ranks rounds) (bench_scripts seed ranks rounds ranks) workers limit journal tally finished) (well : run_status finished ≡ 0) where
   abbrev lines-of : ℕ → List ScriptLine
   lines-of rank = bench_lines seed ranks rounds rank rounds
 
-  ran-lines : (rank : ℕ) → rank < ranks → IsRun (lines-of rank) (own_calls rank 0 journal) outcomes.Ended
+  ran-lines : (rank : ℕ) → rank < ranks → IsRun (lines-of rank) (recorded_calls rank 0 journal) outcomes.Ended
   ran-lines rank less = go at.1 at.2 (only-itself rank 0 at.1.caller at.3)
     where
-      at : (k : ℕ) × (f : Finished) × (slice_get finished k ≡ Some f) × (is_caller rank 0 f.caller ≡ true)
-      at = some-counted (λ (f : Finished). is_caller rank 0 f.caller) finished (let all = ran.ended.once rank 0 in let one = one-of-each seed ranks rounds ranks rank less in omega arith)
+      at : (k : ℕ) × (f : EndedCaller) × (slice_get finished k ≡ Some f) × (is_caller rank 0 f.caller ≡ true)
+      at = some-counted (λ (f : EndedCaller). is_caller rank 0 f.caller) finished (let all = ran.ended.once rank 0 in let one = one-of-each seed ranks rounds ranks rank less in omega arith)
 
-      go : (f : Finished) → slice_get finished at.0 ≡ Some f → (f.caller.rank ≡ rank) × (f.caller.thread ≡ 0) → IsRun (lines-of rank) (own_calls rank 0 journal) outcomes.Ended
+      go : (f : EndedCaller) → slice_get finished at.0 ≡ Some f → (f.caller.rank ≡ rank) × (f.caller.thread ≡ 0) → IsRun (lines-of rank) (recorded_calls rank 0 journal) outcomes.Ended
       go f there is =
           let has = ran.ended.each at.0 f there in
           let none = none-wrong finished well in
-          let right = none-there (λ (g : Finished). is_wrong_outcome g.outcome) finished none.0 at.0 f there in
-          let room = none-there (λ (g : Finished). is_limit_outcome g.outcome) finished none.1 at.0 f there in
+          let right = none-there (λ (g : EndedCaller). is_failed_or_stuck g.outcome) finished none.0 at.0 f there in
+          let room = none-there (λ (g : EndedCaller). is_limit_outcome g.outcome) finished none.1 at.0 f there in
           let ended = ended-well (bench_shape ranks rounds) journal f.caller has.script.lines f.outcome right room has.limit in
           let found = found-is (is_script_of f.caller) (bench_scripts seed ranks rounds ranks) has.script has.is_script in
           let same = only-itself f.caller.rank f.caller.thread has.script.caller found in
           let rank_is : has.script.caller.rank ≡ rank = same.0 ∙ is.0 in
           let of = found-all (is_script_of f.caller) (IsOfBench seed ranks rounds) (bench_scripts seed ranks rounds ranks) has.script (all-of-bench seed ranks rounds ranks) has.is_script in
           let lines : has.script.lines ≡ lines-of rank = of ∙ ap (λ (r : ℕ). lines-of r) rank_is in
-          let calls : own_calls f.caller.rank f.caller.thread journal ≡ own_calls rank 0 journal = ap (λ (r : ℕ). own_calls r f.caller.thread journal) is.0 ∙ ap (λ (t : ℕ). own_calls rank t journal) is.1 in
-          subst (λ (o : RunOutcome). IsRun (lines-of rank) (own_calls rank 0 journal) o) ended
-          (subst (λ (ps : _). IsRun (lines-of rank) ps f.outcome) calls (subst (λ (ls : _). IsRun ls (own_calls f.caller.rank f.caller.thread journal) f.outcome) lines has.run))
+          let calls : recorded_calls f.caller.rank f.caller.thread journal ≡ recorded_calls rank 0 journal = ap (λ (r : ℕ). recorded_calls r f.caller.thread journal) is.0 ∙ ap (λ (t : ℕ). recorded_calls rank t journal) is.1 in
+          subst (λ (o : RunOutcome). IsRun (lines-of rank) (recorded_calls rank 0 journal) o) ended
+          (subst (λ (ps : _). IsRun (lines-of rank) ps f.outcome) calls (subst (λ (ls : _). IsRun ls (recorded_calls f.caller.rank f.caller.thread journal) f.outcome) lines has.run))
 
   -- it came to the end of every script
   pub bench-ran : (1 ≤ ranks) × (ranks ≤ 16) → (1 ≤ rounds) × (rounds ≤ 5000) → RanToTheEnd seed ranks rounds journal
@@ -181,15 +181,15 @@ module _ (calls : CallsLaw) (transfers : TransfersLaw) (notifications : Notifica
         sum = counted.sum ∙ ap (λ (n : ℕ). n % 2 ^ 64) (ap (λ (s : State). words_until s ranks) same ∙ words seed ranks rounds journal ran);
       }
 
-  pub has-benched : (seed ranks rounds : ℕ) (shape : World) (scripts : List Script) (journal : List Event) (tally : ToldTally) (finished : List Finished) (numbers : Numbers4) (status : ℕ) (text : List ℕ)
+  pub has-benched : (seed ranks rounds : ℕ) (shape : ShapeValue) (scripts : List Script) (journal : List Event) (tally : AnswerTally) (finished : List EndedCaller) (numbers : Numbers4) (status : ℕ) (text : List ℕ)
       → (1 ≤ ranks) × (ranks ≤ 16) → (1 ≤ rounds) × (rounds ≤ 5000) → shape ≡ bench_shape ranks rounds → scripts ≡ bench_scripts seed ranks rounds ranks
       → HasRunWorld shape scripts 1 bench_limit journal tally finished → AreNumbers shape journal numbers → text ≡ numbers_text numbers → status ≡ run_status finished
       → HasBenched seed ranks rounds journal tally status text
   has-benched seed ranks rounds shape scripts journal tally finished numbers status text few short shape_is scripts_are ran counted text_is status_is =
-      let here = subst (λ (w : World). HasRunWorld w (bench_scripts seed ranks rounds ranks) 1 bench_limit journal tally finished) shape_is (subst (λ (ss : List Script). HasRunWorld shape ss 1 bench_limit journal tally finished) scripts_are ran) in
-      let numbered = subst (λ (w : World). AreNumbers w journal numbers) shape_is counted in
+      let here = subst (λ (w : ShapeValue). HasRunWorld w (bench_scripts seed ranks rounds ranks) 1 bench_limit journal tally finished) shape_is (subst (λ (ss : List Script). HasRunWorld shape ss 1 bench_limit journal tally finished) scripts_are ran) in
+      let numbered = subst (λ (w : ShapeValue). AreNumbers w journal numbers) shape_is counted in
       record {
-        finished = finished;
+        ended = finished;
         ran = here;
         numbers = numbers;
         counted = numbered;

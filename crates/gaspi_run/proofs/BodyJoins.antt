@@ -10,7 +10,7 @@ use Rattle.gaspi_types.specs.declared.replies.Ready.{Ready}
 use Rattle.gaspi_types.specs.declared.replies.Ready.TheVariants as ready
 use Rattle.gaspi_types.specs.declared.replies.Reply.{Reply}
 use Rattle.gaspi_types.specs.declared.shapes.CallerId.{CallerId}
-use Rattle.gaspi_types.specs.World.{World}
+use Rattle.gaspi_types.specs.World.{ShapeValue}
 use Rattle.gaspi_model.specs.CollectiveCalls.{joining_call}
 use Rattle.gaspi_model.specs.Step.{reached, answer_in}
 use Rattle.gaspi_model.specs.declared.states.State.{State}
@@ -24,7 +24,7 @@ use Rattle.gaspi_run.specs.Joins.{IsFollowed, AreJoinsFollowed, IsJoinOf}
 abbrev pub Itself : Type 0
 Itself = (s : State) (rank thread id : ℕ) (call : Call) (args : Args) → (row_of call).group ≡ Some id → answer_in s rank thread call ≡ Some (ready.Join args) → joining_call id args ≡ call
 
-module _ (w : World) (c : CallerId) where
+module _ (w : ShapeValue) (c : CallerId) where
   may-join : Itself → (call : Call) (history joins : List Event) → MayHaveJoined w c call history joins → IsJoinOf c call joins
   may-join itself call history joins (inl none) = inl none
   may-join itself call history joins (inr (args, is, found)) = go (reached w history) refl

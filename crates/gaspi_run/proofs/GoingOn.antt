@@ -7,7 +7,7 @@ use Rattle.std.proofs.lemmas.List.{map-append}
 use Rattle.std.proofs.lemmas.List.Sums.{sum_by-cons}
 use Rattle.timeout_state.specs.Looks.{looks_of}
 use Rattle.rank_script.specs.PlainScripts.{IsPlain, MayLook}
-use Rattle.gaspi_types.specs.World.{World}
+use Rattle.gaspi_types.specs.World.{ShapeValue}
 use Rattle.gaspi_types.specs.declared.calls.Call.{Call}
 use Rattle.gaspi_types.specs.declared.calls.Call.TheVariants.{End}
 use Rattle.gaspi_types.specs.declared.calls.Timeout.{Timeout}
@@ -18,22 +18,22 @@ use Rattle.gaspi_types.specs.declared.replies.Reply.{Reply}
 use Rattle.gaspi_types.specs.declared.replies.Reply.TheVariants as replies
 use Rattle.gaspi_types.specs.declared.replies.Reply.TheVariants.{Done}
 use Rattle.gaspi_types.specs.declared.shapes.CallerId.{CallerId}
-use Rattle.gaspi_model.specs.Step.{own_calls}
-use Rattle.commit_table.specs.declared.views.Known.{Known}
+use Rattle.gaspi_model.specs.Step.{recorded_calls}
+use Rattle.commit_table.specs.declared.views.PassView.{PassView}
 use Rattle.commit_table.proofs.Lists.{prefix_self, prefix_trans}
-use Rattle.rank_script.specs.Runs.{Progress, Going, Over, going_on, advanced, is_stuck, is_retried, is_failed, is_timeout, present_of, Follows, IsStopped, IsRun, end_pair}
+use Rattle.rank_script.specs.Runs.{RunPosition, AtLine, RunEnded, at_first_line, advanced, is_stuck, is_retried, is_failed, is_timeout, present_of, Follows, IsStopped, IsRun, end_pair}
 use Rattle.rank_script.specs.declared.scripts.RunOutcome.{RunOutcome}
 use Rattle.rank_script.specs.declared.scripts.RunOutcome.TheVariants as outcomes
 use Rattle.rank_script.specs.declared.scripts.ScriptLine.{ScriptLine}
-use Rattle.gaspi_world.specs.Attempts.{is_full_after}
+use Rattle.gaspi_world.specs.Attempts.{lacks_room_after}
 use Rattle.gaspi_world.specs.Calling.{AreLooks, IsCalled, IsStopped as IsCallStopped, Calls}
 use Rattle.gaspi_world.specs.Waits.{HaveWaited}
 use Rattle.gaspi_world.specs.declared.calling.Stop.{Stop}
 use Rattle.gaspi_world.specs.declared.calling.Stop.TheVariants.{NoMemory, EventLimit}
 use Rattle.gaspi_world.specs.declared.starts.Start.{Start}
 use Rattle.gaspi_run.specs.Looks.{looks_in, bounded, looks_along, HasLookAfter, AreWithin}
-use Rattle.gaspi_run.specs.Runs.{moved, HadNoRoom, WasFull, IsStoppedBefore, HasCause, HasRun}
-use Rattle.gaspi_run.specs.SoFar.{HasNoEnd, HadRoomSoFar, LookedSoFar, ComesTo, HasComeTo}
+use Rattle.gaspi_run.specs.Runs.{moved, LackedRoom, WasFull, IsStoppedBefore, HasCause, HasRun}
+use Rattle.gaspi_run.specs.SoFar.{HasNoEnd, HadRoomSoFar, LookedSoFar, IsAt, HasRunTo}
 use Rattle.gaspi_run.specs.Joins.{AreJoinsFollowed}
 use Rattle.gaspi_run.proofs.BodyJoins.{Itself, joins-itself, end-adds-nothing, followed-both, followed-all, call-follows, end-follows}
 use Rattle.gaspi_run.proofs.OwnCalls.{own-after, own-events, own-more, same-front, no-end-more, no-end-same}
@@ -45,45 +45,45 @@ Pairs = List (Call × Reply)
 -- The laws of runs.
 
 abbrev pub Onward : Type 0
-Onward = (p : Progress) (pairs : Pairs) (line : ScriptLine) (made : ℕ) (lines : List ScriptLine) (reply : Reply)
-    → Follows p pairs (Going line made lines) → Follows p (pairs ++ (line.call, reply) ∷ []) (advanced (Going line made lines) reply)
+Onward = (p : RunPosition) (pairs : Pairs) (line : ScriptLine) (made : ℕ) (lines : List ScriptLine) (reply : Reply)
+    → Follows p pairs (AtLine line made lines) → Follows p (pairs ++ (line.call, reply) ∷ []) (advanced (AtLine line made lines) reply)
 
 abbrev pub Ended : Type 0
-Ended = (lines : List ScriptLine) (pairs : Pairs) (outcome : RunOutcome) → Follows (going_on lines) pairs (Over outcome) → IsRun lines (pairs ++ end_pair) outcome
+Ended = (lines : List ScriptLine) (pairs : Pairs) (outcome : RunOutcome) → Follows (at_first_line lines) pairs (RunEnded outcome) → IsRun lines (pairs ++ end_pair) outcome
 
 abbrev pub Stopped : Type 0
 Stopped = (lines : List ScriptLine) (pairs : Pairs) (line : ScriptLine) (made : ℕ) (rest : List ScriptLine) (outcome : RunOutcome)
-    → Follows (going_on lines) pairs (Going line made rest) → IsStopped line.number outcome → IsRun lines (pairs ++ end_pair) outcome
+    → Follows (at_first_line lines) pairs (AtLine line made rest) → IsStopped line.number outcome → IsRun lines (pairs ++ end_pair) outcome
 
 -- The laws of waits.
 
 abbrev pub WaitsFresh : Type 0
-WaitsFresh = (w : World) (c : CallerId) (v : Known Start Event) → v.mine ≡ [] → HaveWaited w c [] v
+WaitsFresh = (w : ShapeValue) (c : CallerId) (v : PassView Start Event) → v.mine ≡ [] → HaveWaited w c [] v
 
 abbrev pub WaitsCalled : Type 0
-WaitsCalled = (w : World) (c : CallerId) (call : Call) (timeout : Timeout) (reply : Reply) (v n : Known Start Event) (ns : List ℕ) (k : ℕ) → HaveWaited w c ns v
+WaitsCalled = (w : ShapeValue) (c : CallerId) (call : Call) (timeout : Timeout) (reply : Reply) (v n : PassView Start Event) (ns : List ℕ) (k : ℕ) → HaveWaited w c ns v
     → IsCalled w c call timeout reply v n → (reply ≡ replies.Timeout → looks_of timeout ≡ Some k) → HaveWaited w c (ns ++ k ∷ []) n
 
 abbrev pub WaitsStopped : Type 0
-WaitsStopped = (w : World) (c : CallerId) (call : Call) (timeout : Timeout) (full : Bool) (v n : Known Start Event) (ns : List ℕ) → HaveWaited w c ns v → IsCallStopped w c call timeout full v n → HaveWaited w c ns n
+WaitsStopped = (w : ShapeValue) (c : CallerId) (call : Call) (timeout : Timeout) (full : Bool) (v n : PassView Start Event) (ns : List ℕ) → HaveWaited w c ns v → IsCallStopped w c call timeout full v n → HaveWaited w c ns n
 
 -- How many looks the calls of a run have, with one call more.
 
 -- at a line those of the line
-along-line : (limit : ℕ) (p : Progress) (pairs : Pairs) (line : ScriptLine) (made : ℕ) (later : List ScriptLine) (pair : Call × Reply) → Follows p pairs (Going line made later)
+along-line : (limit : ℕ) (p : RunPosition) (pairs : Pairs) (line : ScriptLine) (made : ℕ) (later : List ScriptLine) (pair : Call × Reply) → Follows p pairs (AtLine line made later)
     → looks_along limit p (pairs ++ pair ∷ []) ≡ looks_along limit p pairs ++ looks_in limit line.timeout ∷ []
-along-line limit p [] line made later pair there = ap (λ (q : Progress). looks_along limit q (pair ∷ [])) (sym there)
-along-line limit (Over outcome) (first ∷ pairs) line made later pair there = absurd there
-along-line limit (Going here tried lines) (first ∷ pairs) line made later pair there =
-    ap (λ (ns : List ℕ). looks_in limit here.timeout ∷ ns) (along-line limit (advanced (Going here tried lines) first.1) pairs line made later pair there.1)
+along-line limit p [] line made later pair there = ap (λ (q : RunPosition). looks_along limit q (pair ∷ [])) (sym there)
+along-line limit (RunEnded outcome) (first ∷ pairs) line made later pair there = absurd there
+along-line limit (AtLine here tried lines) (first ∷ pairs) line made later pair there =
+    ap (λ (ns : List ℕ). looks_in limit here.timeout ∷ ns) (along-line limit (advanced (AtLine here tried lines) first.1) pairs line made later pair there.1)
 
 -- anywhere some number
-along-any : (limit : ℕ) (p : Progress) (pairs : Pairs) (pair : Call × Reply) → (k : ℕ) × (looks_along limit p (pairs ++ pair ∷ []) ≡ looks_along limit p pairs ++ k ∷ [])
-along-any limit (Over outcome) [] pair = (1, refl)
-along-any limit (Going line made lines) [] pair = (looks_in limit line.timeout, refl)
-along-any limit (Over outcome) (first ∷ pairs) pair = (let rest = along-any limit (Over outcome) pairs pair in (rest.0, ap (λ (ns : List ℕ). 1 ∷ ns) rest.1))
-along-any limit (Going line made lines) (first ∷ pairs) pair =
-    let rest = along-any limit (advanced (Going line made lines) first.1) pairs pair in
+along-any : (limit : ℕ) (p : RunPosition) (pairs : Pairs) (pair : Call × Reply) → (k : ℕ) × (looks_along limit p (pairs ++ pair ∷ []) ≡ looks_along limit p pairs ++ k ∷ [])
+along-any limit (RunEnded outcome) [] pair = (1, refl)
+along-any limit (AtLine line made lines) [] pair = (looks_in limit line.timeout, refl)
+along-any limit (RunEnded outcome) (first ∷ pairs) pair = (let rest = along-any limit (RunEnded outcome) pairs pair in (rest.0, ap (λ (ns : List ℕ). 1 ∷ ns) rest.1))
+along-any limit (AtLine line made lines) (first ∷ pairs) pair =
+    let rest = along-any limit (advanced (AtLine line made lines) first.1) pairs pair in
     (rest.0, ap (λ (ns : List ℕ). looks_in limit line.timeout ∷ ns) rest.1)
 
 -- A look that was made.
@@ -107,31 +107,31 @@ looked-still history before looks more are (earlier, later, was) = (
 
 -- A run goes on by its lines, and is never stopped by a reply.
 
-abbrev IsNoLimit : Progress → Type 0
-IsNoLimit p = (number : ℕ) → p ≡ Over (outcomes.Limit number) → ⊥
+abbrev IsNoLimit : RunPosition → Type 0
+IsNoLimit p = (number : ℕ) → p ≡ RunEnded (outcomes.Limit number) → ⊥
 
-going-no-limit : (lines : List ScriptLine) → IsNoLimit (going_on lines)
+going-no-limit : (lines : List ScriptLine) → IsNoLimit (at_first_line lines)
 going-no-limit [] number is = cc
 going-no-limit (line ∷ lines) number is = cc
 
-advanced-no-limit : (line : ScriptLine) (made : ℕ) (lines : List ScriptLine) (reply : Reply) → IsNoLimit (advanced (Going line made lines) reply)
+advanced-no-limit : (line : ScriptLine) (made : ℕ) (lines : List ScriptLine) (reply : Reply) → IsNoLimit (advanced (AtLine line made lines) reply)
 advanced-no-limit line made lines reply number = go (is_stuck line reply) (is_retried line made reply) (is_failed line reply)
   where
-    go : (stuck again failed : Bool) → (if stuck then Over (outcomes.Stuck line.number) else (if again then Going line (made + 1) lines else (if failed then Over (outcomes.Failed line.number) else going_on lines))) ≡ Over (outcomes.Limit number) → ⊥
+    go : (stuck again failed : Bool) → (if stuck then RunEnded (outcomes.Stuck line.number) else (if again then AtLine line (made + 1) lines else (if failed then RunEnded (outcomes.Failed line.number) else at_first_line lines))) ≡ RunEnded (outcomes.Limit number) → ⊥
     go true again failed is = cc
     go false true failed is = cc
     go false false true is = cc
     go false false false is = going-no-limit lines number is
 
-module _ (w : World) (c : CallerId) (lines : List ScriptLine) (limit : ℕ) where
+module _ (w : ShapeValue) (c : CallerId) (lines : List ScriptLine) (limit : ℕ) where
   abbrev own : List Event → Pairs
-  own events = own_calls c.rank c.thread events
+  own events = recorded_calls c.rank c.thread events
 
   -- how many looks each of these calls has
   abbrev along : Pairs → List ℕ
-  along pairs = looks_along limit (going_on lines) pairs
+  along pairs = looks_along limit (at_first_line lines) pairs
 
-  pub comes-first : WaitsFresh → (v : Known Start Event) → v.mine ≡ [] → HasComeTo w c lines limit (going_on lines) v v
+  pub comes-first : WaitsFresh → (v : PassView Start Event) → v.mine ≡ [] → HasRunTo w c lines limit (at_first_line lines) v v
   comes-first fresh v none =
       let calls : own v.mine ≡ [] = ap own none in
       record {
@@ -141,7 +141,7 @@ module _ (w : World) (c : CallerId) (lines : List ScriptLine) (limit : ℕ) wher
         waited = subst (λ (ps : Pairs). HaveWaited w c (along ps) v) (sym calls) (fresh w c v none);
         active = λ k reply at. (let no : ⊥ = let here = subst (λ (ps : Pairs). slice_get ps k ≡ Some (End, reply)) calls at in cc in no);
         comes = inl (record {
-          follows = subst (λ (ps : Pairs). Follows (going_on lines) ps (going_on lines)) (sym calls) refl;
+          follows = subst (λ (ps : Pairs). Follows (at_first_line lines) ps (at_first_line lines)) (sym calls) refl;
           no_limit = going-no-limit lines;
           followed = subst (AreJoinsFollowed None) (sym none) tt;
         });
@@ -152,35 +152,35 @@ module _ (w : World) (c : CallerId) (lines : List ScriptLine) (limit : ℕ) wher
           record {
             each = ap (λ (ps : Pairs). length (along ps)) (sym calls);
             within = tt;
-            roomy = λ k h number at was. (let no : ⊥ = cc in no);
+            had_room = λ k h number at was. (let no : ⊥ = cc in no);
           },
           going-no-limit lines,
         );
       }
 
-  module _ (v m n : Known Start Event) (line : ScriptLine) (made : ℕ) (later : List ScriptLine) where
+  module _ (v m n : PassView Start Event) (line : ScriptLine) (made : ℕ) (later : List ScriptLine) where
     -- where the run has come to a line, its calls lead there
-    leads-there : ComesTo w c lines (Going line made later) m → Follows (going_on lines) (own m.mine) (Going line made later)
+    leads-there : IsAt w c lines (AtLine line made later) m → Follows (at_first_line lines) (own m.mine) (AtLine line made later)
     leads-there (inl way) = way.follows
     leads-there (inr (outcome, over, stop)) = cc
 
-    joins-followed : ComesTo w c lines (Going line made later) m → AreJoinsFollowed None m.mine
+    joins-followed : IsAt w c lines (AtLine line made later) m → AreJoinsFollowed None m.mine
     joins-followed (inl way) = way.followed
     joins-followed (inr (outcome, over, stop)) = cc
 
     -- and there was room at each look so far
-    had-room : (looks : List (List (List Event))) → LookedSoFar w c lines limit (Going line made later) looks m → HadRoomSoFar w c lines limit looks m
+    had-room : (looks : List (List (List Event))) → LookedSoFar w c lines limit (AtLine line made later) looks m → HadRoomSoFar w c lines limit looks m
     had-room looks (inl had) = had.0
     had-room looks (inr (outcome, over, stop)) = (let no : ⊥ = cc in absurd no)
 
-    comes-called : Onward → Itself → WaitsCalled → (reply : Reply) → (line.call ≡ End → ⊥) → HasComeTo w c lines limit (Going line made later) v m → IsCalled w c line.call (bounded limit line.timeout) reply m n
-        → HasComeTo w c lines limit (advanced (Going line made later) reply) v n
+    comes-called : Onward → Itself → WaitsCalled → (reply : Reply) → (line.call ≡ End → ⊥) → HasRunTo w c lines limit (AtLine line made later) v m → IsCalled w c line.call (bounded limit line.timeout) reply m n
+        → HasRunTo w c lines limit (advanced (AtLine line made later) reply) v n
     comes-called onward itself on reply plain so_far called =
         let before = own-after w c line.call called.earlier called.last m.mine called.joins called.joined in
         let calls : own n.mine ≡ own m.mine ++ (line.call, reply) ∷ [] = ap own called.mine ∙ (own-more c (m.mine ++ called.joins) line.call reply ∙ ap (λ (ps : Pairs). ps ++ (line.call, reply) ∷ []) before) in
         let had = had-room so_far.looks so_far.room in
         let hs = called.earlier ++ called.last ∷ [] in
-        let grown : along (own n.mine) ≡ along (own m.mine) ++ looks_in limit line.timeout ∷ [] = ap along calls ∙ along-line limit (going_on lines) (own m.mine) line made later (line.call, reply) (leads-there so_far.comes) in
+        let grown : along (own n.mine) ≡ along (own m.mine) ++ looks_in limit line.timeout ∷ [] = ap along calls ∙ along-line limit (at_first_line lines) (own m.mine) line made later (line.call, reply) (leads-there so_far.comes) in
         let bare : own called.before ≡ own m.mine =
         same-front (own called.before) (own m.mine) (line.call, reply) (line.call, reply)
         (sym (own-more c called.before line.call reply) ∙ (ap own (sym called.ends) ∙ (sym (own-events c n.seen) ∙ (ap own called.goes_on.own ∙ calls)))) in
@@ -190,7 +190,7 @@ module _ (w : World) (c : CallerId) (lines : List ScriptLine) (limit : ℕ) wher
           seen = prefix_trans v.seen m.seen n.seen so_far.seen called.goes_on.seen;
           party = called.goes_on.party ∙ so_far.party;
           start = called.goes_on.start ∙ so_far.start;
-          waited = subst (λ (ns : List ℕ). HaveWaited w c ns n) (sym (ap along calls ∙ along-line limit (going_on lines) (own m.mine) line made later (line.call, reply) (leads-there so_far.comes)))
+          waited = subst (λ (ns : List ℕ). HaveWaited w c ns n) (sym (ap along calls ∙ along-line limit (at_first_line lines) (own m.mine) line made later (line.call, reply) (leads-there so_far.comes)))
               (on w c line.call (bounded limit line.timeout) reply m n (along (own m.mine)) (looks_in limit line.timeout) so_far.waited called (λ late. refl));
           looks = so_far.looks ++ hs ∷ [];
           looked = subst (AreLooks w c v n) (sym (all-more so_far.looks hs)) (looks-both w c v m n (all so_far.looks) hs so_far.seen called.goes_on.seen so_far.looked called.looks);
@@ -200,8 +200,8 @@ module _ (w : World) (c : CallerId) (lines : List ScriptLine) (limit : ℕ) wher
             record {
               each = (let a = length-append so_far.looks (hs ∷ []) in let b = ap length grown in let d = length-append (along (own m.mine)) (looks_in limit line.timeout ∷ []) in let e = had.each in omega arith);
               within = subst (AreWithin (so_far.looks ++ hs ∷ [])) (sym grown) (within-one so_far.looks (along (own m.mine)) hs (looks_in limit line.timeout) had.each had.within (line-looks limit line.timeout called.earlier called.last called.within));
-              roomy = λ k h number at was.
-                  let full = last-full w c lines m.mine line made later (leads-there so_far.comes) (all so_far.looks) called.earlier called.last same had.roomy called.roomy k h number
+              had_room = λ k h number at was.
+                  let full = last-full w c lines m.mine line made later (leads-there so_far.comes) (all so_far.looks) called.earlier called.last same had.had_room called.had_room k h number
                   (subst (λ (ks : List (List Event)). slice_get ks k ≡ Some h) (all-more so_far.looks hs) at) was in
                   (let no : true ≡ false = sym full.0 ∙ called.room in let never : ⊥ = cc in never);
             },
@@ -209,7 +209,7 @@ module _ (w : World) (c : CallerId) (lines : List ScriptLine) (limit : ℕ) wher
           );
           active = subst (HasNoEnd c) (sym called.mine) (no-end-more c (m.mine ++ called.joins) line.call reply plain (no-end-same c (m.mine ++ called.joins) m.mine before so_far.active));
           comes = inl (record {
-            follows = subst (λ (ps : Pairs). Follows (going_on lines) ps (advanced (Going line made later) reply)) (sym calls) (onward (going_on lines) (own m.mine) line made later reply (leads-there so_far.comes));
+            follows = subst (λ (ps : Pairs). Follows (at_first_line lines) ps (advanced (AtLine line made later) reply)) (sym calls) (onward (at_first_line lines) (own m.mine) line made later reply (leads-there so_far.comes));
             no_limit = advanced-no-limit line made later reply;
             followed = subst (AreJoinsFollowed None) (sym (called.mine ∙ append_assoc m.mine called.joins (Called c line.call reply ∷ [])))
                 (followed-both None m.mine (called.joins ++ Called c line.call reply ∷ []) (joins-followed so_far.comes) (call-follows c line.call reply called.joins (joins-itself w c itself line.call called.earlier called.last called.joins called.joined)));
@@ -217,7 +217,7 @@ module _ (w : World) (c : CallerId) (lines : List ScriptLine) (limit : ℕ) wher
         }
 
     comes-stopped : Itself → WaitsStopped → (full : Bool) (outcome : RunOutcome) → IsStopped line.number outcome → (outcome ≡ outcomes.Limit line.number → full ≡ true) → (full ≡ true → outcome ≡ outcomes.Limit line.number)
-        → HasComeTo w c lines limit (Going line made later) v m → IsCallStopped w c line.call (bounded limit line.timeout) full m n → HasComeTo w c lines limit (Over outcome) v n
+        → HasRunTo w c lines limit (AtLine line made later) v m → IsCallStopped w c line.call (bounded limit line.timeout) full m n → HasRunTo w c lines limit (RunEnded outcome) v n
     comes-stopped itself still full outcome is_stopped no_room limited so_far stop =
         let calls : own n.mine ≡ own m.mine = ap own stop.mine ∙ own-after w c line.call stop.earlier stop.last m.mine stop.joins stop.joined in
         let had = had-room so_far.looks so_far.room in
@@ -240,11 +240,11 @@ module _ (w : World) (c : CallerId) (lines : List ScriptLine) (limit : ℕ) wher
               line = line;
               made = made;
               later = later;
-              follows = subst (λ (ps : Pairs). Follows (going_on lines) ps (Going line made later)) (sym calls) (leads-there so_far.comes);
+              follows = subst (λ (ps : Pairs). Follows (at_first_line lines) ps (AtLine line made later)) (sym calls) (leads-there so_far.comes);
               within = subst (λ (ps : Pairs). AreWithin (so_far.looks ++ hs ∷ []) (along ps ++ looks_in limit line.timeout ∷ [])) (sym calls)
                   (within-one so_far.looks (along (own m.mine)) hs (looks_in limit line.timeout) had.each had.within (line-looks limit line.timeout stop.earlier stop.last stop.within));
               full = λ k h number at was.
-                  let told = last-full w c lines m.mine line made later (leads-there so_far.comes) (all so_far.looks) stop.earlier stop.last same had.roomy stop.roomy k h number
+                  let told = last-full w c lines m.mine line made later (leads-there so_far.comes) (all so_far.looks) stop.earlier stop.last same had.had_room stop.had_room k h number
                   (subst (λ (ks : List (List Event)). slice_get ks k ≡ Some h) (all-more so_far.looks hs) at) was in
                   (limited (sym stop.room ∙ told.0) ∙ ap (λ (number : ℕ). outcomes.Limit number) told.1.0, told.1.1 ∙ ap length (sym (all-more so_far.looks hs)));
               at_limit = λ number is.
@@ -263,7 +263,7 @@ module _ (w : World) (c : CallerId) (lines : List ScriptLine) (limit : ℕ) wher
                       made = made;
                       later = later;
                       is_line = number_is;
-                      follows = subst (λ (ps : Pairs). Follows (going_on lines) ps (Going line made later)) (sym own_last) (leads-there so_far.comes);
+                      follows = subst (λ (ps : Pairs). Follows (at_first_line lines) ps (AtLine line made later)) (sym own_last) (leads-there so_far.comes);
                       full = stop.room ∙ no_room line_is;
                     },
                   );
@@ -277,14 +277,14 @@ module _ (w : World) (c : CallerId) (lines : List ScriptLine) (limit : ℕ) wher
               line = line;
               made = made;
               later = later;
-              follows = subst (λ (ps : Pairs). Follows (going_on lines) ps (Going line made later)) (sym calls) (leads-there so_far.comes);
+              follows = subst (λ (ps : Pairs). Follows (at_first_line lines) ps (AtLine line made later)) (sym calls) (leads-there so_far.comes);
               is_stopped = is_stopped;
               cause = λ is. record {
                 history = n.seen;
                 begins = prefix_self n.seen;
                 events = stop.goes_on.own;
                 looked = looked-last m.looks n.looks stop.earlier stop.last n.seen stop.looks.looks (stop.now (no_room is));
-                full = ap (is_full_after w c line.call) (sym (stop.now (no_room is))) ∙ (stop.room ∙ no_room is);
+                full = ap (lacks_room_after w c line.call) (sym (stop.now (no_room is))) ∙ (stop.room ∙ no_room is);
               };
               before = m.mine;
               followed = joins-followed so_far.comes;
@@ -299,14 +299,14 @@ module _ (w : World) (c : CallerId) (lines : List ScriptLine) (limit : ℕ) wher
         stopped-at number is (inl limit) = limit
         stopped-at number is (inr memory) = (let never : outcomes.Limit number ≡ outcomes.NoMemory line.number = sym is ∙ memory in let no : ⊥ = cc in absurd no)
 
-    pub comes-going : Onward → Itself → WaitsCalled → WaitsStopped → (r : Result Reply Stop) → (line.call ≡ End → ⊥) → HasComeTo w c lines limit (Going line made later) v m → Calls w c line.call (bounded limit line.timeout) m r n
-        → HasComeTo w c lines limit (moved (Going line made later) r) v n
+    pub comes-going : Onward → Itself → WaitsCalled → WaitsStopped → (r : Result Reply Stop) → (line.call ≡ End → ⊥) → HasRunTo w c lines limit (AtLine line made later) v m → Calls w c line.call (bounded limit line.timeout) m r n
+        → HasRunTo w c lines limit (moved (AtLine line made later) r) v n
     comes-going onward itself on still (Ok reply) plain so_far told = comes-called onward itself on reply plain so_far told
     comes-going onward itself on still (Err EventLimit) plain so_far told = comes-stopped itself still true (outcomes.Limit line.number) (inl refl) (λ is. refl) (λ is. refl) so_far told
     comes-going onward itself on still (Err NoMemory) plain so_far told = comes-stopped itself still false (outcomes.NoMemory line.number) (inr refl) (λ is. (let no : ⊥ = cc in absurd no)) (λ is. (let no : ⊥ = cc in absurd no)) so_far told
 
   -- the end makes the run whole
-  pub has-run : Ended → Stopped → WaitsCalled → (v m n : Known Start Event) (outcome : RunOutcome) → HasComeTo w c lines limit (Over outcome) v m → IsCalled w c End (Looks 1) Done m n
+  pub has-run : Ended → Stopped → WaitsCalled → (v m n : PassView Start Event) (outcome : RunOutcome) → HasRunTo w c lines limit (RunEnded outcome) v m → IsCalled w c End (Looks 1) Done m n
       → HasRun w c lines limit outcome v n
   has-run ended stopped on v m n outcome so_far called = record {
     goes_on = record {
@@ -340,36 +340,36 @@ module _ (w : World) (c : CallerId) (lines : List ScriptLine) (limit : ℕ) wher
 
       -- the end has some number of looks, and never times out
       one : (k : ℕ) × (along (own m.mine ++ end_pair) ≡ along (own m.mine) ++ k ∷ [])
-      one = along-any limit (going_on lines) (own m.mine) (End, Done)
+      one = along-any limit (at_first_line lines) (own m.mine) (End, Done)
 
       -- no call made more looks than its line has
-      few : LookedSoFar w c lines limit (Over outcome) so_far.looks m → AreWithin so_far.looks (along (own n.mine))
+      few : LookedSoFar w c lines limit (RunEnded outcome) so_far.looks m → AreWithin so_far.looks (along (own n.mine))
       few (inl had) = subst (AreWithin so_far.looks) (sym (ap along calls ∙ one.1)) (within-more so_far.looks (along (own m.mine)) (one.0 ∷ []) had.0.within)
       few (inr (o, over, stop)) =
-          subst (AreWithin so_far.looks) (sym (ap along calls ∙ along-line limit (going_on lines) (own m.mine) stop.line stop.made stop.later (End, Done) stop.follows)) stop.within
+          subst (AreWithin so_far.looks) (sym (ap along calls ∙ along-line limit (at_first_line lines) (own m.mine) stop.line stop.made stop.later (End, Done) stop.follows)) stop.within
 
-      no-room : LookedSoFar w c lines limit (Over outcome) so_far.looks m → (k : ℕ) (h : List Event) (number : ℕ) → slice_get (all so_far.looks) k ≡ Some h → WasFull w c lines h number
+      no-room : LookedSoFar w c lines limit (RunEnded outcome) so_far.looks m → (k : ℕ) (h : List Event) (number : ℕ) → slice_get (all so_far.looks) k ≡ Some h → WasFull w c lines h number
           → (outcome ≡ outcomes.Limit number) × (suc k ≡ length (all so_far.looks))
-      no-room (inl had) k h number at was = absurd (had.0.roomy k h number at was)
+      no-room (inl had) k h number at was = absurd (had.0.had_room k h number at was)
       no-room (inr (o, over, stop)) k h number at was =
           let same : o ≡ outcome = cc in
           let told = stop.full k h number at was in
           (sym same ∙ told.0, told.1)
 
       -- and where it was stopped for want of room, there was none at a look of the line's call
-      came : LookedSoFar w c lines limit (Over outcome) so_far.looks m → (number : ℕ) → outcome ≡ outcomes.Limit number → (k : ℕ) × (h : List Event) × (slice_get (all so_far.looks) k ≡ Some h) × WasFull w c lines h number
-      came (inl had) number is = absurd (had.1 number (ap (λ (o : RunOutcome). Over o) is))
+      came : LookedSoFar w c lines limit (RunEnded outcome) so_far.looks m → (number : ℕ) → outcome ≡ outcomes.Limit number → (k : ℕ) × (h : List Event) × (slice_get (all so_far.looks) k ≡ Some h) × WasFull w c lines h number
+      came (inl had) number is = absurd (had.1 number (ap (λ (o : RunOutcome). RunEnded o) is))
       came (inr (o, over, stop)) number is =
           let same : o ≡ outcome = cc in
           stop.at_limit number (same ∙ is)
 
-      whole : ComesTo w c lines (Over outcome) m → IsRun lines (own m.mine ++ end_pair) outcome
+      whole : IsAt w c lines (RunEnded outcome) m → IsRun lines (own m.mine ++ end_pair) outcome
       whole (inl way) = ended lines (own m.mine) outcome way.follows
       whole (inr (o, over, stop)) =
           let same : o ≡ outcome = cc in
           stopped lines (own m.mine) stop.line stop.made stop.later outcome stop.follows (subst (IsStopped stop.line.number) same stop.is_stopped)
 
-      at-limit : (number : ℕ) → ComesTo w c lines (Over (outcomes.Limit number)) m → HadNoRoom w c lines number n
+      at-limit : (number : ℕ) → IsAt w c lines (RunEnded (outcomes.Limit number)) m → LackedRoom w c lines number n
       at-limit number (inl way) = absurd (way.no_limit number refl)
       at-limit number (inr (o, over, stop)) =
           let same : o ≡ outcomes.Limit number = cc in
@@ -383,7 +383,7 @@ module _ (w : World) (c : CallerId) (lines : List ScriptLine) (limit : ℕ) wher
             is_line = number_is;
             history = cause.history;
             begins = prefix_trans cause.history m.seen n.seen cause.begins called.goes_on.seen;
-            follows = subst (λ (ps : Pairs). Follows (going_on lines) ps (Going stop.line stop.made stop.later)) (sym (ap own cause.events) ∙ own-events c cause.history) stop.follows;
+            follows = subst (λ (ps : Pairs). Follows (at_first_line lines) ps (AtLine stop.line stop.made stop.later)) (sym (ap own cause.events) ∙ own-events c cause.history) stop.follows;
             events = ap (λ (es : List Event). es ++ Called c End Done ∷ []) cause.events ∙ sym ends;
             looked = looked-still cause.history m.looks n.looks (map length (called.earlier ++ called.last ∷ [])) called.looks.looks cause.looked;
             full = cause.full;
@@ -394,11 +394,11 @@ module _ (w : World) (c : CallerId) (lines : List ScriptLine) (limit : ℕ) wher
           limit-is (inr is) = cc
 
       -- the call that was not made
-      left-unmade : ComesTo w c lines (Over outcome) m → Option Call
+      left-unmade : IsAt w c lines (RunEnded outcome) m → Option Call
       left-unmade (inl way) = None
       left-unmade (inr (o, over, stop)) = Some stop.line.call
 
-      before-it : (come : ComesTo w c lines (Over outcome) m) → (call : Call) → left-unmade come ≡ Some call → IsStoppedBefore w c lines outcome n call
+      before-it : (come : IsAt w c lines (RunEnded outcome) m) → (call : Call) → left-unmade come ≡ Some call → IsStoppedBefore w c lines outcome n call
       before-it (inl way) call is = absurd (let no : ⊥ = cc in no)
       before-it (inr (o, over, stop)) call is =
           let same : o ≡ outcome = cc in
@@ -414,14 +414,14 @@ module _ (w : World) (c : CallerId) (lines : List ScriptLine) (limit : ℕ) wher
             is_stopped = subst (IsStopped stop.line.number) same stop.is_stopped;
           }
 
-      all-followed : (come : ComesTo w c lines (Over outcome) m) → AreJoinsFollowed (left-unmade come) (m.mine ++ Called c End Done ∷ [])
+      all-followed : (come : IsAt w c lines (RunEnded outcome) m) → AreJoinsFollowed (left-unmade come) (m.mine ++ Called c End Done ∷ [])
       all-followed (inl way) = followed-both None m.mine (Called c End Done ∷ []) way.followed tt
       all-followed (inr (o, over, stop)) =
           subst (λ (es : List Event). AreJoinsFollowed (Some stop.line.call) (es ++ Called c End Done ∷ [])) (sym stop.mine)
           (subst (AreJoinsFollowed (Some stop.line.call)) (sym (append_assoc stop.before stop.joins (Called c End Done ∷ [])))
           (followed-both (Some stop.line.call) stop.before (stop.joins ++ Called c End Done ∷ []) (followed-all (Some stop.line.call) stop.before stop.followed) (end-follows c stop.line.call Done stop.joins stop.joined)))
 
-      caused : (o : RunOutcome) → ComesTo w c lines (Over o) m → HasCause w c lines o n
+      caused : (o : RunOutcome) → IsAt w c lines (RunEnded o) m → HasCause w c lines o n
       caused outcomes.Ended come = tt
       caused (outcomes.Failed number) come = tt
       caused (outcomes.Stuck number) come = tt
@@ -430,23 +430,23 @@ module _ (w : World) (c : CallerId) (lines : List ScriptLine) (limit : ℕ) wher
 
 -- The lines that are left of a run.
 
-abbrev pub AllLeft : (ScriptLine → Type 0) → Progress → Type 0
-AllLeft P (Going line made later) = P line × All P later
-AllLeft P (Over outcome) = Unit {0}
+abbrev pub AllLeft : (ScriptLine → Type 0) → RunPosition → Type 0
+AllLeft P (AtLine line made later) = P line × All P later
+AllLeft P (RunEnded outcome) = Unit {0}
 
-all-going : (P : ScriptLine → Type 0) (lines : List ScriptLine) → All P lines → AllLeft P (going_on lines)
+all-going : (P : ScriptLine → Type 0) (lines : List ScriptLine) → All P lines → AllLeft P (at_first_line lines)
 all-going P [] all = tt
 all-going P (line ∷ lines) all = (All-head P line lines all, All-tail P line lines all)
 
-pub all-left : (P : ScriptLine → Type 0) (p : Progress) (r : Result Reply Stop) → AllLeft P p → AllLeft P (moved p r)
-all-left P (Over outcome) (Ok reply) all = tt
-all-left P (Over outcome) (Err EventLimit) all = tt
-all-left P (Over outcome) (Err NoMemory) all = tt
-all-left P (Going line made lines) (Err EventLimit) all = tt
-all-left P (Going line made lines) (Err NoMemory) all = tt
-all-left P (Going line made lines) (Ok reply) all = go (is_stuck line reply) (is_retried line made reply) (is_failed line reply)
+pub all-left : (P : ScriptLine → Type 0) (p : RunPosition) (r : Result Reply Stop) → AllLeft P p → AllLeft P (moved p r)
+all-left P (RunEnded outcome) (Ok reply) all = tt
+all-left P (RunEnded outcome) (Err EventLimit) all = tt
+all-left P (RunEnded outcome) (Err NoMemory) all = tt
+all-left P (AtLine line made lines) (Err EventLimit) all = tt
+all-left P (AtLine line made lines) (Err NoMemory) all = tt
+all-left P (AtLine line made lines) (Ok reply) all = go (is_stuck line reply) (is_retried line made reply) (is_failed line reply)
   where
-    go : (stuck again failed : Bool) → AllLeft P (if stuck then Over (outcomes.Stuck line.number) else (if again then Going line (made + 1) lines else (if failed then Over (outcomes.Failed line.number) else going_on lines)))
+    go : (stuck again failed : Bool) → AllLeft P (if stuck then RunEnded (outcomes.Stuck line.number) else (if again then AtLine line (made + 1) lines else (if failed then RunEnded (outcomes.Failed line.number) else at_first_line lines)))
     go true again failed = tt
     go false true failed = all
     go false false true = tt
@@ -456,21 +456,21 @@ all-left P (Going line made lines) (Ok reply) all = go (is_stuck line reply) (is
 abbrev pub line_left : ScriptLine → ℕ
 line_left line = line.tries + 1
 
-abbrev pub left : Progress → ℕ
-left (Over outcome) = 0
-left (Going line made lines) = line.tries - made + 1 + sum_by line_left lines
+abbrev pub left : RunPosition → ℕ
+left (RunEnded outcome) = 0
+left (AtLine line made lines) = line.tries - made + 1 + sum_by line_left lines
 
-left-going : (lines : List ScriptLine) → left (going_on lines) ≤ sum_by line_left lines
+left-going : (lines : List ScriptLine) → left (at_first_line lines) ≤ sum_by line_left lines
 left-going [] = omega arith
 left-going (line ∷ lines) = (let sum = sum_by-cons line_left line lines in omega arith)
 
-pub left-less : (line : ScriptLine) (made : ℕ) (lines : List ScriptLine) (r : Result Reply Stop) → left (moved (Going line made lines) r) < left (Going line made lines)
+pub left-less : (line : ScriptLine) (made : ℕ) (lines : List ScriptLine) (r : Result Reply Stop) → left (moved (AtLine line made lines) r) < left (AtLine line made lines)
 left-less line made lines (Err EventLimit) = omega arith
 left-less line made lines (Err NoMemory) = omega arith
 left-less line made lines (Ok reply) = go (is_stuck line reply) (is_timeout reply) (nat_lt (made + 1) line.tries) refl (is_failed line reply)
   where
     go : (stuck times again : Bool) → nat_lt (made + 1) line.tries ≡ again → (failed : Bool)
-        → left (if stuck then Over (outcomes.Stuck line.number) else (if times && again then Going line (made + 1) lines else (if failed then Over (outcomes.Failed line.number) else going_on lines))) < left (Going line made lines)
+        → left (if stuck then RunEnded (outcomes.Stuck line.number) else (if times && again then AtLine line (made + 1) lines else (if failed then RunEnded (outcomes.Failed line.number) else at_first_line lines))) < left (AtLine line made lines)
     go true times again is failed = omega arith
     go false true true is failed = (let more = ltb-true (made + 1) line.tries is in omega arith)
     go false true false is true = omega arith
@@ -487,29 +487,29 @@ all-usable [] plain looks = All-nil IsUsable
 all-usable (line ∷ lines) plain looks =
     All-cons IsUsable line lines (All-head IsPlain line lines plain, All-head MayLook line lines looks) (all-usable lines (All-tail IsPlain line lines plain) (All-tail MayLook line lines looks))
 
-pub usable-first : (lines : List ScriptLine) → All IsPlain lines → All MayLook lines → AllLeft IsUsable (going_on lines)
+pub usable-first : (lines : List ScriptLine) → All IsPlain lines → All MayLook lines → AllLeft IsUsable (at_first_line lines)
 usable-first lines plain looks = all-going IsUsable lines (all-usable lines plain looks)
 
 -- The present line.
 
-going-there : (p : Progress) (call : Call) (given : Timeout) → Some (call, given) ≡ present_of p
-    → (line : ScriptLine) × (made : ℕ) × (later : List ScriptLine) × (p ≡ Going line made later) × (line.call ≡ call) × (line.timeout ≡ given)
-going-there (Over outcome) call given is = absurd (let no : ⊥ = cc in no)
-going-there (Going line made later) call given is =
+going-there : (p : RunPosition) (call : Call) (given : Timeout) → Some (call, given) ≡ present_of p
+    → (line : ScriptLine) × (made : ℕ) × (later : List ScriptLine) × (p ≡ AtLine line made later) × (line.call ≡ call) × (line.timeout ≡ given)
+going-there (RunEnded outcome) call given is = absurd (let no : ⊥ = cc in no)
+going-there (AtLine line made later) call given is =
     let pair : ◌≡◌ {A = Call × Timeout} (call, given) (line.call, line.timeout) = cc in
     (line, made, later, refl, ap (λ (x : Call × Timeout). x.0) (sym pair), ap (λ (x : Call × Timeout). x.1) (sym pair))
 
-pub left-smaller : (p : Progress) (call : Call) (given : Timeout) (r : Result Reply Stop) → Some (call, given) ≡ present_of p → left (moved p r) < left p
+pub left-smaller : (p : RunPosition) (call : Call) (given : Timeout) (r : Result Reply Stop) → Some (call, given) ≡ present_of p → left (moved p r) < left p
 left-smaller p call given r is =
     let there = going-there p call given is in
-    subst (λ (q : Progress). left (moved q r) < left q) (sym there.3) (left-less there.0 there.1 there.2 r)
+    subst (λ (q : RunPosition). left (moved q r) < left q) (sym there.3) (left-less there.0 there.1 there.2 r)
 
-pub comes-next : (w : World) (c : CallerId) (lines : List ScriptLine) (limit : ℕ) → Onward → Itself → WaitsCalled → WaitsStopped → (v m n : Known Start Event) (p : Progress) (call : Call) (given timeout : Timeout) (r : Result Reply Stop)
-    → Some (call, given) ≡ present_of p → timeout ≡ bounded limit given → AllLeft IsUsable p → HasComeTo w c lines limit p v m → Calls w c call timeout m r n → HasComeTo w c lines limit (moved p r) v n
+pub comes-next : (w : ShapeValue) (c : CallerId) (lines : List ScriptLine) (limit : ℕ) → Onward → Itself → WaitsCalled → WaitsStopped → (v m n : PassView Start Event) (p : RunPosition) (call : Call) (given timeout : Timeout) (r : Result Reply Stop)
+    → Some (call, given) ≡ present_of p → timeout ≡ bounded limit given → AllLeft IsUsable p → HasRunTo w c lines limit p v m → Calls w c call timeout m r n → HasRunTo w c lines limit (moved p r) v n
 comes-next w c lines limit onward itself on still v m n p call given timeout r is looks all so_far told =
     let there = going-there p call given is in
     let usable = subst (AllLeft IsUsable) there.3 all in
     let bounds : timeout ≡ bounded limit there.0.timeout = looks ∙ ap (bounded limit) (sym there.5) in
-    subst (λ (q : Progress). HasComeTo w c lines limit (moved q r) v n) (sym there.3)
-    (comes-going w c lines limit v m n there.0 there.1 there.2 onward itself on still r usable.0.0 (subst (λ (q : Progress). HasComeTo w c lines limit q v m) there.3 so_far)
+    subst (λ (q : RunPosition). HasRunTo w c lines limit (moved q r) v n) (sym there.3)
+    (comes-going w c lines limit v m n there.0 there.1 there.2 onward itself on still r usable.0.0 (subst (λ (q : RunPosition). HasRunTo w c lines limit q v m) there.3 so_far)
     (subst (λ (x : Call). Calls w c x (bounded limit there.0.timeout) m r n) (sym there.4) (subst (λ (t : Timeout). Calls w c call t m r n) bounds told)))

@@ -11,11 +11,11 @@ use Rattle.gaspi_types.specs.declared.replies.Ready.TheVariants as ready
 use Rattle.gaspi_types.specs.declared.replies.Refusal.{Refusal}
 use Rattle.gaspi_types.specs.declared.replies.Reply.{Reply}
 use Rattle.gaspi_types.specs.declared.shapes.CallerId.{CallerId}
-use Rattle.gaspi_model.specs.Calls.{answer, call_finds, ready_of}
+use Rattle.gaspi_model.specs.Calls.{answer, call_result, ready_of}
 use Rattle.gaspi_model.specs.CollectiveCalls.{is_joining, joining_call, group_of, join_event}
 use Rattle.gaspi_model.specs.Sound.{IsSound}
 use Rattle.gaspi_model.specs.State.{is_running, thread_at}
-use Rattle.gaspi_model.specs.Step.{step, answer_in, call_memory, is_active, is_pending, room_taken}
+use Rattle.gaspi_model.specs.Step.{step, answer_in, call_memory, is_active, is_pending, used_room}
 use Rattle.gaspi_model.specs.declared.states.Posts.{Posts}
 use Rattle.gaspi_model.specs.declared.states.State.{State}
 use Rattle.rank_script.specs.declared.scripts.ScriptLine.{ScriptLine}
@@ -34,7 +34,7 @@ plain-joins-not : (s : State) (rank thread : ℕ) (call : Call) (posts : Posts) 
 plain-joins-not s rank thread call posts args = go (is_running (thread_at posts thread)) refl
   where
     go : (b : Bool) → is_running (thread_at posts thread) ≡ b → answer s.limits rank posts (call_memory s rank posts call) thread call ≡ ready.Join args → ⊥
-    go true running is = ready-joins-not (call_finds s.limits rank posts (call_memory s rank posts call) call) args (rw running at is)
+    go true running is = ready-joins-not (call_result s.limits rank posts (call_memory s rank posts call) call) args (rw running at is)
     go false ended is = let never = rw ended at is in cc
 
 pub join-has-group : (s : State) (rank thread : ℕ) (call : Call) (args : Args) → answer_in s rank thread call ≡ Some (ready.Join args) → (row_of call).group ≡ Some (group_of call)
@@ -48,18 +48,18 @@ join-has-group s rank thread call args is = by-posts (slice_get s.posts rank) re
 -- What the laws of the machine come to, for the schedule.
 
 joins-are-steps : ((s : State) (rank thread id : ℕ) (call : Call) (args : Args) → IsSound s → is_active s rank thread ≡ true
-    → room_taken s rank + need_of call (is_pending s rank thread call) false ≤ s.limits.events → (row_of call).group ≡ Some id
+    → used_room s rank + need_of call (is_pending s rank thread call) false ≤ s.limits.events → (row_of call).group ≡ Some id
     → answer_in s rank thread call ≡ Some (ready.Join args) → IsOk (step s (Joined (record { rank = rank; thread = thread }) id args))) → JoinsAreSteps
 joins-are-steps law s c line args sound active room answers =
     law s c.rank c.thread (group_of line.call) line.call args sound active room (join-has-group s c.rank c.thread line.call args answers) answers
 
 pub join-laws : ((s t : State) (e : Event) → step s e ≡ Ok t → t.limits ≡ s.limits)
     → ((s : State) (rank thread id : ℕ) (call : Call) (args : Args) → IsSound s → is_active s rank thread ≡ true
-    → room_taken s rank + need_of call (is_pending s rank thread call) false ≤ s.limits.events → (row_of call).group ≡ Some id
+    → used_room s rank + need_of call (is_pending s rank thread call) false ≤ s.limits.events → (row_of call).group ≡ Some id
     → answer_in s rank thread call ≡ Some (ready.Join args) → IsOk (step s (Joined (record { rank = rank; thread = thread }) id args)))
     → ((s : State) (rank thread id : ℕ) (call : Call) (args : Args) → (row_of call).group ≡ Some id → answer_in s rank thread call ≡ Some (ready.Join args) → joining_call id args ≡ call)
     → ((s t : State) (c : CallerId) (call : Call) (id : ℕ) (args : Args) → IsSound s → (row_of call).group ≡ Some id → step s (Joined c id args) ≡ Ok t
-    → (is_pending t c.rank c.thread call ≡ true) × (room_taken t c.rank ≡ room_taken s c.rank + 1))
+    → (is_pending t c.rank c.thread call ≡ true) × (used_room t c.rank ≡ used_room s c.rank + 1))
     → ((s : State) (rank thread : ℕ) (call : Call) (found : Ready) → is_pending s rank thread call ≡ true → answer_in s rank thread call ≡ Some found → is_joining found ≡ false)
     → ((call : Call) (id : ℕ) → (row_of call).group ≡ Some id → (need_of call false false ≡ 2) × (need_of call true false ≡ 1))
     → JoinLaws
@@ -79,7 +79,7 @@ join-laws stay join itself joined pending needs = record {
         go true is = absurd (let never : is_joining (ready.Join args) ≡ false = pending s c.rank c.thread line.call (ready.Join args) is answers in let no : ⊥ = cc in no)
 
     keeps-room : (s t : State) (c : CallerId) (line : ScriptLine) (args : Args) → IsSound s → answer_in s c.rank c.thread line.call ≡ Some (ready.Join args)
-        → room_taken s c.rank + present_need s c line ≤ s.limits.events → step s (join_event c line.call args) ≡ Ok t → room_taken t c.rank + present_need t c line ≤ t.limits.events
+        → used_room s c.rank + present_need s c line ≤ s.limits.events → step s (join_event c line.call args) ≡ Ok t → used_room t c.rank + present_need t c line ≤ t.limits.events
     keeps-room s t c line args sound answers room made =
         let named = join-has-group s c.rank c.thread line.call args answers in
         let after = joined s t c line.call (group_of line.call) args sound named made in

@@ -16,11 +16,11 @@ pub mod OwnValues
 pub mod RanWorlds
 pub mod RunLines
 pub mod RunLooks
-pub mod RunParts
+pub mod BodyRuns
 pub mod Running
 pub mod RunningAll
 pub mod RunningEnds
-pub mod RunningTurns
+pub mod Iterations
 pub mod SameCallers
 pub mod ScheduleLoop
 pub mod Started

@@ -3,20 +3,20 @@ use Rattle.std.proofs.Common.{◌≡◌, ◌⊎◌, ℕ, zero, suc, ◌+◌, ◌
 use Rattle.std.specs.List.{slice_get, flat_map}
 use Rattle.std.proofs.lemmas.List.{map-append}
 use mathlib.Core.List.{IsPrefix}
-use Rattle.gaspi_types.specs.World.{World}
+use Rattle.gaspi_types.specs.World.{ShapeValue}
 use Rattle.gaspi_types.specs.declared.calls.Call.{Call}
 use Rattle.gaspi_types.specs.declared.calls.Timeout.{Timeout}
 use Rattle.gaspi_types.specs.declared.events.Event.{Event}
 use Rattle.gaspi_types.specs.declared.replies.Reply.{Reply}
 use Rattle.gaspi_types.specs.declared.shapes.CallerId.{CallerId}
-use Rattle.gaspi_model.specs.Step.{own_calls}
+use Rattle.gaspi_model.specs.Step.{recorded_calls}
 use Rattle.timeout_state.specs.Looks.{looks_of}
-use Rattle.commit_table.specs.declared.views.Known.{Known}
+use Rattle.commit_table.specs.declared.views.PassView.{PassView}
 use Rattle.commit_table.proofs.Lists.{prefix_trans, prefix_both}
-use Rattle.rank_script.specs.Runs.{Progress, Going, Over, going_on, advanced, Follows}
+use Rattle.rank_script.specs.Runs.{RunPosition, AtLine, RunEnded, at_first_line, advanced, Follows}
 use Rattle.rank_script.specs.declared.scripts.ScriptLine.{ScriptLine}
-use Rattle.gaspi_world.specs.Attempts.{is_full_after}
-use Rattle.gaspi_world.specs.Calling.{HadRoom, AreLooks}
+use Rattle.gaspi_world.specs.Attempts.{lacks_room_after}
+use Rattle.gaspi_world.specs.Calling.{HadRoomAtLooks, AreLooks}
 use Rattle.gaspi_world.proofs.SpentLooks.{prefix-own}
 use Rattle.gaspi_run.specs.Looks.{looks_in, bounded, AreWithin, AreByCall}
 use Rattle.gaspi_run.specs.Runs.{WasFull}
@@ -65,18 +65,18 @@ within-more (first ∷ looks) [] more within = absurd within
 within-more (first ∷ looks) (n ∷ numbers) more within = (within.0, within-more looks numbers more within.1)
 
 -- calls lead to one point of a run
-pub follows-one : (p : Progress) (pairs : List (Call × Reply)) (q r : Progress) → Follows p pairs q → Follows p pairs r → q ≡ r
+pub follows-one : (p : RunPosition) (pairs : List (Call × Reply)) (q r : RunPosition) → Follows p pairs q → Follows p pairs r → q ≡ r
 follows-one p [] q r a b = a ∙ sym b
-follows-one (Over outcome) (pair ∷ pairs) q r a b = absurd a
-follows-one (Going line made lines) (pair ∷ pairs) q r a b = follows-one (advanced (Going line made lines) pair.1) pairs q r a.1 b.1
+follows-one (RunEnded outcome) (pair ∷ pairs) q r a b = absurd a
+follows-one (AtLine line made lines) (pair ∷ pairs) q r a b = follows-one (advanced (AtLine line made lines) pair.1) pairs q r a.1 b.1
 
 -- Between what was seen, with all calls of a caller, and a history that has no more of them, there are no more.
-pub same-between : (c : CallerId) (mine seen between upper : List Event) → IsPrefix (own_calls c.rank c.thread mine) (own_calls c.rank c.thread seen) → IsPrefix seen between → IsPrefix between upper
-    → own_calls c.rank c.thread upper ≡ own_calls c.rank c.thread mine → own_calls c.rank c.thread between ≡ own_calls c.rank c.thread mine
+pub same-between : (c : CallerId) (mine seen between upper : List Event) → IsPrefix (recorded_calls c.rank c.thread mine) (recorded_calls c.rank c.thread seen) → IsPrefix seen between → IsPrefix between upper
+    → recorded_calls c.rank c.thread upper ≡ recorded_calls c.rank c.thread mine → recorded_calls c.rank c.thread between ≡ recorded_calls c.rank c.thread mine
 same-between c mine seen between upper first more rest same =
-    prefix_both (own_calls c.rank c.thread between) (own_calls c.rank c.thread mine)
-    (subst (IsPrefix (own_calls c.rank c.thread between)) same (prefix-own c between upper rest))
-    (prefix_trans (own_calls c.rank c.thread mine) (own_calls c.rank c.thread seen) (own_calls c.rank c.thread between) first (prefix-own c seen between more))
+    prefix_both (recorded_calls c.rank c.thread between) (recorded_calls c.rank c.thread mine)
+    (subst (IsPrefix (recorded_calls c.rank c.thread between)) same (prefix-own c between upper rest))
+    (prefix_trans (recorded_calls c.rank c.thread mine) (recorded_calls c.rank c.thread seen) (recorded_calls c.rank c.thread between) first (prefix-own c seen between more))
 
 -- of one look there is none earlier
 pub none-earlier : (earlier : Histories) → length earlier < 1 → earlier ≡ []
@@ -89,24 +89,24 @@ line-looks limit timeout earlier last within = (let few = within (looks_in limit
 
 -- the looks of one call more
 pub by-call-more : (c : CallerId) (before seen : List Event) (looks : List Histories) (more : Histories) (many : ℕ) → IsPrefix before seen → AreByCall c before looks → length looks ≡ many
-    → ((j : ℕ) (h : List Event) → slice_get more j ≡ Some h → IsPrefix h seen × (length (own_calls c.rank c.thread h) ≡ many)) → AreByCall c seen (looks ++ more ∷ [])
+    → ((j : ℕ) (h : List Event) → slice_get more j ≡ Some h → IsPrefix h seen × (length (recorded_calls c.rank c.thread h) ≡ many)) → AreByCall c seen (looks ++ more ∷ [])
 by-call-more c before seen looks more many goes so_far count now i j ks h at there = go (at-both looks (more ∷ []) i ks at)
   where
-    go : (slice_get looks i ≡ Some ks) ⊎ ((k : ℕ) × (i ≡ length looks + k) × (slice_get (more ∷ []) k ≡ Some ks)) → IsPrefix h seen × (length (own_calls c.rank c.thread h) ≡ i)
+    go : (slice_get looks i ≡ Some ks) ⊎ ((k : ℕ) × (i ≡ length looks + k) × (slice_get (more ∷ []) k ≡ Some ks)) → IsPrefix h seen × (length (recorded_calls c.rank c.thread h) ≡ i)
     go (inl old) = (let was = so_far i j ks h old there in (prefix_trans h before seen was.0 goes, was.1))
     go (inr (k, is, only)) =
         let one = at-one more k ks only in
         let new = now j h (subst (λ (x : Histories). slice_get x j ≡ Some h) one.1 there) in
         let zero_is = one.0 in
         let long = new.1 in
-        (new.0, (let same : length (own_calls c.rank c.thread h) ≡ i = omega arith in same))
+        (new.0, (let same : length (recorded_calls c.rank c.thread h) ≡ i = omega arith in same))
 
 pub by-call-later : (c : CallerId) (before seen : List Event) (looks : List Histories) → IsPrefix before seen → AreByCall c before looks → AreByCall c seen looks
 by-call-later c before seen looks goes so_far i j ks h at there = (let was = so_far i j ks h at there in (prefix_trans h before seen was.0 goes, was.1))
 
-module _ {S : Type 0} (w : World) (c : CallerId) where
+module _ {S : Type 0} (w : ShapeValue) (c : CallerId) where
   -- looks of two calls
-  pub looks-both : (v m n : Known S Event) (a b : Histories) → IsPrefix v.seen m.seen → IsPrefix m.seen n.seen → AreLooks w c v m a → AreLooks w c m n b → AreLooks w c v n (a ++ b)
+  pub looks-both : (v m n : PassView S Event) (a b : Histories) → IsPrefix v.seen m.seen → IsPrefix m.seen n.seen → AreLooks w c v m a → AreLooks w c m n b → AreLooks w c v n (a ++ b)
   looks-both v m n a b first more before now = record {
     looks = now.looks ∙ (ap (λ (ks : List ℕ). ks ++ map length b) before.looks ∙ (append_assoc v.looks (map length a) (map length b) ∙ ap (λ (ks : List ℕ). v.looks ++ ks) (sym (map-append length a b))));
     between = λ k h at. go k h (at-both a b k h at);
@@ -116,28 +116,28 @@ module _ {S : Type 0} (w : World) (c : CallerId) where
       go k h (inl at) = ((before.between k h at).0, prefix_trans h m.seen n.seen (before.between k h at).1 more)
       go k h (inr (j, is, at)) = (prefix_trans v.seen m.seen h first (now.between j h at).0, (now.between j h at).1)
 
-module _ (w : World) (c : CallerId) (lines : List ScriptLine) (mine : List Event) (line : ScriptLine) (made : ℕ) (later : List ScriptLine)
-    (there : Follows (going_on lines) (own_calls c.rank c.thread mine) (Going line made later)) where
+module _ (w : ShapeValue) (c : CallerId) (lines : List ScriptLine) (mine : List Event) (line : ScriptLine) (made : ℕ) (later : List ScriptLine)
+    (there : Follows (at_first_line lines) (recorded_calls c.rank c.thread mine) (AtLine line made later)) where
   -- after a history with these calls alone the run had come to this line
-  pub full-here : (h : List Event) (number : ℕ) → own_calls c.rank c.thread h ≡ own_calls c.rank c.thread mine → WasFull w c lines h number → (is_full_after w c line.call h ≡ true) × (line.number ≡ number)
+  pub full-here : (h : List Event) (number : ℕ) → recorded_calls c.rank c.thread h ≡ recorded_calls c.rank c.thread mine → WasFull w c lines h number → (lacks_room_after w c line.call h ≡ true) × (line.number ≡ number)
   full-here h number same was =
-      let one : Going was.line was.made was.later ≡ Going line made later =
-      follows-one (going_on lines) (own_calls c.rank c.thread mine) (Going was.line was.made was.later) (Going line made later) (subst (λ (ps : List (Call × Reply)). Follows (going_on lines) ps (Going was.line was.made was.later)) same was.follows) there in
+      let one : AtLine was.line was.made was.later ≡ AtLine line made later =
+      follows-one (at_first_line lines) (recorded_calls c.rank c.thread mine) (AtLine was.line was.made was.later) (AtLine line made later) (subst (λ (ps : List (Call × Reply)). Follows (at_first_line lines) ps (AtLine was.line was.made was.later)) same was.follows) there in
       let is : was.line ≡ line = cc in
-      (ap (λ (l : ScriptLine). is_full_after w c l.call h) (sym is) ∙ was.full, ap (λ (l : ScriptLine). l.number) (sym is) ∙ was.is_line)
+      (ap (λ (l : ScriptLine). lacks_room_after w c l.call h) (sym is) ∙ was.full, ap (λ (l : ScriptLine). l.number) (sym is) ∙ was.is_line)
 
-  pub not-full : (h : List Event) (number : ℕ) → own_calls c.rank c.thread h ≡ own_calls c.rank c.thread mine → is_full_after w c line.call h ≡ false → WasFull w c lines h number → ⊥
+  pub not-full : (h : List Event) (number : ℕ) → recorded_calls c.rank c.thread h ≡ recorded_calls c.rank c.thread mine → lacks_room_after w c line.call h ≡ false → WasFull w c lines h number → ⊥
   not-full h number same room was = (let here = full-here h number same was in let no : true ≡ false = sym here.0 ∙ room in let never : ⊥ = cc in never)
 
-  module _ (before : Histories) (earlier : Histories) (last : List Event) (same : (j : ℕ) (h : List Event) → slice_get (earlier ++ last ∷ []) j ≡ Some h → own_calls c.rank c.thread h ≡ own_calls c.rank c.thread mine)
-      (so_far : (k : ℕ) (h : List Event) (number : ℕ) → slice_get before k ≡ Some h → WasFull w c lines h number → ⊥) (roomy : HadRoom w c line.call earlier) where
+  module _ (before : Histories) (earlier : Histories) (last : List Event) (same : (j : ℕ) (h : List Event) → slice_get (earlier ++ last ∷ []) j ≡ Some h → recorded_calls c.rank c.thread h ≡ recorded_calls c.rank c.thread mine)
+      (so_far : (k : ℕ) (h : List Event) (number : ℕ) → slice_get before k ≡ Some h → WasFull w c lines h number → ⊥) (roomy : HadRoomAtLooks w c line.call earlier) where
     -- there was no room at the last look alone
     pub last-full : (k : ℕ) (h : List Event) (number : ℕ) → slice_get (before ++ (earlier ++ last ∷ [])) k ≡ Some h → WasFull w c lines h number
-        → (is_full_after w c line.call last ≡ true) × ((line.number ≡ number) × (suc k ≡ length (before ++ (earlier ++ last ∷ []))))
+        → (lacks_room_after w c line.call last ≡ true) × ((line.number ≡ number) × (suc k ≡ length (before ++ (earlier ++ last ∷ []))))
     last-full k h number at was = go (at-both before (earlier ++ last ∷ []) k h at)
       where
         now : (j : ℕ) → k ≡ length before + j → slice_get (earlier ++ last ∷ []) j ≡ Some h → (slice_get earlier j ≡ Some h) ⊎ ((i : ℕ) × (j ≡ length earlier + i) × (slice_get (last ∷ []) i ≡ Some h))
-            → (is_full_after w c line.call last ≡ true) × ((line.number ≡ number) × (suc k ≡ length (before ++ (earlier ++ last ∷ []))))
+            → (lacks_room_after w c line.call last ≡ true) × ((line.number ≡ number) × (suc k ≡ length (before ++ (earlier ++ last ∷ []))))
         now j is here (inl early) = absurd (not-full h number (same j h here) (roomy j h early) was)
         now j is here (inr (i, at_end, only)) =
             let one = at-one last i h only in
@@ -145,8 +145,8 @@ module _ (w : World) (c : CallerId) (lines : List ScriptLine) (mine : List Event
             let long = length-append before (earlier ++ last ∷ []) in
             let longer = length-append earlier (last ∷ []) in
             let zero_is = one.0 in
-            (ap (is_full_after w c line.call) (sym one.1) ∙ full.0, (full.1, (let end : suc k ≡ length (before ++ (earlier ++ last ∷ [])) = omega arith in end)))
+            (ap (lacks_room_after w c line.call) (sym one.1) ∙ full.0, (full.1, (let end : suc k ≡ length (before ++ (earlier ++ last ∷ [])) = omega arith in end)))
 
-        go : (slice_get before k ≡ Some h) ⊎ ((j : ℕ) × (k ≡ length before + j) × (slice_get (earlier ++ last ∷ []) j ≡ Some h)) → (is_full_after w c line.call last ≡ true) × ((line.number ≡ number) × (suc k ≡ length (before ++ (earlier ++ last ∷ []))))
+        go : (slice_get before k ≡ Some h) ⊎ ((j : ℕ) × (k ≡ length before + j) × (slice_get (earlier ++ last ∷ []) j ≡ Some h)) → (lacks_room_after w c line.call last ≡ true) × ((line.number ≡ number) × (suc k ≡ length (before ++ (earlier ++ last ∷ []))))
         go (inl old) = absurd (so_far k h number old was)
         go (inr (j, is, here)) = now j is here (at-both earlier (last ∷ []) j h here)

@@ -5,27 +5,27 @@ use Rattle.std.proofs.lemmas.Bool.{eqb-true, eqb-false, eq-eqb}
 use Rattle.std.proofs.lemmas.List.Elements.{filter-append}
 use Rattle.std.proofs.lemmas.List.Sums.{sum_by-cons, get_or-le-sum_by}
 use Rattle.std.proofs.lemmas.Option.{slice_get_within, get_or_from_slice_get}
-use Rattle.gaspi_types.specs.World.{World, is_caller}
+use Rattle.gaspi_types.specs.World.{ShapeValue, is_caller}
 use Rattle.gaspi_types.specs.declared.shapes.CallerId.{CallerId}
 use Rattle.gaspi_types.specs.declared.calls.Call.{Call}
 use Rattle.gaspi_types.specs.declared.replies.Reply.{Reply}
 use Rattle.gaspi_types.specs.declared.events.Event.{Event}
 use Rattle.gaspi_types.specs.declared.events.Event.TheVariants.{Called, Joined, Take, Put}
-use Rattle.gaspi_model.specs.Step.{reached, room_taken, own_calls, is_active, is_pending}
+use Rattle.gaspi_model.specs.Step.{reached, used_room, recorded_calls, is_active, is_pending}
 use Rattle.gaspi_model.specs.declared.states.State.{State}
 use Rattle.gaspi_model.proofs.OwnCalls.{own_calls-append}
 use Rattle.gaspi_types.proofs.Items.{slice_get-set_same, slice_get-set_other}
-use Rattle.rank_script.specs.Runs.{Progress, Going, Over, going_on, advanced, stopped, is_stuck, is_retried, is_failed, Follows, IsRun}
+use Rattle.rank_script.specs.Runs.{RunPosition, AtLine, RunEnded, at_first_line, advanced, stopped, is_stuck, is_retried, is_failed, Follows, IsRun}
 use Rattle.rank_script.specs.WorldText.{is_script_of}
 use Rattle.rank_script.specs.declared.scripts.Script.{Script}
 use Rattle.rank_script.specs.declared.scripts.ScriptLine.{ScriptLine}
 use Rattle.rank_script.specs.declared.scripts.RunOutcome.{RunOutcome}
 use Rattle.rank_script.specs.declared.scripts.RunOutcome.TheVariants as outcomes
-use Rattle.gaspi_run.specs.declared.turns.Finished.{Finished}
+use Rattle.gaspi_run.specs.declared.schedule_states.EndedCaller.{EndedCaller}
 use Rattle.gaspi_run.specs.Joins.{AreJoinsFollowed}
 use Rattle.gaspi_run.specs.Endings.{present_need, is_own, own_events, HasLimitCause, HasEnded}
-use Rattle.gaspi_run.specs.declared.turns.Waiting.{Waiting}
-use Rattle.gaspi_run.specs.declared.turns.Turns.{Turns}
+use Rattle.gaspi_run.specs.declared.schedule_states.ActiveCaller.{ActiveCaller}
+use Rattle.gaspi_run.specs.declared.schedule_states.ScheduleState.{ScheduleState}
 use Rattle.call_journal.proofs.OwnCalls.{own_of}
 use Rattle.gaspi_run.proofs.JoinsFollowed.{AreFollowedSoFar, ends_joined}
 
@@ -54,11 +54,11 @@ no-call rank thread (Put origin queue target number outcome) none = refl
 
 -- Callers that are counted.
 
-abbrev pub waiting_count : ℕ → ℕ → List Waiting → ℕ
-waiting_count rank thread ws = count_by (λ (x : Waiting). is_caller rank thread x.caller) ws
+abbrev pub waiting_count : ℕ → ℕ → List ActiveCaller → ℕ
+waiting_count rank thread ws = count_by (λ (x : ActiveCaller). is_caller rank thread x.caller) ws
 
-abbrev pub finished_count : ℕ → ℕ → List Finished → ℕ
-finished_count rank thread fs = count_by (λ (f : Finished). is_caller rank thread f.caller) fs
+abbrev pub finished_count : ℕ → ℕ → List EndedCaller → ℕ
+finished_count rank thread fs = count_by (λ (f : EndedCaller). is_caller rank thread f.caller) fs
 
 one-if : Bool → ℕ
 one-if b = cond b 1 0
@@ -95,61 +95,61 @@ count-two {A} p (z ∷ xs) (suc i) (suc j) x y ati atj apart px py =
 
 -- Lines of a script.
 
-over-stays : (outcome : RunOutcome) (pairs : List (Call × Reply)) (line : ScriptLine) (tried : ℕ) (rest : List ScriptLine) → Follows (Over outcome) pairs (Going line tried rest) → ⊥
+over-stays : (outcome : RunOutcome) (pairs : List (Call × Reply)) (line : ScriptLine) (tried : ℕ) (rest : List ScriptLine) → Follows (RunEnded outcome) pairs (AtLine line tried rest) → ⊥
 over-stays outcome [] line tried rest follows = let no : ⊥ = cc in no
 over-stays outcome (pair ∷ pairs) line tried rest follows = follows
 
 -- the lines that a run may still come to, the present one first
-lines-left : Progress → List ScriptLine
-lines-left (Over outcome) = []
-lines-left (Going line tried lines) = line ∷ lines
+lines-left : RunPosition → List ScriptLine
+lines-left (RunEnded outcome) = []
+lines-left (AtLine line tried lines) = line ∷ lines
 
 -- a line that a run may come to after a reply is one that it could come to before
-left-before : (p : Progress) (reply : Reply) (line : ScriptLine) (place : ℕ) → slice_get (lines-left (advanced p reply)) place ≡ Some line
+left-before : (p : RunPosition) (reply : Reply) (line : ScriptLine) (place : ℕ) → slice_get (lines-left (advanced p reply)) place ≡ Some line
     → (before : ℕ) × (slice_get (lines-left p) before ≡ Some line)
 unfolding lines-left
-left-before (Over outcome) reply line place at = (place, at)
-left-before (Going first tried lines) reply line place at = stuck-or (is_stuck first reply) at
+left-before (RunEnded outcome) reply line place at = (place, at)
+left-before (AtLine first tried lines) reply line place at = stuck-or (is_stuck first reply) at
   where
-    none : (outcome : RunOutcome) → slice_get (lines-left (Over outcome)) place ≡ Some line → (before : ℕ) × (slice_get (first ∷ lines) before ≡ Some line)
+    none : (outcome : RunOutcome) → slice_get (lines-left (RunEnded outcome)) place ≡ Some line → (before : ℕ) × (slice_get (first ∷ lines) before ≡ Some line)
     none outcome found = absurd (let never : ⊥ = cc in never)
 
-    next : (ls : List ScriptLine) (k : ℕ) → slice_get (lines-left (going_on ls)) k ≡ Some line → slice_get ls k ≡ Some line
+    next : (ls : List ScriptLine) (k : ℕ) → slice_get (lines-left (at_first_line ls)) k ≡ Some line → slice_get ls k ≡ Some line
     next [] k e = e
     next (l ∷ ls) k e = e
 
-    failed-or : (b : Bool) → slice_get (lines-left (if b then Over (outcomes.Failed first.number) else going_on lines)) place ≡ Some line
+    failed-or : (b : Bool) → slice_get (lines-left (if b then RunEnded (outcomes.Failed first.number) else at_first_line lines)) place ≡ Some line
         → (before : ℕ) × (slice_get (first ∷ lines) before ≡ Some line)
     failed-or true e = none (outcomes.Failed first.number) e
     failed-or false e = (suc place, next lines place e)
 
-    repeated-or : (b : Bool) → slice_get (lines-left (if b then Going first (tried + 1) lines else (if is_failed first reply then Over (outcomes.Failed first.number) else going_on lines))) place ≡ Some line
+    repeated-or : (b : Bool) → slice_get (lines-left (if b then AtLine first (tried + 1) lines else (if is_failed first reply then RunEnded (outcomes.Failed first.number) else at_first_line lines))) place ≡ Some line
         → (before : ℕ) × (slice_get (first ∷ lines) before ≡ Some line)
     repeated-or true e = (place, e)
     repeated-or false e = failed-or (is_failed first reply) e
 
-    stuck-or : (b : Bool) → slice_get (lines-left (if b then Over (outcomes.Stuck first.number) else (if is_retried first tried reply then Going first (tried + 1) lines
-        else (if is_failed first reply then Over (outcomes.Failed first.number) else going_on lines)))) place ≡ Some line
+    stuck-or : (b : Bool) → slice_get (lines-left (if b then RunEnded (outcomes.Stuck first.number) else (if is_retried first tried reply then AtLine first (tried + 1) lines
+        else (if is_failed first reply then RunEnded (outcomes.Failed first.number) else at_first_line lines)))) place ≡ Some line
         → (before : ℕ) × (slice_get (first ∷ lines) before ≡ Some line)
     stuck-or true e = none (outcomes.Stuck first.number) e
     stuck-or false e = repeated-or (is_retried first tried reply) e
 
 -- a line that a run comes to is one that it could come to
-line-left : (p : Progress) (pairs : List (Call × Reply)) (line : ScriptLine) (tried : ℕ) (rest : List ScriptLine) → Follows p pairs (Going line tried rest)
+line-left : (p : RunPosition) (pairs : List (Call × Reply)) (line : ScriptLine) (tried : ℕ) (rest : List ScriptLine) → Follows p pairs (AtLine line tried rest)
     → (place : ℕ) × (slice_get (lines-left p) place ≡ Some line)
 unfolding lines-left
-line-left p [] line tried rest follows = (0, subst (λ (q : Progress). slice_get (lines-left q) 0 ≡ Some line) follows refl)
-line-left (Over outcome) (pair ∷ pairs) line tried rest follows = absurd follows
-line-left (Going first made lines) (pair ∷ pairs) line tried rest follows =
-    let later = line-left (advanced (Going first made lines) pair.1) pairs line tried rest follows.1 in
-    left-before (Going first made lines) pair.1 line later.0 later.1
+line-left p [] line tried rest follows = (0, subst (λ (q : RunPosition). slice_get (lines-left q) 0 ≡ Some line) follows refl)
+line-left (RunEnded outcome) (pair ∷ pairs) line tried rest follows = absurd follows
+line-left (AtLine first made lines) (pair ∷ pairs) line tried rest follows =
+    let later = line-left (advanced (AtLine first made lines) pair.1) pairs line tried rest follows.1 in
+    left-before (AtLine first made lines) pair.1 line later.0 later.1
 
 -- a line that a run comes to is one of the script's
-pub line-there : (lines : List ScriptLine) (pairs : List (Call × Reply)) (line : ScriptLine) (tried : ℕ) (rest : List ScriptLine) → Follows (going_on lines) pairs (Going line tried rest)
+pub line-there : (lines : List ScriptLine) (pairs : List (Call × Reply)) (line : ScriptLine) (tried : ℕ) (rest : List ScriptLine) → Follows (at_first_line lines) pairs (AtLine line tried rest)
     → (place : ℕ) × (slice_get lines place ≡ Some line)
 unfolding lines-left
 line-there [] pairs line tried rest follows = absurd (over-stays outcomes.Ended pairs line tried rest follows)
-line-there (l ∷ lines) pairs line tried rest follows = line-left (Going l 0 lines) pairs line tried rest follows
+line-there (l ∷ lines) pairs line tried rest follows = line-left (AtLine l 0 lines) pairs line tried rest follows
 
 pub find-there : {A : Type 0} (p : A → Bool) (xs : List A) (x : A) → find p xs ≡ Some x → (k : ℕ) × (slice_get xs k ≡ Some x)
 find-there p [] x h = absurd (let no : ⊥ = cc in no)
@@ -162,11 +162,11 @@ find-there {A} p (y ∷ xs) x h = go (p y) h (λ e. find-there p xs x e)
 -- How far the run of a caller has come, in a history.
 
 -- it was stopped before a line, since its rank had no room after the history that all its calls stand in
-pub record WasStopped (w : World) (journal : List Event) (c : CallerId) (lines : List ScriptLine) (outcome : RunOutcome) : Type 0 where
+pub record WasStopped (w : ShapeValue) (journal : List Event) (c : CallerId) (lines : List ScriptLine) (outcome : RunOutcome) : Type 0 where
   pub line : ScriptLine
   pub tried : ℕ
   pub rest : List ScriptLine
-  pub follows : Follows (going_on lines) (own_calls c.rank c.thread journal) (Going line tried rest)
+  pub follows : Follows (at_first_line lines) (recorded_calls c.rank c.thread journal) (AtLine line tried rest)
   pub limit : outcome ≡ outcomes.Limit line.number
   pub before : List Event
   pub later : List Event
@@ -174,39 +174,39 @@ pub record WasStopped (w : World) (journal : List Event) (c : CallerId) (lines :
   pub events : own_events c.rank c.thread before ≡ own_events c.rank c.thread journal
   pub state : State
   pub leads : reached w before ≡ Ok state
-  pub full : w.limits.events < room_taken state c.rank + present_need state c line
+  pub full : w.limits.events < used_room state c.rank + present_need state c line
   pub joins : AreFollowedSoFar (Some line.call) (own_events c.rank c.thread journal)
 
 -- the call that comes next
-abbrev pub present : Progress → Option Call
-present (Over outcome) = None
-present (Going line tried lines) = Some line.call
+abbrev pub present : RunPosition → Option Call
+present (RunEnded outcome) = None
+present (AtLine line tried lines) = Some line.call
 
-abbrev pub HasCome : World → List Event → CallerId → List ScriptLine → Progress → Type 0
+abbrev pub HasCome : ShapeValue → List Event → CallerId → List ScriptLine → RunPosition → Type 0
 HasCome w journal c lines p =
-    (Follows (going_on lines) (own_calls c.rank c.thread journal) p × AreFollowedSoFar (present p) (own_events c.rank c.thread journal)) ⊎ ((outcome : RunOutcome) × (p ≡ Over outcome) × WasStopped w journal c lines outcome)
+    (Follows (at_first_line lines) (recorded_calls c.rank c.thread journal) p × AreFollowedSoFar (present p) (own_events c.rank c.thread journal)) ⊎ ((outcome : RunOutcome) × (p ≡ RunEnded outcome) × WasStopped w journal c lines outcome)
 
 -- of a run that goes on
-pub come-going : (w : World) (journal : List Event) (c : CallerId) (all : List ScriptLine) (p : Progress) (line : ScriptLine) (tried : ℕ) (lines : List ScriptLine) → p ≡ Going line tried lines → HasCome w journal c all p
-    → Follows (going_on all) (own_calls c.rank c.thread journal) (Going line tried lines) × AreFollowedSoFar (Some line.call) (own_events c.rank c.thread journal)
+pub come-going : (w : ShapeValue) (journal : List Event) (c : CallerId) (all : List ScriptLine) (p : RunPosition) (line : ScriptLine) (tried : ℕ) (lines : List ScriptLine) → p ≡ AtLine line tried lines → HasCome w journal c all p
+    → Follows (at_first_line all) (recorded_calls c.rank c.thread journal) (AtLine line tried lines) × AreFollowedSoFar (Some line.call) (own_events c.rank c.thread journal)
 come-going w journal c all p line tried lines going (inl f) =
-    (subst (λ (q : Progress). Follows (going_on all) (own_calls c.rank c.thread journal) q) going f.0, subst (λ (q : Progress). AreFollowedSoFar (present q) (own_events c.rank c.thread journal)) going f.1)
+    (subst (λ (q : RunPosition). Follows (at_first_line all) (recorded_calls c.rank c.thread journal) q) going f.0, subst (λ (q : RunPosition). AreFollowedSoFar (present q) (own_events c.rank c.thread journal)) going f.1)
 come-going w journal c all p line tried lines going (inr stopped) =
-    absurd (let over : ◌≡◌ {A = Progress} (Going line tried lines) (Over stopped.0) = sym going ∙ stopped.1 in let no : ⊥ = cc in no)
+    absurd (let over : ◌≡◌ {A = RunPosition} (AtLine line tried lines) (RunEnded stopped.0) = sym going ∙ stopped.1 in let no : ⊥ = cc in no)
 
-pub record Goes (w : World) (scripts : List Script) (journal : List Event) (x : Waiting) : Type 0 where
+pub record Goes (w : ShapeValue) (scripts : List Script) (journal : List Event) (x : ActiveCaller) : Type 0 where
   pub script : Script
   pub is_script : find (is_script_of x.caller) scripts ≡ Some script
   pub come : HasCome w journal x.caller script.lines x.cursor
 
 -- what each turn keeps of the callers
-pub record IsRunning (w : World) (scripts : List Script) (t : Turns) : Type 0 where
-  pub active : (place : ℕ) (x : Waiting) → slice_get t.waiting place ≡ Some x → is_active t.state x.caller.rank x.caller.thread ≡ true
-  pub goes : (place : ℕ) (x : Waiting) → slice_get t.waiting place ≡ Some x → Goes w scripts t.journal x
-  pub joined : (place : ℕ) (x : Waiting) (line : ScriptLine) (tried : ℕ) (lines : List ScriptLine) → slice_get t.waiting place ≡ Some x → x.cursor ≡ Going line tried lines
+pub record IsRunning (w : ShapeValue) (scripts : List Script) (t : ScheduleState) : Type 0 where
+  pub active : (place : ℕ) (x : ActiveCaller) → slice_get t.active place ≡ Some x → is_active t.state x.caller.rank x.caller.thread ≡ true
+  pub goes : (place : ℕ) (x : ActiveCaller) → slice_get t.active place ≡ Some x → Goes w scripts t.journal x
+  pub joined : (place : ℕ) (x : ActiveCaller) (line : ScriptLine) (tried : ℕ) (lines : List ScriptLine) → slice_get t.active place ≡ Some x → x.cursor ≡ AtLine line tried lines
       → ends_joined (own_events x.caller.rank x.caller.thread t.journal) ≡ true → is_pending t.state x.caller.rank x.caller.thread line.call ≡ true
-  pub ended : (place : ℕ) (f : Finished) → slice_get t.finished place ≡ Some f → HasEnded w scripts t.journal f
-  pub counted : (rank thread : ℕ) → waiting_count rank thread t.waiting + finished_count rank thread t.finished ≡ count_by (λ (s : Script). is_caller rank thread s.caller) scripts
+  pub ended : (place : ℕ) (f : EndedCaller) → slice_get t.ended place ≡ Some f → HasEnded w scripts t.journal f
+  pub counted : (rank thread : ℕ) → waiting_count rank thread t.active + finished_count rank thread t.ended ≡ count_by (λ (s : Script). is_caller rank thread s.caller) scripts
   pub once : (rank thread : ℕ) → count_by (λ (s : Script). is_caller rank thread s.caller) scripts ≤ 1
 
 -- An event that is not a caller's own leaves what was said of it.
@@ -214,15 +214,15 @@ pub record IsRunning (w : World) (scripts : List Script) (t : Turns) : Type 0 wh
 pub events-more : (c : CallerId) (journal : List Event) (e : Event) → own_events c.rank c.thread (e ∷ []) ≡ [] → own_events c.rank c.thread (journal ++ e ∷ []) ≡ own_events c.rank c.thread journal
 events-more c journal e foreign = own_events-append c.rank c.thread journal (e ∷ []) ∙ ap (λ (es : List Event). own_events c.rank c.thread journal ++ es) foreign ∙ append-nil _
 
-pub stopped-more : (w : World) (journal : List Event) (e : Event) (c : CallerId) (lines : List ScriptLine) (outcome : RunOutcome) → own_events c.rank c.thread (e ∷ []) ≡ []
+pub stopped-more : (w : ShapeValue) (journal : List Event) (e : Event) (c : CallerId) (lines : List ScriptLine) (outcome : RunOutcome) → own_events c.rank c.thread (e ∷ []) ≡ []
     → WasStopped w journal c lines outcome → WasStopped w (journal ++ e ∷ []) c lines outcome
 stopped-more w journal e c lines outcome foreign s =
-    let same : own_calls c.rank c.thread (journal ++ e ∷ []) ≡ own_calls c.rank c.thread journal = own_calls-append c.rank c.thread journal (e ∷ []) ∙ rw (no-call _ _ e foreign) (append-nil _) in
+    let same : recorded_calls c.rank c.thread (journal ++ e ∷ []) ≡ recorded_calls c.rank c.thread journal = own_calls-append c.rank c.thread journal (e ∷ []) ∙ rw (no-call _ _ e foreign) (append-nil _) in
     record {
       line = s.line;
       tried = s.tried;
       rest = s.rest;
-      follows = subst (λ (ps : List (Call × Reply)). Follows (going_on lines) ps (Going s.line s.tried s.rest)) (sym same) s.follows;
+      follows = subst (λ (ps : List (Call × Reply)). Follows (at_first_line lines) ps (AtLine s.line s.tried s.rest)) (sym same) s.follows;
       limit = s.limit;
       before = s.before;
       later = s.later ++ e ∷ [];
@@ -234,17 +234,17 @@ stopped-more w journal e c lines outcome foreign s =
       joins = subst (λ (es : List Event). AreFollowedSoFar (Some s.line.call) es) (sym (events-more c journal e foreign)) s.joins;
     }
 
-pub come-more : (w : World) (journal : List Event) (e : Event) (c : CallerId) (lines : List ScriptLine) (p : Progress) → own_events c.rank c.thread (e ∷ []) ≡ []
+pub come-more : (w : ShapeValue) (journal : List Event) (e : Event) (c : CallerId) (lines : List ScriptLine) (p : RunPosition) → own_events c.rank c.thread (e ∷ []) ≡ []
     → HasCome w journal c lines p → HasCome w (journal ++ e ∷ []) c lines p
 come-more w journal e c lines p foreign (inl f) =
-    let same : own_calls c.rank c.thread (journal ++ e ∷ []) ≡ own_calls c.rank c.thread journal = own_calls-append c.rank c.thread journal (e ∷ []) ∙ rw (no-call _ _ e foreign) (append-nil _) in
+    let same : recorded_calls c.rank c.thread (journal ++ e ∷ []) ≡ recorded_calls c.rank c.thread journal = own_calls-append c.rank c.thread journal (e ∷ []) ∙ rw (no-call _ _ e foreign) (append-nil _) in
     inl (
-      subst (λ (ps : List (Call × Reply)). Follows (going_on lines) ps p) (sym same) f.0,
+      subst (λ (ps : List (Call × Reply)). Follows (at_first_line lines) ps p) (sym same) f.0,
       subst (λ (es : List Event). AreFollowedSoFar (present p) es) (sym (events-more c journal e foreign)) f.1,
     )
 come-more w journal e c lines p foreign (inr stopped) = inr (stopped.0, stopped.1, stopped-more w journal e c lines stopped.0 foreign stopped.2)
 
-limit-more : (w : World) (journal : List Event) (e : Event) (c : CallerId) (lines : List ScriptLine) (outcome : RunOutcome) → own_events c.rank c.thread (e ∷ []) ≡ []
+limit-more : (w : ShapeValue) (journal : List Event) (e : Event) (c : CallerId) (lines : List ScriptLine) (outcome : RunOutcome) → own_events c.rank c.thread (e ∷ []) ≡ []
     → HasLimitCause w journal c lines outcome → HasLimitCause w (journal ++ e ∷ []) c lines outcome
 limit-more w journal e c lines outcomes.Ended foreign h = tt
 limit-more w journal e c lines (outcomes.Failed number) foreign h = tt
@@ -267,10 +267,10 @@ limit-more w journal e c lines (outcomes.Limit number) foreign h =
       },
     )
 
-pub ended-more : (w : World) (scripts : List Script) (journal : List Event) (e : Event) (f : Finished) → own_events f.caller.rank f.caller.thread (e ∷ []) ≡ []
+pub ended-more : (w : ShapeValue) (scripts : List Script) (journal : List Event) (e : Event) (f : EndedCaller) → own_events f.caller.rank f.caller.thread (e ∷ []) ≡ []
     → HasEnded w scripts journal f → HasEnded w scripts (journal ++ e ∷ []) f
 ended-more w scripts journal e f foreign h =
-    let same : own_calls f.caller.rank f.caller.thread (journal ++ e ∷ []) ≡ own_calls f.caller.rank f.caller.thread journal = own_calls-append f.caller.rank f.caller.thread journal (e ∷ []) ∙ rw (no-call _ _ e foreign) (append-nil _) in
+    let same : recorded_calls f.caller.rank f.caller.thread (journal ++ e ∷ []) ≡ recorded_calls f.caller.rank f.caller.thread journal = own_calls-append f.caller.rank f.caller.thread journal (e ∷ []) ∙ rw (no-call _ _ e foreign) (append-nil _) in
     record {
       script = h.script;
       is_script = h.is_script;

@@ -4,7 +4,7 @@ use Rattle.std.specs.Prelude.{MatchBool}
 use Rattle.std.specs.List.{slice_get, list_any}
 use Rattle.std.proofs.lemmas.Bool.{eqb-true}
 use Rattle.std.proofs.lemmas.List.Sums.{sum_by-cons}
-use Rattle.gaspi_types.specs.World.{World, IsWorld, is_caller}
+use Rattle.gaspi_types.specs.World.{ShapeValue, IsShape, is_caller}
 use Rattle.gaspi_types.specs.declared.shapes.CallerId.{CallerId}
 use Rattle.gaspi_types.specs.declared.calls.Call.{Call}
 use Rattle.gaspi_types.specs.declared.calls.Call.TheVariants.{End}
@@ -16,7 +16,7 @@ use Rattle.gaspi_model.specs.State.{opening}
 use Rattle.gaspi_model.specs.Sound.{IsSound}
 use Rattle.gaspi_model.specs.Settled.{AreLanesEmpty}
 use Rattle.gaspi_model.specs.Transfers.{transfers}
-use Rattle.gaspi_model.specs.Step.{reached, own_calls, is_active, is_legal}
+use Rattle.gaspi_model.specs.Step.{reached, recorded_calls, is_active, is_legal}
 use Rattle.gaspi_model.specs.declared.states.State.{State}
 use Rattle.rank_script.specs.PlainScripts.{ArePlain}
 use Rattle.rank_script.specs.Runs.{is_stuck, is_retried, is_failed, end_pair, IsRunFrom, IsRun}
@@ -25,30 +25,30 @@ use Rattle.rank_script.specs.declared.scripts.Script.{Script}
 use Rattle.rank_script.specs.declared.scripts.ScriptLine.{ScriptLine}
 use Rattle.rank_script.specs.declared.scripts.RunOutcome.{RunOutcome}
 use Rattle.gaspi_run.specs.Endings.{HasSettled, HaveEnded}
-use Rattle.gaspi_run.specs.Schedule.{started, turn, turns, candidates, AreActive}
-use Rattle.gaspi_run.specs.declared.turns.Finished.{Finished}
-use Rattle.gaspi_run.specs.declared.turns.Waiting.{Waiting}
-use Rattle.gaspi_run.specs.declared.turns.Turns.{Turns}
-use Rattle.gaspi_run.proofs.Work.{work, turn-less, Counts, TransfersAreSteps, WorkLaws}
-use Rattle.gaspi_run.proofs.Good.{IsGood, Steps, LimitsStay, good-turns, turns-more}
+use Rattle.gaspi_run.specs.Schedule.{started, iterate, iterations, candidates, AreActive}
+use Rattle.gaspi_run.specs.declared.schedule_states.EndedCaller.{EndedCaller}
+use Rattle.gaspi_run.specs.declared.schedule_states.ActiveCaller.{ActiveCaller}
+use Rattle.gaspi_run.specs.declared.schedule_states.ScheduleState.{ScheduleState}
+use Rattle.gaspi_run.proofs.Work.{work, iteration-less, Counts, TransfersAreSteps, WorkLaws}
+use Rattle.gaspi_run.proofs.Good.{IsGood, Steps, LimitsStay, good-iterations, iterations-more}
 use Rattle.gaspi_run.proofs.Running.{IsRunning}
-use Rattle.gaspi_run.proofs.RunningTurns.{ActiveStays, Onward}
+use Rattle.gaspi_run.proofs.Iterations.{ActiveStays, Onward}
 use Rattle.gaspi_run.proofs.RunningEnds.{EndsRun, StopsRun}
-use Rattle.gaspi_run.proofs.RunningAll.{Laws, CallsAreSteps, JoinLaws, running-turns}
+use Rattle.gaspi_run.proofs.RunningAll.{Laws, CallsAreSteps, JoinLaws, running-iterations}
 use Rattle.gaspi_run.proofs.Started.{good-started, running-started, count-map}
 
 -- the schedule has come to where some number of turns leads
-pub record HasTurned (w : World) (scripts : List Script) (seed limit : ℕ) (t : Turns) : Type 0 where
+pub record HasTurned (w : ShapeValue) (scripts : List Script) (seed limit : ℕ) (t : ScheduleState) : Type 0 where
   pub count : ℕ
-  pub is : t ≡ turns limit count (started w scripts seed)
+  pub is : t ≡ iterations limit count (started w scripts seed)
 
 -- what is known of the scripts and the world, with the laws
-pub record Known (w : World) (scripts : List Script) : Type 0 where
+pub record Known (w : ShapeValue) (scripts : List Script) : Type 0 where
   pub laws : Laws
   pub counts : Counts
   pub transfers : TransfersAreSteps
-  pub opens : (v : World) → IsWorld v → IsSound (opening v)
-  pub world : IsWorld w
+  pub opens : (v : ShapeValue) → IsShape v → IsSound (opening v)
+  pub world : IsShape w
   pub are : AreScriptsOf w scripts
   pub plain : ArePlain scripts
 
@@ -64,7 +64,7 @@ laws steps stay active calls joins onward ends stops = record {
   stops = stops;
 }
 
-pub known : (w : World) (scripts : List Script) → Laws → Counts → TransfersAreSteps → ((v : World) → IsWorld v → IsSound (opening v)) → IsWorld w → AreScriptsOf w scripts → ArePlain scripts → Known w scripts
+pub known : (w : ShapeValue) (scripts : List Script) → Laws → Counts → TransfersAreSteps → ((v : ShapeValue) → IsShape v → IsSound (opening v)) → IsShape w → AreScriptsOf w scripts → ArePlain scripts → Known w scripts
 known w scripts l counts transfers opens world are plain = record {
   laws = l;
   counts = counts;
@@ -75,48 +75,48 @@ known w scripts l counts transfers opens world are plain = record {
   plain = plain;
 }
 
-pub turned-good : (w : World) (scripts : List Script) (seed limit : ℕ) (t : Turns) → Known w scripts → HasTurned w scripts seed limit t → IsGood w t
+pub turned-good : (w : ShapeValue) (scripts : List Script) (seed limit : ℕ) (t : ScheduleState) → Known w scripts → HasTurned w scripts seed limit t → IsGood w t
 turned-good w scripts seed limit t k h =
-    subst (λ (u : Turns). IsGood w u) (sym h.is) (good-turns k.laws.steps k.laws.stay limit h.count w (started w scripts seed) (good-started k.opens w scripts seed k.world k.are))
+    subst (λ (u : ScheduleState). IsGood w u) (sym h.is) (good-iterations k.laws.steps k.laws.stay limit h.count w (started w scripts seed) (good-started k.opens w scripts seed k.world k.are))
 
-pub turned-running : (w : World) (scripts : List Script) (seed limit : ℕ) (t : Turns) → Known w scripts → HasTurned w scripts seed limit t → IsRunning w scripts t
+pub turned-running : (w : ShapeValue) (scripts : List Script) (seed limit : ℕ) (t : ScheduleState) → Known w scripts → HasTurned w scripts seed limit t → IsRunning w scripts t
 turned-running w scripts seed limit t k h =
-    subst (λ (u : Turns). IsRunning w scripts u) (sym h.is)
-    (running-turns k.laws limit h.count w scripts (started w scripts seed) k.plain (good-started k.opens w scripts seed k.world k.are) (running-started w scripts seed k.world k.are))
+    subst (λ (u : ScheduleState). IsRunning w scripts u) (sym h.is)
+    (running-iterations k.laws limit h.count w scripts (started w scripts seed) k.plain (good-started k.opens w scripts seed k.world k.are) (running-started w scripts seed k.world k.are))
 
-pub turned-active : (w : World) (scripts : List Script) (seed limit : ℕ) (t : Turns) → Known w scripts → HasTurned w scripts seed limit t → AreActive t
+pub turned-active : (w : ShapeValue) (scripts : List Script) (seed limit : ℕ) (t : ScheduleState) → Known w scripts → HasTurned w scripts seed limit t → AreActive t
 turned-active w scripts seed limit t k h place x at = (turned-running w scripts seed limit t k h).active place x at
 
-pub turned-own : (w : World) (scripts : List Script) (seed limit : ℕ) (t : Turns) → Known w scripts → HasTurned w scripts seed limit t → HaveOwnValues t.journal
+pub turned-own : (w : ShapeValue) (scripts : List Script) (seed limit : ℕ) (t : ScheduleState) → Known w scripts → HasTurned w scripts seed limit t → HaveOwnValues t.journal
 turned-own w scripts seed limit t k h = (turned-good w scripts seed limit t k h).own
 
-pub turned-less : (w : World) (scripts : List Script) (seed limit : ℕ) (t : Turns) → Known w scripts → HasTurned w scripts seed limit t → 0 < candidates t → work limit (turn limit t) < work limit t
+pub turned-less : (w : ShapeValue) (scripts : List Script) (seed limit : ℕ) (t : ScheduleState) → Known w scripts → HasTurned w scripts seed limit t → 0 < candidates t → work limit (iterate limit t) < work limit t
 turned-less w scripts seed limit t k h some =
     let good = turned-good w scripts seed limit t k h in
     let w-laws : WorkLaws = record { counts = k.counts; transfers = k.transfers; joins = k.laws.joins.steps; steps = k.laws.steps } in
-    turn-less w-laws limit t good.sound
+    iteration-less w-laws limit t good.sound
     (λ place x at. subst (λ (l : Rattle.gaspi_types.specs.declared.shapes.Limits.Limits). x.caller.rank < l.ranks) (sym good.limits) (good.ranked place x at)) (turned-active w scripts seed limit t k h) some
 
-pub turned-more : (w : World) (scripts : List Script) (seed limit : ℕ) (t u : Turns) → HasTurned w scripts seed limit t → u ≡ turn limit t → HasTurned w scripts seed limit u
+pub turned-more : (w : ShapeValue) (scripts : List Script) (seed limit : ℕ) (t u : ScheduleState) → HasTurned w scripts seed limit t → u ≡ iterate limit t → HasTurned w scripts seed limit u
 turned-more w scripts seed limit t u h is = record {
   count = suc h.count;
-  is = is ∙ ap (λ (x : Turns). turn limit x) h.is ∙ sym (turns-more limit h.count (started w scripts seed));
+  is = is ∙ ap (λ (x : ScheduleState). iterate limit x) h.is ∙ sym (iterations-more limit h.count (started w scripts seed));
 }
 
 -- At the end.
 
-pub over-legal : (w : World) (scripts : List Script) (seed limit : ℕ) (t : Turns) → Known w scripts → HasTurned w scripts seed limit t → is_legal w t.journal ≡ true
+pub over-legal : (w : ShapeValue) (scripts : List Script) (seed limit : ℕ) (t : ScheduleState) → Known w scripts → HasTurned w scripts seed limit t → is_legal w t.journal ≡ true
 over-legal w scripts seed limit t k h = rw (turned-good w scripts seed limit t k h).legal refl
 
-pub over-ended : (w : World) (scripts : List Script) (seed limit : ℕ) (t : Turns) → Known w scripts → HasTurned w scripts seed limit t → candidates t ≡ 0 → HaveEnded w scripts t.journal t.finished
+pub over-ended : (w : ShapeValue) (scripts : List Script) (seed limit : ℕ) (t : ScheduleState) → Known w scripts → HasTurned w scripts seed limit t → candidates t ≡ 0 → HaveEnded w scripts t.journal t.ended
 over-ended w scripts seed limit t k h over =
     let running = turned-running w scripts seed limit t k h in
     record {
       each = running.ended;
-      once = λ rank thread. (let all = running.counted rank thread in let none = no-count t.waiting rank thread (let none : length t.waiting ≡ 0 = omega arith in none) in omega arith);
+      once = λ rank thread. (let all = running.counted rank thread in let none = no-count t.active rank thread (let none : length t.active ≡ 0 = omega arith in none) in omega arith);
     }
   where
-    no-count : (ws : List Waiting) (rank thread : ℕ) → length ws ≡ 0 → Rattle.gaspi_run.proofs.Running.waiting_count rank thread ws ≡ 0
+    no-count : (ws : List ActiveCaller) (rank thread : ℕ) → length ws ≡ 0 → Rattle.gaspi_run.proofs.Running.waiting_count rank thread ws ≡ 0
     no-count [] rank thread none = refl
     no-count (y ∷ ws) rank thread none = absurd (omega arith)
 
@@ -125,8 +125,8 @@ over-ended w scripts seed limit t k h over =
 -- what the machine's laws say of ends
 pub record EndLaws : Type 0 where
   pub empties : (s : State) → IsSound s → transfers s.limits s.posts ≡ [] → AreLanesEmpty s
-  pub endings : (w : World) (history : List Event) (s : State) (rank thread : ℕ) → reached w history ≡ Ok s → is_active s rank thread ≡ true
-      → (list_any (is_caller rank thread) w.callers ≡ true) × ((k : ℕ) (reply : Reply) → slice_get (own_calls rank thread history) k ≡ Some (End, reply) → ⊥)
+  pub endings : (w : ShapeValue) (history : List Event) (s : State) (rank thread : ℕ) → reached w history ≡ Ok s → is_active s rank thread ≡ true
+      → (list_any (is_caller rank thread) w.callers ≡ true) × ((k : ℕ) (reply : Reply) → slice_get (recorded_calls rank thread history) k ≡ Some (End, reply) → ⊥)
 
 -- what a whole run has among its pairs
 abbrev HasEndAt : List (Call × Reply) → Type 0
@@ -187,7 +187,7 @@ both-true : (a b : Bool) → (a && b) ≡ true → (a ≡ true) × (b ≡ true)
 both-true true b h = (refl, h)
 both-true false b h = absurd (let no : ⊥ = cc in no)
 
-none-active : (w : World) (scripts : List Script) (journal : List Event) (finished : List Finished) (s : State) (rank thread : ℕ) → EndLaws → AreScriptsOf w scripts → reached w journal ≡ Ok s
+none-active : (w : ShapeValue) (scripts : List Script) (journal : List Event) (finished : List EndedCaller) (s : State) (rank thread : ℕ) → EndLaws → AreScriptsOf w scripts → reached w journal ≡ Ok s
     → HaveEnded w scripts journal finished → is_active s rank thread ≡ false
 none-active w scripts journal finished s rank thread l are leads ended = go (is_active s rank thread) refl
   where
@@ -199,33 +199,33 @@ none-active w scripts journal finished s rank thread l are leads ended = go (is_
         let mapped : count_by (is_caller rank thread) (map (λ (x : Script). x.caller) scripts) ≡ count_by (is_caller rank thread) w.callers = ap (λ (cs : List CallerId). count_by (is_caller rank thread) cs) are in
         let same = count-map (is_caller rank thread) (λ (x : Script). x.caller) scripts in
         let once = ended.once rank thread in
-        let there = counted-there (λ (f : Finished). is_caller rank thread f.caller) finished (omega arith) in
+        let there = counted-there (λ (f : EndedCaller). is_caller rank thread f.caller) finished (omega arith) in
         let f = there.1 in
         let mine = both-true (f.caller.rank == rank) (f.caller.thread == thread) there.3 in
         let run = (ended.each there.0 f there.2).run in
-        let end = run-ends (ended.each there.0 f there.2).script.lines (own_calls f.caller.rank f.caller.thread journal) f.outcome run in
-        let here : slice_get (own_calls rank thread journal) end.0 ≡ Some (End, replies.Done) =
-        subst (λ (n : ℕ). slice_get (own_calls rank n journal) end.0 ≡ Some (End, replies.Done)) (eqb-true f.caller.thread thread mine.1)
-        (subst (λ (n : ℕ). slice_get (own_calls n f.caller.thread journal) end.0 ≡ Some (End, replies.Done)) (eqb-true f.caller.rank rank mine.0) end.1) in
+        let end = run-ends (ended.each there.0 f there.2).script.lines (recorded_calls f.caller.rank f.caller.thread journal) f.outcome run in
+        let here : slice_get (recorded_calls rank thread journal) end.0 ≡ Some (End, replies.Done) =
+        subst (λ (n : ℕ). slice_get (recorded_calls rank n journal) end.0 ≡ Some (End, replies.Done)) (eqb-true f.caller.thread thread mine.1)
+        (subst (λ (n : ℕ). slice_get (recorded_calls n f.caller.thread journal) end.0 ≡ Some (End, replies.Done)) (eqb-true f.caller.rank rank mine.0) end.1) in
         absurd (law.1 end.0 replies.Done here)
 
 no-items : {A : Type 0} (xs : List A) → length xs ≡ 0 → xs ≡ []
 no-items [] h = refl
 no-items (x ∷ xs) h = absurd (omega arith)
 
-pub over-settled : (w : World) (scripts : List Script) (seed limit : ℕ) (t : Turns) → Known w scripts → EndLaws → HasTurned w scripts seed limit t → candidates t ≡ 0 → HasSettled w t.journal
+pub over-settled : (w : ShapeValue) (scripts : List Script) (seed limit : ℕ) (t : ScheduleState) → Known w scripts → EndLaws → HasTurned w scripts seed limit t → candidates t ≡ 0 → HasSettled w t.journal
 over-settled w scripts seed limit t k l h over =
     let good = turned-good w scripts seed limit t k h in
     record {
       state = t.state;
       leads = good.legal;
       settled = record {
-        callers = λ rank thread. none-active w scripts t.journal t.finished t.state rank thread l k.are good.legal (over-ended w scripts seed limit t k h over);
+        callers = λ rank thread. none-active w scripts t.journal t.ended t.state rank thread l k.are good.legal (over-ended w scripts seed limit t k h over);
         lanes = l.empties t.state good.sound (no-items (transfers t.state.limits t.state.posts) (omega arith));
       };
     }
 
 pub end_laws : ((s : State) → IsSound s → transfers s.limits s.posts ≡ [] → AreLanesEmpty s)
-    → ((w : World) (history : List Event) (s : State) (rank thread : ℕ) → reached w history ≡ Ok s → is_active s rank thread ≡ true
-    → (list_any (is_caller rank thread) w.callers ≡ true) × ((k : ℕ) (reply : Reply) → slice_get (own_calls rank thread history) k ≡ Some (End, reply) → ⊥)) → EndLaws
+    → ((w : ShapeValue) (history : List Event) (s : State) (rank thread : ℕ) → reached w history ≡ Ok s → is_active s rank thread ≡ true
+    → (list_any (is_caller rank thread) w.callers ≡ true) × ((k : ℕ) (reply : Reply) → slice_get (recorded_calls rank thread history) k ≡ Some (End, reply) → ⊥)) → EndLaws
 end_laws empties endings = record { empties = empties; endings = endings }

@@ -7,17 +7,17 @@ use Rattle.std.proofs.lemmas.List.Sums.{sum_by-append, sum_by-cons}
 use Rattle.std.proofs.lemmas.Option.{slice_get-map}
 use Rattle.std.proofs.lemmas.List.Elements.{All-nil}
 use Rattle.gaspi_texts.specs.EventText.{HasOwnValues}
-use Rattle.gaspi_types.specs.World.{World, IsWorld, is_caller}
+use Rattle.gaspi_types.specs.World.{ShapeValue, IsShape, is_caller}
 use Rattle.gaspi_types.specs.declared.shapes.CallerId.{CallerId}
 use Rattle.gaspi_model.specs.State.{opening, opening_posts, opening_thread}
 use Rattle.gaspi_model.specs.Sound.{IsSound}
 use Rattle.gaspi_model.specs.Step.{is_active}
 use Rattle.gaspi_types.proofs.Items.{flat_map-parts}
-use Rattle.rank_script.specs.Runs.{going_on}
+use Rattle.rank_script.specs.Runs.{at_first_line}
 use Rattle.rank_script.specs.WorldText.{is_script_of, AreScriptsOf}
 use Rattle.rank_script.specs.declared.scripts.Script.{Script}
 use Rattle.gaspi_run.specs.Schedule.{starting, thread_starts, rank_starts, starts, started}
-use Rattle.gaspi_run.specs.declared.turns.Waiting.{Waiting}
+use Rattle.gaspi_run.specs.declared.schedule_states.ActiveCaller.{ActiveCaller}
 use Rattle.gaspi_run.proofs.Good.{IsGood}
 use Rattle.gaspi_run.proofs.Running.{IsRunning, Goes, waiting_count, count-at, find-there}
 
@@ -129,7 +129,7 @@ count-map {A} {B} p f (x ∷ xs) =
     sum_by-cons (λ (y : B). cond (p y) 1 0) (f x) (map f xs) ∙ ap (λ (n : ℕ). cond (p (f x)) 1 0 + n) (count-map p f xs)
     ∙ sym (sum_by-cons (λ (z : A). cond (p (f z)) 1 0) x xs)
 
-pub scripts-once : (w : World) (scripts : List Script) (r t : ℕ) → IsWorld w → AreScriptsOf w scripts → count_by (λ (s : Script). is_caller r t s.caller) scripts ≤ 1
+pub scripts-once : (w : ShapeValue) (scripts : List Script) (r t : ℕ) → IsShape w → AreScriptsOf w scripts → count_by (λ (s : Script). is_caller r t s.caller) scripts ≤ 1
 scripts-once w scripts r t world are =
     let same = count-map (is_caller r t) (λ (s : Script). s.caller) scripts in
     let one = world.once r t in
@@ -137,7 +137,7 @@ scripts-once w scripts r t world are =
     omega arith
 
 -- a script that was found is of a caller of the world
-script-caller : (w : World) (scripts : List Script) (a b : ℕ) (s : Script) → AreScriptsOf w scripts → find (is_script_of (record { rank = a; thread = b })) scripts ≡ Some s
+script-caller : (w : ShapeValue) (scripts : List Script) (a b : ℕ) (s : Script) → AreScriptsOf w scripts → find (is_script_of (record { rank = a; thread = b })) scripts ≡ Some s
     → (k : ℕ) × (slice_get w.callers k ≡ Some s.caller) × (s.caller.rank ≡ a) × (s.caller.thread ≡ b)
 script-caller w scripts a b s are is =
     let there = find-there (is_script_of (record { rank = a; thread = b })) scripts s is in
@@ -154,14 +154,14 @@ decide-both a r b t = go (a == r) (b == t) refl refl
     go false y p q = inr (λ h. eqb-false a r p h.0)
 
 -- how many callers that start are of a rank and thread: as many as scripts are
-starts-counted : (w : World) (scripts : List Script) (r t : ℕ) → IsWorld w → AreScriptsOf w scripts → waiting_count r t (starts w scripts) ≡ count_by (λ (s : Script). is_caller r t s.caller) scripts
+starts-counted : (w : ShapeValue) (scripts : List Script) (r t : ℕ) → IsShape w → AreScriptsOf w scripts → waiting_count r t (starts w scripts) ≡ count_by (λ (s : Script). is_caller r t s.caller) scripts
 starts-counted w scripts r t world are = go (find (is_script_of (record { rank = r; thread = t })) scripts) refl
   where
     by-thread : (a : ℕ) → waiting_count r t (rank_starts scripts a) ≡ sum_by (λ b. waiting_count r t (thread_starts scripts a b)) (range_with_len 0 4)
-    by-thread a = count-flat_map (λ (x : Waiting). is_caller r t x.caller) (thread_starts scripts a) (range_with_len 0 4)
+    by-thread a = count-flat_map (λ (x : ActiveCaller). is_caller r t x.caller) (thread_starts scripts a) (range_with_len 0 4)
 
     by-rank : waiting_count r t (starts w scripts) ≡ sum_by (λ a. waiting_count r t (rank_starts scripts a)) (range_with_len 0 w.limits.ranks)
-    by-rank = count-flat_map (λ (x : Waiting). is_caller r t x.caller) (rank_starts scripts) (range_with_len 0 w.limits.ranks)
+    by-rank = count-flat_map (λ (x : ActiveCaller). is_caller r t x.caller) (rank_starts scripts) (range_with_len 0 w.limits.ranks)
 
     other-rank : (a : ℕ) → (a ≡ r → ⊥) → waiting_count r t (rank_starts scripts a) ≡ 0
     other-rank a apart = by-thread a ∙ sum-none (λ b. waiting_count r t (thread_starts scripts a b)) 0 4 (λ b low high. other-start scripts r t a b (λ h. apart h.0))
@@ -190,20 +190,20 @@ starts-counted w scripts r t world are = go (find (is_script_of (record { rank =
         ∙ start-count scripts r t (scripts-once w scripts r t world are)
 
 -- where a caller that starts comes from
-starts-part : (w : World) (scripts : List Script) (place : ℕ) (x : Waiting) → slice_get (starts w scripts) place ≡ Some x
-    → (a : ℕ) × (b : ℕ) × (s : Script) × (a < w.limits.ranks) × (find (is_script_of (record { rank = a; thread = b })) scripts ≡ Some s) × (x ≡ record { caller = s.caller; cursor = going_on s.lines; looks = 0 })
-starts-part w scripts place x at =
+starts-body : (w : ShapeValue) (scripts : List Script) (place : ℕ) (x : ActiveCaller) → slice_get (starts w scripts) place ≡ Some x
+    → (a : ℕ) × (b : ℕ) × (s : Script) × (a < w.limits.ranks) × (find (is_script_of (record { rank = a; thread = b })) scripts ≡ Some s) × (x ≡ record { caller = s.caller; cursor = at_first_line s.lines; looks = 0 })
+starts-body w scripts place x at =
     let r = flat_map-parts (rank_starts scripts) (range_with_len 0 w.limits.ranks) place x at in
     let rank = range-at 0 w.limits.ranks r.0 r.1 r.3 in
     let t = flat_map-parts (thread_starts scripts r.1) (range_with_len 0 4) r.2 x r.4 in
     go r.1 t.1 (find (is_script_of (record { rank = r.1; thread = t.1 })) scripts) refl t.2 t.4 (let is = rank.0 in let low = rank.1 in omega arith)
   where
     go : (a b : ℕ) (o : Option Script) → find (is_script_of (record { rank = a; thread = b })) scripts ≡ o → (j : ℕ) → slice_get (thread_starts scripts a b) j ≡ Some x → a < w.limits.ranks
-        → (a : ℕ) × (b : ℕ) × (s : Script) × (a < w.limits.ranks) × (find (is_script_of (record { rank = a; thread = b })) scripts ≡ Some s) × (x ≡ record { caller = s.caller; cursor = going_on s.lines; looks = 0 })
+        → (a : ℕ) × (b : ℕ) × (s : Script) × (a < w.limits.ranks) × (find (is_script_of (record { rank = a; thread = b })) scripts ≡ Some s) × (x ≡ record { caller = s.caller; cursor = at_first_line s.lines; looks = 0 })
     go a b None is j here low = absurd (let none = rw is at here in let no : ⊥ = cc in no)
     go a b (Some s) is zero here low =
-        let one : ◌≡◌ {A = Option Waiting} (Some (record { caller = s.caller; cursor = going_on s.lines; looks = 0 })) (Some x) = rw is at here in
-        (a, b, s, low, is, (let same : ◌≡◌ {A = Waiting} (record { caller = s.caller; cursor = going_on s.lines; looks = 0 }) x = cc in sym same))
+        let one : ◌≡◌ {A = Option ActiveCaller} (Some (record { caller = s.caller; cursor = at_first_line s.lines; looks = 0 })) (Some x) = rw is at here in
+        (a, b, s, low, is, (let same : ◌≡◌ {A = ActiveCaller} (record { caller = s.caller; cursor = at_first_line s.lines; looks = 0 }) x = cc in sym same))
     go a b (Some s) is (suc j) here low = absurd (let none = rw is at here in let no : ⊥ = cc in no)
 
 -- Callers that start are active.
@@ -226,7 +226,7 @@ any-at {A} p (y ∷ xs) (suc k) x at pass = go (p y) (any-at p xs k x at pass)
     go true rest = refl
     go false rest = rest
 
-starting-active : (w : World) (c : CallerId) (k : ℕ) → IsWorld w → slice_get w.callers k ≡ Some c → is_active (opening w) c.rank c.thread ≡ true
+starting-active : (w : ShapeValue) (c : CallerId) (k : ℕ) → IsShape w → slice_get w.callers k ≡ Some c → is_active (opening w) c.rank c.thread ≡ true
 starting-active w c k world at =
     let within = world.within k c at in
     let posts = map-range-get (opening_posts w) w.limits.ranks c.rank within.0 in
@@ -234,43 +234,43 @@ starting-active w c k world at =
     let any = any-at (is_caller c.rank c.thread) w.callers k c at (rw (eq-eqb c.rank c.rank refl, eq-eqb c.thread c.thread refl) refl) in
     rw (posts, thread, any) refl
 
-pub good-started : ((v : World) → IsWorld v → IsSound (opening v)) → (w : World) (scripts : List Script) (seed : ℕ) → IsWorld w → AreScriptsOf w scripts → IsGood w (started w scripts seed)
+pub good-started : ((v : ShapeValue) → IsShape v → IsSound (opening v)) → (w : ShapeValue) (scripts : List Script) (seed : ℕ) → IsShape w → AreScriptsOf w scripts → IsGood w (started w scripts seed)
 good-started opens w scripts seed world are = record {
   legal = refl;
   sound = opens w world;
   limits = refl;
-  ranked = λ place x at. ranked-at x (starts-part w scripts place x at);
+  ranked = λ place x at. ranked-at x (starts-body w scripts place x at);
   own = All-nil HasOwnValues;
 }
   where
-    ranked-at : (x : Waiting) → ((a : ℕ) × (b : ℕ) × (s : Script) × (a < w.limits.ranks) × (find (is_script_of (record { rank = a; thread = b })) scripts ≡ Some s) × (x ≡ record { caller = s.caller; cursor = going_on s.lines; looks = 0 }))
+    ranked-at : (x : ActiveCaller) → ((a : ℕ) × (b : ℕ) × (s : Script) × (a < w.limits.ranks) × (find (is_script_of (record { rank = a; thread = b })) scripts ≡ Some s) × (x ≡ record { caller = s.caller; cursor = at_first_line s.lines; looks = 0 }))
         → x.caller.rank < w.limits.ranks
     ranked-at x h =
         let caller = script-caller w scripts h.0 h.1 h.2 are h.4 in
-        let same : x.caller.rank ≡ h.0 = ap (λ (y : Waiting). y.caller.rank) h.5 ∙ caller.2 in
+        let same : x.caller.rank ≡ h.0 = ap (λ (y : ActiveCaller). y.caller.rank) h.5 ∙ caller.2 in
         subst (λ (n : ℕ). n < w.limits.ranks) (sym same) h.3
 
-pub running-started : (w : World) (scripts : List Script) (seed : ℕ) → IsWorld w → AreScriptsOf w scripts → IsRunning w scripts (started w scripts seed)
+pub running-started : (w : ShapeValue) (scripts : List Script) (seed : ℕ) → IsShape w → AreScriptsOf w scripts → IsRunning w scripts (started w scripts seed)
 running-started w scripts seed world are = record {
-  active = λ place x at. active-at x (starts-part w scripts place x at);
-  goes = λ place x at. goes-at x (starts-part w scripts place x at);
+  active = λ place x at. active-at x (starts-body w scripts place x at);
+  goes = λ place x at. goes-at x (starts-body w scripts place x at);
   joined = λ place x line tried lines at going h. absurd (let no : ⊥ = cc in no);
   ended = λ place f at. absurd (let no : ⊥ = cc in no);
   counted = λ r t. (let all = starts-counted w scripts r t world are in omega arith);
   once = λ r t. scripts-once w scripts r t world are;
 }
   where
-    active-at : (x : Waiting) → ((a : ℕ) × (b : ℕ) × (s : Script) × (a < w.limits.ranks) × (find (is_script_of (record { rank = a; thread = b })) scripts ≡ Some s) × (x ≡ record { caller = s.caller; cursor = going_on s.lines; looks = 0 }))
+    active-at : (x : ActiveCaller) → ((a : ℕ) × (b : ℕ) × (s : Script) × (a < w.limits.ranks) × (find (is_script_of (record { rank = a; thread = b })) scripts ≡ Some s) × (x ≡ record { caller = s.caller; cursor = at_first_line s.lines; looks = 0 }))
         → is_active (opening w) x.caller.rank x.caller.thread ≡ true
     active-at x h =
         let caller = script-caller w scripts h.0 h.1 h.2 are h.4 in
-        subst (λ (y : Waiting). is_active (opening w) y.caller.rank y.caller.thread ≡ true) (sym h.5) (starting-active w h.2.caller caller.0 world caller.1)
+        subst (λ (y : ActiveCaller). is_active (opening w) y.caller.rank y.caller.thread ≡ true) (sym h.5) (starting-active w h.2.caller caller.0 world caller.1)
 
-    goes-at : (x : Waiting) → ((a : ℕ) × (b : ℕ) × (s : Script) × (a < w.limits.ranks) × (find (is_script_of (record { rank = a; thread = b })) scripts ≡ Some s) × (x ≡ record { caller = s.caller; cursor = going_on s.lines; looks = 0 }))
+    goes-at : (x : ActiveCaller) → ((a : ℕ) × (b : ℕ) × (s : Script) × (a < w.limits.ranks) × (find (is_script_of (record { rank = a; thread = b })) scripts ≡ Some s) × (x ≡ record { caller = s.caller; cursor = at_first_line s.lines; looks = 0 }))
         → Goes w scripts [] x
     goes-at x h =
         let caller = script-caller w scripts h.0 h.1 h.2 are h.4 in
         let found : find (is_script_of h.2.caller) scripts ≡ Some h.2 =
         subst (λ (n : ℕ). find (is_script_of (record { rank = h.2.caller.rank; thread = n })) scripts ≡ Some h.2) (sym caller.3)
         (subst (λ (n : ℕ). find (is_script_of (record { rank = n; thread = h.1 })) scripts ≡ Some h.2) (sym caller.2) h.4) in
-        subst (λ (y : Waiting). Goes w scripts [] y) (sym h.5) (record { script = h.2; is_script = found; come = inl (refl, tt) })
+        subst (λ (y : ActiveCaller). Goes w scripts [] y) (sym h.5) (record { script = h.2; is_script = found; come = inl (refl, tt) })

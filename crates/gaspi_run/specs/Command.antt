@@ -3,10 +3,10 @@ use Rattle.std.specs.Prelude.{◌≡◌, ◌⊎◌, ◌≤◌, ◌<◌, ℕ, ◌
 use Rattle.std.specs.Option.{ForSome}
 use Rattle.std.specs.List.{list_any}
 use Rattle.std.specs.Fmt.{decimal}
-use Rattle.gaspi_types.specs.World.{World}
+use Rattle.gaspi_types.specs.World.{ShapeValue}
 use Rattle.gaspi_types.specs.declared.events.Event.{Event}
 use Rattle.gaspi_io.specs.Faults.{HasCause}
-use Rattle.gaspi_io.specs.Sink.{with_more, AddsFront}
+use Rattle.gaspi_io.specs.Sink.{with_more, AddsPrefix}
 use Rattle.gaspi_io.specs.Source.{without, TakesAtMost}
 use Rattle.gaspi_model.specs.Step.{is_legal}
 use Rattle.gaspi_texts.specs.JournalText.{journal_text, AreInRange}
@@ -18,16 +18,16 @@ use Rattle.call_journal.specs.declared.journal_numbers.Numbers4.{Numbers4}
 use Rattle.rank_script.specs.Bench.{bench_shape}
 use Rattle.rank_script.specs.BenchScripts.{bench_scripts}
 use Rattle.rank_script.specs.Lines.{input_limit}
-use Rattle.rank_script.specs.WorldText.{Said, TextFault, world_text, checked_world}
+use Rattle.rank_script.specs.WorldText.{WorldReading, TextFault, world_text, checked_world}
 use Rattle.rank_script.specs.declared.scripts.Script.{Script}
 use Rattle.rank_script.specs.declared.scripts.RunOutcome.{RunOutcome}
 use Rattle.rank_script.specs.declared.scripts.RunOutcome.TheVariants as outcomes
 use Rattle.gaspi_run.specs.Endings.{HasSettled, HaveEnded}
 use Rattle.gaspi_run.specs.Judging.{IsChecked}
 use Rattle.gaspi_run.specs.Schedule.{IsScheduled}
-use Rattle.gaspi_run.specs.Threads.{ToldTally, HasRunWorld}
+use Rattle.gaspi_run.specs.Threads.{AnswerTally, HasRunWorld}
 use Rattle.call_journal.specs.Transcripts.{transcripts}
-use Rattle.gaspi_run.specs.declared.turns.Finished.{Finished}
+use Rattle.gaspi_run.specs.declared.schedule_states.EndedCaller.{EndedCaller}
 use Rattle.gaspi_run.specs.declared.commands.Answer.{Answer}
 use Rattle.gaspi_run.specs.declared.judging.Question.TheVariants as questions
 
@@ -39,12 +39,12 @@ abbrev pub fault_text : TextFault → List ℕ
 fault_text f = codes "fault S" ++ decimal f.number ++ codes " line " ++ decimal f.line ++ codes "\n"
 
 -- a caller whose script came to a wrong end: a reply that its line does not expect, or a timeout on a line that blocks
-abbrev pub is_wrong_outcome : RunOutcome → Bool
-is_wrong_outcome outcomes.Ended = false
-is_wrong_outcome (outcomes.Failed line) = true
-is_wrong_outcome (outcomes.Stuck line) = true
-is_wrong_outcome (outcomes.Limit line) = false
-is_wrong_outcome (outcomes.NoMemory line) = false
+abbrev pub is_failed_or_stuck : RunOutcome → Bool
+is_failed_or_stuck outcomes.Ended = false
+is_failed_or_stuck (outcomes.Failed line) = true
+is_failed_or_stuck (outcomes.Stuck line) = true
+is_failed_or_stuck (outcomes.Limit line) = false
+is_failed_or_stuck (outcomes.NoMemory line) = false
 
 abbrev pub is_limit_outcome : RunOutcome → Bool
 is_limit_outcome outcomes.Ended = false
@@ -53,27 +53,27 @@ is_limit_outcome (outcomes.Stuck line) = false
 is_limit_outcome (outcomes.Limit line) = true
 is_limit_outcome (outcomes.NoMemory line) = false
 
-abbrev pub is_any_wrong : List Finished → Bool
-is_any_wrong finished = list_any (λ f. is_wrong_outcome f.outcome) finished
+abbrev pub has_failed_or_stuck : List EndedCaller → Bool
+has_failed_or_stuck finished = list_any (λ f. is_failed_or_stuck f.outcome) finished
 
-abbrev pub is_any_limit : List Finished → Bool
+abbrev pub is_any_limit : List EndedCaller → Bool
 is_any_limit finished = list_any (λ f. is_limit_outcome f.outcome) finished
 
 -- the status of a run: 3 where a caller has failed or is stuck, else 8 where one ended at the event limit, else 0
-abbrev pub run_status : List Finished → ℕ
-run_status finished = if is_any_wrong finished then 3 else (if is_any_limit finished then 8 else 0)
+abbrev pub run_status : List EndedCaller → ℕ
+run_status finished = if has_failed_or_stuck finished then 3 else (if is_any_limit finished then 8 else 0)
 
 -- the text of a run: what each caller was told, or the journal
-abbrev pub run_text : Bool → World → List Script → List Event → List ℕ
+abbrev pub run_text : Bool → ShapeValue → List Script → List Event → List ℕ
 run_text true w scripts journal = transcripts w scripts journal
 run_text false w scripts journal = journal_text journal
 
 -- What `run` does with its input: the world of the text ran on threads, with so many workers. The text that it writes is the journal, or with `--brief` what the
 -- callers were told; its status tells how they ended.
-pub record HasRunOnThreads (workers limit : ℕ) (brief : Bool) (input : List ℕ) (journal : List Event) (tally : ToldTally) (status : ℕ) (text : List ℕ) : Type 0 where
-  pub world : World
+pub record HasRunOnThreads (workers limit : ℕ) (brief : Bool) (input : List ℕ) (journal : List Event) (tally : AnswerTally) (status : ℕ) (text : List ℕ) : Type 0 where
+  pub world : ShapeValue
   pub scripts : List Script
-  pub finished : List Finished
+  pub ended : List EndedCaller
   pub read : world_text input ≡ Ok (record { world = Some world; scripts = scripts })
   pub ran : HasRunWorld world scripts workers limit journal tally finished
   pub text_is : text ≡ run_text brief world scripts journal
@@ -99,8 +99,8 @@ pub record AreClosed (seed ranks rounds : ℕ) (n : Numbers4) : Type 0 where
   pub notifications : n.notifications ≡ ranks * rounds
   pub sum : n.sum ≡ draws_until seed ranks (rounds - 1) ranks % 2 ^ 64
 
-pub record HasBenched (seed ranks rounds : ℕ) (journal : List Event) (tally : ToldTally) (status : ℕ) (text : List ℕ) : Type 0 where
-  pub finished : List Finished
+pub record HasBenched (seed ranks rounds : ℕ) (journal : List Event) (tally : AnswerTally) (status : ℕ) (text : List ℕ) : Type 0 where
+  pub ended : List EndedCaller
   pub ran : HasRunWorld (bench_shape ranks rounds) (bench_scripts seed ranks rounds ranks) 1 bench_limit journal tally finished
   pub numbers : Numbers4
   pub counted : AreNumbers (bench_shape ranks rounds) journal numbers
@@ -113,9 +113,9 @@ pub record HasBenched (seed ranks rounds : ℕ) (journal : List Event) (tally : 
 -- history in which each caller's calls are a run of its script, and after which every caller has ended and all that was
 -- posted has arrived, broken queues aside. Its numbers are those of its types, so the journal's text is that of no other.
 pub record IsStepped (seed limit : ℕ) (brief : Bool) (input : List ℕ) (journal : List Event) (status : ℕ) (text : List ℕ) : Type 0 where
-  pub world : World
+  pub world : ShapeValue
   pub scripts : List Script
-  pub finished : List Finished
+  pub ended : List EndedCaller
   pub read : world_text input ≡ Ok (record { world = Some world; scripts = scripts })
   pub scheduled : IsScheduled world scripts seed limit journal finished
   pub legal : is_legal world journal ≡ true
@@ -143,14 +143,14 @@ is_plain (Bench seed ranks rounds) = false
 
 -- What a command tells of an input without a fault, and what it takes the world from.
 
-abbrev pub IsTold : Command → List ℕ → List Event → ToldTally → ℕ → List ℕ → Type 0
-IsTold (Run workers limit brief) input journal tally status text = HasRunOnThreads workers limit brief input journal tally status text
-IsTold (Step seed limit brief) input journal tally status text = IsStepped seed limit brief input journal status text × (tally ≡ None)
-IsTold Check input journal tally status text = IsChecked questions.Verdict input journal status text × (tally ≡ None)
-IsTold (Why place) input journal tally status text = IsChecked (questions.Writes place) input journal status text × (tally ≡ None)
-IsTold (Bench seed ranks rounds) input journal tally status text = HasBenched seed ranks rounds journal tally status text
+abbrev pub IsCommandResult : Command → List ℕ → List Event → AnswerTally → ℕ → List ℕ → Type 0
+IsCommandResult (Run workers limit brief) input journal tally status text = HasRunOnThreads workers limit brief input journal tally status text
+IsCommandResult (Step seed limit brief) input journal tally status text = IsStepped seed limit brief input journal status text × (tally ≡ None)
+IsCommandResult Check input journal tally status text = IsChecked questions.Verdict input journal status text × (tally ≡ None)
+IsCommandResult (Why place) input journal tally status text = IsChecked (questions.Writes place) input journal status text × (tally ≡ None)
+IsCommandResult (Bench seed ranks rounds) input journal tally status text = HasBenched seed ranks rounds journal tally status text
 
-abbrev pub world_read : Command → List ℕ → Result Said TextFault
+abbrev pub world_read : Command → List ℕ → Result WorldReading TextFault
 world_read (Run workers limit brief) input = world_text input
 world_read (Step seed limit brief) input = world_text input
 world_read Check input = checked_world input
@@ -161,15 +161,15 @@ world_read (Bench seed ranks rounds) input = Ok (record { world = Some (bench_sh
 -- tell it.
 
 -- the whole input was read, and the text is what the command tells of it
-pub record TellsInput (command : Command) (before after : Option (List ℕ)) (journal : List Event) (tally : ToldTally) (status : ℕ) (text : List ℕ) : Type 0 where
+pub record IsResultOf (command : Command) (before after : Option (List ℕ)) (journal : List Event) (tally : AnswerTally) (status : ℕ) (text : List ℕ) : Type 0 where
   pub input : List ℕ
   pub all : ForSome before (λ told. input ≡ told)
   pub end : ForSome before (λ told. after ≡ Some [])
-  pub tells : IsTold command input journal tally status text
+  pub tells : IsCommandResult command input journal tally status text
 
 -- the input has a fault, and the text names the first; the whole input was read, and where it is too long, one byte past
 -- what it may have
-pub record TellsFault (command : Command) (before after : Option (List ℕ)) (text : List ℕ) : Type 0 where
+pub record IsFaultOf (command : Command) (before after : Option (List ℕ)) (text : List ℕ) : Type 0 where
   pub input : List ℕ
   pub fault : TextFault
   pub all : ForSome before (λ told. input ≡ told)
@@ -185,89 +185,89 @@ NothingFailed faults faults' sink_faults sink_faults' = (faults' ≡ faults) × 
 -- What an answer says. Each case has its statuses.
 
 -- an answer without a history
-abbrev pub HasNoWorld : Answer → Type 0
-HasNoWorld answer = (answer.journal ≡ []) × (answer.tally ≡ None)
+abbrev pub HasNoJournal : Answer → Type 0
+HasNoJournal answer = (answer.journal ≡ []) × (answer.tally ≡ None)
 
 -- the input was told: status 0, 3 or 8 of a run on threads or on one, 0 or 4 of a journal that was read
-pub record HasTold (command : Command) (before after held held' : Option (List ℕ)) (faults faults' sink_faults sink_faults' : ℕ) (answer : Answer) : Type 0 where
+pub record WroteResult (command : Command) (before after held held' : Option (List ℕ)) (faults faults' sink_faults sink_faults' : ℕ) (answer : Answer) : Type 0 where
   pub text : List ℕ
   pub still : NothingFailed faults faults' sink_faults sink_faults'
-  pub told : TellsInput command before after answer.journal answer.tally answer.status text
+  pub told : IsResultOf command before after answer.journal answer.tally answer.status text
   pub written : held' ≡ with_more held text
 
 -- a fault was told: status 2
 pub record IsFaulty (command : Command) (before after held held' : Option (List ℕ)) (faults faults' sink_faults sink_faults' : ℕ) (answer : Answer) : Type 0 where
   pub text : List ℕ
   pub still : NothingFailed faults faults' sink_faults sink_faults'
-  pub fault : TellsFault command before after text
+  pub fault : IsFaultOf command before after text
   pub written : held' ≡ with_more held text
   pub status : answer.status ≡ 2
-  pub empty : HasNoWorld answer
+  pub empty : HasNoJournal answer
 
 -- the input could not be read: status 5; nothing was written, and at most one byte more was taken than an input may have
-pub record CouldNotRead (before after held held' : Option (List ℕ)) (faults faults' sink_faults sink_faults' : ℕ) (answer : Answer) : Type 0 where
+pub record ReadFailed (before after held held' : Option (List ℕ)) (faults faults' sink_faults sink_faults' : ℕ) (answer : Answer) : Type 0 where
   pub cause : HasCause faults faults'
   pub still : sink_faults' ≡ sink_faults
   pub taken : TakesAtMost (input_limit + 1) before after
   pub kept : held' ≡ held
   pub status : answer.status ≡ 5
-  pub empty : HasNoWorld answer
+  pub empty : HasNoJournal answer
 
 -- the text of the input or of a fault could not be written whole: status 6; what was written is a front part of it
-pub record CouldNotWrite (command : Command) (before after held held' : Option (List ℕ)) (faults faults' sink_faults sink_faults' : ℕ) (answer : Answer) : Type 0 where
+pub record WriteFailed (command : Command) (before after held held' : Option (List ℕ)) (faults faults' sink_faults sink_faults' : ℕ) (answer : Answer) : Type 0 where
   pub text : List ℕ
-  pub of : ((would_be : ℕ) × TellsInput command before after answer.journal answer.tally would_be text) ⊎ (TellsFault command before after text × HasNoWorld answer)
-  pub front : AddsFront text held held'
+  pub of : ((would_be : ℕ) × IsResultOf command before after answer.journal answer.tally would_be text) ⊎ (IsFaultOf command before after text × HasNoJournal answer)
+  pub front : AddsPrefix text held held'
   pub cause : HasCause sink_faults sink_faults'
   pub still : faults' ≡ faults
   pub status : answer.status ≡ 6
 
 -- want of memory, and nothing else: status 7; nothing was written, and at most one byte more was taken than an input may have
-pub record LacksMemory (before after held held' : Option (List ℕ)) (faults faults' sink_faults sink_faults' : ℕ) (answer : Answer) : Type 0 where
+pub record RanOutOfMemory (before after held held' : Option (List ℕ)) (faults faults' sink_faults sink_faults' : ℕ) (answer : Answer) : Type 0 where
   pub taken : TakesAtMost (input_limit + 1) before after
   pub kept : held' ≡ held
   pub still : NothingFailed faults faults' sink_faults sink_faults'
   pub status : answer.status ≡ 7
-  pub empty : HasNoWorld answer
+  pub empty : HasNoJournal answer
 
 -- the answer of a command that reads its input
 abbrev pub AnswersInput : Command → Option (List ℕ) → Option (List ℕ) → ℕ → ℕ → Option (List ℕ) → Option (List ℕ) → ℕ → ℕ → Answer → Type 0
 AnswersInput command before after faults faults' held held' sink_faults sink_faults' answer =
-    HasTold command before after held held' faults faults' sink_faults sink_faults' answer
+    WroteResult command before after held held' faults faults' sink_faults sink_faults' answer
     ⊎ (IsFaulty command before after held held' faults faults' sink_faults sink_faults' answer
-    ⊎ (CouldNotRead before after held held' faults faults' sink_faults sink_faults' answer
-    ⊎ (CouldNotWrite command before after held held' faults faults' sink_faults sink_faults' answer
-    ⊎ LacksMemory before after held held' faults faults' sink_faults sink_faults' answer)))
+    ⊎ (ReadFailed before after held held' faults faults' sink_faults sink_faults' answer
+    ⊎ (WriteFailed command before after held held' faults faults' sink_faults sink_faults' answer
+    ⊎ RanOutOfMemory before after held held' faults faults' sink_faults sink_faults' answer)))
 
 -- The answer of `bench`, which reads nothing.
 
 -- the numbers were told: status 0, 3 or 8
-pub record ToldNumbers (seed ranks rounds : ℕ) (held held' : Option (List ℕ)) (sink_faults sink_faults' : ℕ) (answer : Answer) : Type 0 where
+pub record WroteNumbers (seed ranks rounds : ℕ) (held held' : Option (List ℕ)) (sink_faults sink_faults' : ℕ) (answer : Answer) : Type 0 where
   pub text : List ℕ
   pub still : sink_faults' ≡ sink_faults
   pub told : HasBenched seed ranks rounds answer.journal answer.tally answer.status text
   pub written : held' ≡ with_more held text
 
 -- they could not be written whole: status 6; what was written is a front part of them
-pub record LostNumbers (seed ranks rounds : ℕ) (held held' : Option (List ℕ)) (sink_faults sink_faults' : ℕ) (answer : Answer) : Type 0 where
+pub record NumbersNotWritten (seed ranks rounds : ℕ) (held held' : Option (List ℕ)) (sink_faults sink_faults' : ℕ) (answer : Answer) : Type 0 where
   pub text : List ℕ
   pub would_be : ℕ
   pub of : HasBenched seed ranks rounds answer.journal answer.tally would_be text
-  pub front : AddsFront text held held'
+  pub front : AddsPrefix text held held'
   pub cause : HasCause sink_faults sink_faults'
   pub status : answer.status ≡ 6
 
 -- want of memory, and nothing else: status 7; nothing was written
-pub record NoNumbers (held held' : Option (List ℕ)) (sink_faults sink_faults' : ℕ) (answer : Answer) : Type 0 where
+pub record BenchOutOfMemory (held held' : Option (List ℕ)) (sink_faults sink_faults' : ℕ) (answer : Answer) : Type 0 where
   pub kept : held' ≡ held
   pub still : sink_faults' ≡ sink_faults
   pub status : answer.status ≡ 7
-  pub empty : HasNoWorld answer
+  pub empty : HasNoJournal answer
 
 abbrev pub AnswersBench : ℕ → ℕ → ℕ → Option (List ℕ) → Option (List ℕ) → ℕ → ℕ → Answer → Type 0
 AnswersBench seed ranks rounds held held' sink_faults sink_faults' answer =
-    ToldNumbers seed ranks rounds held held' sink_faults sink_faults' answer
-    ⊎ (LostNumbers seed ranks rounds held held' sink_faults sink_faults' answer ⊎ NoNumbers held held' sink_faults sink_faults' answer)
+    WroteNumbers seed ranks rounds held held' sink_faults sink_faults' answer
+    ⊎ (NumbersNotWritten seed ranks rounds held held' sink_faults sink_faults' answer ⊎ BenchOutOfMemory held held' sink_faults sink_faults' answer)
 
 -- the answer of a command
 abbrev pub Answers : Command → Option (List ℕ) → Option (List ℕ) → ℕ → ℕ → Option (List ℕ) → Option (List ℕ) → ℕ → ℕ → Answer → Type 0
@@ -285,6 +285,6 @@ Answers (Bench seed ranks rounds) before after faults faults' held held' sink_fa
 -- the answer to words that are refused: status 1, or 6 where that could not be written, or 7 where memory is wanting
 pub record Refuses (held held' : Option (List ℕ)) (faults faults' : ℕ) (answer : Answer) : Type 0 where
   pub says : ((answer.status ≡ 1) × (held' ≡ with_more held refused_text) × (faults' ≡ faults))
-      ⊎ (((answer.status ≡ 6) × AddsFront refused_text held held' × HasCause faults faults')
+      ⊎ (((answer.status ≡ 6) × AddsPrefix refused_text held held' × HasCause faults faults')
       ⊎ ((answer.status ≡ 7) × (held' ≡ held) × (faults' ≡ faults)))
-  pub empty : HasNoWorld answer
+  pub empty : HasNoJournal answer

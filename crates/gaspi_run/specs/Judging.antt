@@ -2,7 +2,7 @@
 use Rattle.std.specs.Prelude.{◌≡◌, ◌⊎◌, ℕ, ◌+◌, ◌-◌, length, drop, List, [], ◌++◌, Option, Some, None, Ok, codes}
 use Rattle.std.specs.List.{flat_map}
 use Rattle.std.specs.Fmt.{decimal}
-use Rattle.gaspi_types.specs.World.{World}
+use Rattle.gaspi_types.specs.World.{ShapeValue}
 use Rattle.gaspi_types.specs.declared.events.Event.{Event}
 use Rattle.call_texts.specs.Lines.{fed_lines}
 use Rattle.gaspi_model.specs.declared.states.Why.{Why}
@@ -17,7 +17,7 @@ use Rattle.call_journal.specs.declared.verdicts.Verdict.{Verdict}
 use Rattle.call_journal.specs.declared.verdicts.Verdict.TheVariants.{Legal, Illegal}
 use Rattle.gaspi_model.specs.ContributionCounts.{ContributesOnce}
 use Rattle.gaspi_model.specs.Notifications.{HandsOutOnce}
-use Rattle.rank_script.specs.WorldText.{journal_place, checked_world}
+use Rattle.rank_script.specs.WorldText.{journal_offset, checked_world}
 use Rattle.rank_script.specs.declared.scripts.Script.{Script}
 use Rattle.gaspi_run.specs.declared.judging.Question.{Question}
 use Rattle.gaspi_run.specs.declared.judging.Question.TheVariants as questions
@@ -75,7 +75,7 @@ pub record IsNoJournal (line : ℕ) (journal : List Event) (status : ℕ) (text 
   pub empty : journal ≡ []
 
 -- A verdict told. In a legal journal no notification value is handed out twice, and no rank has given to a group twice.
-pub record HasVerdict (world : World) (journal : List Event) (status : ℕ) (text : List ℕ) : Type 0 where
+pub record HasVerdict (world : ShapeValue) (journal : List Event) (status : ℕ) (text : List ℕ) : Type 0 where
   pub verdict : Verdict
   pub judged : IsVerdict world journal verdict
   pub handed : verdict ≡ Legal → HandsOutOnce world journal
@@ -84,14 +84,14 @@ pub record HasVerdict (world : World) (journal : List Event) (status : ℕ) (tex
   pub text_is : text ≡ verdict_text (length journal) verdict
 
 -- the writes told that a notification stands for
-pub record HasWrites (place : ℕ) (world : World) (journal : List Event) (status : ℕ) (text : List ℕ) : Type 0 where
+pub record HasWrites (place : ℕ) (world : ShapeValue) (journal : List Event) (status : ℕ) (text : List ℕ) : Type 0 where
   pub answer : WhyAnswer
   pub told : IsWhyAnswer world journal place answer
   pub status_is : status ≡ why_status answer
   pub text_is : text ≡ why_text place answer
 
 -- what was asked of a journal
-abbrev pub HasReply : Question → World → List Event → ℕ → List ℕ → Type 0
+abbrev pub HasReply : Question → ShapeValue → List Event → ℕ → List ℕ → Type 0
 HasReply questions.Verdict world journal status text = HasVerdict world journal status text
 HasReply (questions.Writes place) world journal status text = HasWrites place world journal status text
 
@@ -102,23 +102,23 @@ pub record IsUnread (text : List ℕ) (number : ℕ) (journal : List Event) (sta
   pub none : IsNoJournal (number - 1 + line) journal status told
 
 -- a journal, and what was asked of it
-pub record IsJudged (question : Question) (world : World) (text : List ℕ) (journal : List Event) (status : ℕ) (told : List ℕ) : Type 0 where
+pub record IsJudged (question : Question) (world : ShapeValue) (text : List ℕ) (journal : List Event) (status : ℕ) (told : List ℕ) : Type 0 where
   pub journal_is : text ≡ journal_text journal
   pub ranges : AreInRange journal
   pub reply : HasReply question world journal status told
 
 -- what is told of the text of a journal, the first line of which has that number
-abbrev pub IsRead : Question → World → List ℕ → ℕ → List Event → ℕ → List ℕ → Type 0
+abbrev pub IsRead : Question → ShapeValue → List ℕ → ℕ → List Event → ℕ → List ℕ → Type 0
 IsRead question world text number journal status told = IsUnread text number journal status told ⊎ IsJudged question world text journal status told
 
 -- What is told of an input with a world: where no line begins with `journal`, the line after the last is named.
-abbrev pub IsCheckedIn : Question → World → List ℕ → Option (ℕ × ℕ) → List Event → ℕ → List ℕ → Type 0
+abbrev pub IsCheckedIn : Question → ShapeValue → List ℕ → Option (ℕ × ℕ) → List Event → ℕ → List ℕ → Type 0
 IsCheckedIn question world input None journal status text = IsNoJournal (length (fed_lines input) + 1) journal status text
 IsCheckedIn question world input (Some place) journal status text = IsRead question world (drop place.0 input) place.1 journal status text
 
 -- What `check` and `why` do with their input: it has a world text, and from the first line that begins with `journal` on a journal.
 pub record IsChecked (question : Question) (input : List ℕ) (journal : List Event) (status : ℕ) (text : List ℕ) : Type 0 where
-  pub world : World
+  pub world : ShapeValue
   pub scripts : List Script
   pub read : checked_world input ≡ Ok (record { world = Some world; scripts = scripts })
-  pub result : IsCheckedIn question world input (journal_place input) journal status text
+  pub result : IsCheckedIn question world input (journal_offset input) journal status text

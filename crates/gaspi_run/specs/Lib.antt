@@ -5,9 +5,9 @@ pub mod Generator
 pub mod Joins
 pub mod Judging
 pub mod Looks
-pub mod Parts
+pub mod ThreadBodies
 pub mod Runs
-pub mod Saying
+pub mod Answering
 pub mod Schedule
 pub mod SoFar
 pub mod Threads

@@ -7,8 +7,8 @@ use Rattle.gaspi_types.specs.declared.calls.Timeout.TheVariants.{Looks, Block}
 use Rattle.gaspi_types.specs.declared.events.Event.{Event}
 use Rattle.gaspi_types.specs.declared.replies.Reply.{Reply}
 use Rattle.gaspi_types.specs.declared.shapes.CallerId.{CallerId}
-use Rattle.gaspi_model.specs.Step.{own_calls}
-use Rattle.rank_script.specs.Runs.{Progress, Going, Over, advanced}
+use Rattle.gaspi_model.specs.Step.{recorded_calls}
+use Rattle.rank_script.specs.Runs.{RunPosition, AtLine, RunEnded, advanced}
 
 -- how many looks a call has: one that blocks has so many
 abbrev pub looks_in : ℕ → Timeout → ℕ
@@ -21,10 +21,10 @@ bounded limit timeout = Looks (looks_in limit timeout)
 
 -- How many looks each call of a run has, in order: those of its line. The end of the caller, which never times out, has those of the
 -- line before which the run was stopped, else one.
-abbrev pub looks_along : ℕ → Progress → List (Call × Reply) → List ℕ
+abbrev pub looks_along : ℕ → RunPosition → List (Call × Reply) → List ℕ
 looks_along limit p [] = []
-looks_along limit (Over outcome) (pair ∷ pairs) = 1 ∷ looks_along limit (Over outcome) pairs
-looks_along limit (Going line made lines) (pair ∷ pairs) = looks_in limit line.timeout ∷ looks_along limit (advanced (Going line made lines) pair.1) pairs
+looks_along limit (RunEnded outcome) (pair ∷ pairs) = 1 ∷ looks_along limit (RunEnded outcome) pairs
+looks_along limit (AtLine line made lines) (pair ∷ pairs) = looks_in limit line.timeout ∷ looks_along limit (advanced (AtLine line made lines) pair.1) pairs
 
 -- a look of these, by the lengths of the histories that they saw, was made after a history
 abbrev pub HasLookAfter : List Event → List ℕ → Type 0
@@ -39,4 +39,4 @@ AreWithin (looks ∷ others) (number ∷ numbers) = (length looks ≤ number) ×
 -- each group has the looks of one call, as many of its caller's calls having been recorded before each of them as there are groups before
 abbrev pub AreByCall : CallerId → List Event → List (List (List Event)) → Type 0
 AreByCall c seen groups =
-    (i j : ℕ) (looks : List (List Event)) (h : List Event) → slice_get groups i ≡ Some looks → slice_get looks j ≡ Some h → IsPrefix h seen × (length (own_calls c.rank c.thread h) ≡ i)
+    (i j : ℕ) (looks : List (List Event)) (h : List Event) → slice_get groups i ≡ Some looks → slice_get looks j ≡ Some h → IsPrefix h seen × (length (recorded_calls c.rank c.thread h) ≡ i)

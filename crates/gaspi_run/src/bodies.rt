@@ -20,10 +20,10 @@ pub struct ScriptBody<'a> {
 
 impl<'a> Body for ScriptBody<'a> {
     ghost use Rattle.std.specs.Prelude.{◌≡◌};
-    ghost use Rattle.rank_script.specs.Runs.{going_on};
+    ghost use Rattle.rank_script.specs.Runs.{at_first_line};
     ghost use Rattle.gaspi_run.specs.Bodies.{IsRunnable, IsFresh, HasRunScript};
 
-    ghost needs = { λ body world pass. IsRunnable body.script.now body.limit × IsFresh body.script.now world pass × (body.cursor ≡ going_on body.script.now.lines) };
+    ghost needs = { λ body world pass. IsRunnable body.script.now body.limit × IsFresh body.script.now world pass × (body.cursor ≡ at_first_line body.script.now.lines) };
 
     ghost did = { λ body pass next after. (next.script ≡ body.script) × (next.limit ≡ body.limit) × HasRunScript body.script.now body.limit next.outcome pass after };
 

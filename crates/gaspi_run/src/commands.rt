@@ -2,18 +2,18 @@
 
 ghost use Rattle.std.specs.Prelude.{◌≡◌, ◌⊎◌, true, map, None, Some, Err, IfOk};
 ghost use Rattle.gaspi_io.specs.Faults.{HasCause};
-ghost use Rattle.gaspi_io.specs.Sink.{with_more, AddsFront};
+ghost use Rattle.gaspi_io.specs.Sink.{with_more, AddsPrefix};
 ghost use Rattle.command_line.specs.Words.{command_of};
 ghost use Rattle.command_line.specs.declared.words.Command.{Command};
 ghost use Rattle.command_line.specs.declared.words.Command.TheVariants as commands;
-ghost use Rattle.gaspi_run.specs.Command.{fault_text, IsWithin, is_plain, HasNoWorld, Refuses, AnswersBench, Answers};
-ghost use Rattle.gaspi_run.specs.Saying.{SaysFault, Says, SaysStop};
+ghost use Rattle.gaspi_run.specs.Command.{fault_text, IsWithin, is_plain, HasNoJournal, Refuses, AnswersBench, Answers};
+ghost use Rattle.gaspi_run.specs.Answering.{AnswersFault, AnswersResult, AnswersStop};
 
-use crate::telling::{Told, tell, tell_bench, tell_run};
+use crate::results::{CommandResult, bench_result, command_result, run_result};
 use command_line::{Command, read_words};
 use gaspi_io::{Failed, ReadStop, Sink, Source, read_all, write_all};
 use gaspi_texts::{Journal, write_number};
-use gaspi_types::{Bytes, NoMemory, Rows};
+use gaspi_types::{Bytes, NoMemory, Sequence};
 use gaspi_world::Tally;
 use rank_script::{MOST_INPUT_BYTES, ScriptFault};
 use std::alloc::Global;
@@ -57,7 +57,7 @@ fn fault_line(alloc: Global, number: u32, line: u64) -> Result<Bytes, NoMemory>
 /// Writes a text, and gives the status: 6 where it could not be written whole.
 fn status_of<K: Sink>(sink: &mut K, text: &[u8], status: u8) -> u8
     ensures { ((result ≡ status) × (K.held sink.new ≡ with_more (K.held sink.old) text.now) × (K.faults sink.new ≡ K.faults sink.old))
-        ⊎ ((result ≡ 6) × AddsFront text.now (K.held sink.old) (K.held sink.new) × HasCause (K.faults sink.old) (K.faults sink.new)) }
+        ⊎ ((result ≡ 6) × AddsPrefix text.now (K.held sink.old) (K.held sink.new) × HasCause (K.faults sink.old) (K.faults sink.new)) }
 {
     match write_all(sink, text) {
         Ok(()) => status,
@@ -66,30 +66,34 @@ fn status_of<K: Sink>(sink: &mut K, text: &[u8], status: u8) -> u8
 }
 
 /// An answer with nothing but a status.
-fn bare(alloc: Global, status: u8) -> Answer
-    ensures { (result.status ≡ status) × HasNoWorld result }
+fn answer_without_journal(alloc: Global, status: u8) -> Answer
+    ensures { (result.status ≡ status) × HasNoJournal result }
 {
     Answer {
         status,
-        journal: Rows::new(alloc),
+        journal: Sequence::new(alloc),
         tally: None,
     }
 }
 
 /// Answers a fault of the input.
 fn answer_fault<K: Sink>(alloc: Global, sink: &mut K, number: u32, line: u64) -> Answer
-    ensures { SaysFault (K.held sink.old) (K.held sink.new) (K.faults sink.old) (K.faults sink.new) result (record { number = number; line = line }) }
+    ensures { AnswersFault (K.held sink.old) (K.held sink.new) (K.faults sink.old) (K.faults sink.new) result (record { number = number; line = line }) }
 {
     let status = match fault_line(alloc, number, line) {
         Ok(text) => status_of(sink, text.as_slice(), 2),
         Err(NoMemory) => 7,
     };
-    bare(alloc, status)
+    answer_without_journal(alloc, status)
 }
 
 /// Answers what was told of an input, or its fault.
-fn answer_told<K: Sink>(alloc: Global, sink: &mut K, told: Result<Told, ScriptFault>) -> Answer
-    ensures { Says (K.held sink.old) (K.held sink.new) (K.faults sink.old) (K.faults sink.new) result told }
+fn answer_result<K: Sink>(
+    alloc: Global,
+    sink: &mut K,
+    told: Result<CommandResult, ScriptFault>,
+) -> Answer
+    ensures { AnswersResult (K.held sink.old) (K.held sink.new) (K.faults sink.old) (K.faults sink.new) result told }
 {
     match told {
         Ok(told) => {
@@ -101,18 +105,18 @@ fn answer_told<K: Sink>(alloc: Global, sink: &mut K, told: Result<Told, ScriptFa
             }
         }
         Err(ScriptFault::At { number, line }) => answer_fault(alloc, sink, number, line),
-        Err(ScriptFault::NoMemory) => bare(alloc, 7),
+        Err(ScriptFault::NoMemory) => answer_without_journal(alloc, 7),
     }
 }
 
 /// Answers an input that could not be read.
 fn answer_stop<K: Sink>(alloc: Global, sink: &mut K, stop: ReadStop) -> Answer
-    ensures { SaysStop (K.held sink.old) (K.held sink.new) (K.faults sink.old) (K.faults sink.new) result stop }
+    ensures { AnswersStop (K.held sink.old) (K.held sink.new) (K.faults sink.old) (K.faults sink.new) result stop }
 {
     match stop {
-        ReadStop::Fault => bare(alloc, 5),
+        ReadStop::Fault => answer_without_journal(alloc, 5),
         ReadStop::Long => answer_fault(alloc, sink, 1, 0),
-        ReadStop::NoMemory => bare(alloc, 7),
+        ReadStop::NoMemory => answer_without_journal(alloc, 7),
     }
 }
 
@@ -129,7 +133,11 @@ pub fn run_command<S: Source, K: Sink>(
         (K.held sink.old) (K.held sink.new) (K.faults sink.old) (K.faults sink.new) result }
 {
     match read_all(alloc, source, MOST_INPUT_BYTES as u64) {
-        Ok(input) => answer_told(alloc, sink, tell(alloc, command, input.as_slice())),
+        Ok(input) => answer_result(
+            alloc,
+            sink,
+            command_result(alloc, command, input.as_slice()),
+        ),
         Err(stop) => answer_stop(alloc, sink, stop),
     }
 }
@@ -150,8 +158,8 @@ pub fn run_threads<R: Threads + Wait + Sync, S: Source, K: Sink>(
 {
     match read_all(alloc, source, MOST_INPUT_BYTES as u64) {
         Ok(input) => {
-            let told = tell_run(rt, alloc, workers, limit, brief, input.as_slice());
-            answer_told(alloc, sink, told)
+            let told = run_result(rt, alloc, workers, limit, brief, input.as_slice());
+            answer_result(alloc, sink, told)
         }
         Err(stop) => answer_stop(alloc, sink, stop),
     }
@@ -169,9 +177,9 @@ pub fn run_bench<R: Threads + Wait + Sync, K: Sink>(
     requires { IsWithin (commands.Bench seed ranks rounds) }
     ensures { AnswersBench seed ranks rounds (K.held sink.old) (K.held sink.new) (K.faults sink.old) (K.faults sink.new) result }
 {
-    match tell_bench(rt, alloc, seed, ranks, rounds) {
-        Ok(told) => answer_told(alloc, sink, Ok(told)),
-        Err(NoMemory) => bare(alloc, 7),
+    match bench_result(rt, alloc, seed, ranks, rounds) {
+        Ok(told) => answer_result(alloc, sink, Ok(told)),
+        Err(NoMemory) => answer_without_journal(alloc, 7),
     }
 }
 
@@ -223,8 +231,8 @@ pub fn gaspirun<R: Threads + Wait + Sync, S: Source, K: Sink>(
         Ok(Some(command)) => answer_command(rt, alloc, command, source, sink),
         Ok(None) => {
             let status = status_of(sink, b"gaspirun: words refused\n", 1);
-            bare(alloc, status)
+            answer_without_journal(alloc, status)
         }
-        Err(NoMemory) => bare(alloc, 7),
+        Err(NoMemory) => answer_without_journal(alloc, 7),
     }
 }

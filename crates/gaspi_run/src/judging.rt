@@ -7,12 +7,12 @@ ghost use Rattle.rank_script.specs.declared.scripts.ScriptFault.TheVariants as s
 ghost use Rattle.call_texts.specs.Lines.{fed_lines};
 ghost use Rattle.gaspi_run.specs.Judging.{HasReply, HasVerdict, HasWrites, IsChecked, IsNoJournal, IsRead, illegal_text, verdict_status, verdict_text, why_status, why_text, why_word, write_line, writes_text, no_notification_text};
 
-use crate::telling::Told;
+use crate::results::CommandResult;
 use call_journal::{ArrivedWrite, Verdict, WhyAnswer, check, why};
 use call_texts::first_line;
 use gaspi_model::Why;
 use gaspi_texts::{Journal, JournalFault, read, write_number};
-use gaspi_types::{Bytes, NoMemory, Rows, Shape};
+use gaspi_types::{Bytes, NoMemory, Sequence, Shape};
 use rank_script::{ScriptFault, read_input};
 use std::alloc::Global;
 
@@ -79,7 +79,7 @@ fn verdict_status(verdict: Verdict) -> u8
 }
 
 /// Tells that an input has no journal, and at which of its lines.
-fn tell_no_journal(alloc: Global, line: u64) -> Result<Told, NoMemory>
+fn no_journal_result(alloc: Global, line: u64) -> Result<CommandResult, NoMemory>
     ensures none { IfOk result (λ told. IsNoJournal line told.journal told.status told.text) }
     ensures plain { IfOk result (λ told. told.tally ≡ None) }
 {
@@ -87,8 +87,8 @@ fn tell_no_journal(alloc: Global, line: u64) -> Result<Told, NoMemory>
     text.append(b"not a journal ")?;
     write_number(&mut text, line)?;
     text.append(b"\n")?;
-    Ok(Told {
-        journal: Rows::new(alloc),
+    Ok(CommandResult {
+        journal: Sequence::new(alloc),
         tally: None,
         status: 4,
         text,
@@ -96,14 +96,14 @@ fn tell_no_journal(alloc: Global, line: u64) -> Result<Told, NoMemory>
 }
 
 /// Tells the verdict on a journal.
-fn tell_verdict(alloc: Global, shape: &Shape, journal: Journal) -> Result<Told, NoMemory>
+fn verdict_result(alloc: Global, shape: &Shape, journal: Journal) -> Result<CommandResult, NoMemory>
     ensures verdict { IfOk result (λ told. HasVerdict shape.now told.journal told.status told.text) }
     ensures journal { IfOk result (λ told. told.journal ≡ journal) }
     ensures plain { IfOk result (λ told. told.tally ≡ None) }
 {
     let verdict = check(alloc, shape, &journal)?;
     let text = verdict_text(alloc, journal.len() as u64, verdict)?;
-    Ok(Told {
+    Ok(CommandResult {
         journal,
         tally: None,
         status: verdict_status(verdict),
@@ -180,14 +180,19 @@ fn why_status(answer: &WhyAnswer) -> u8
 }
 
 /// Tells which writes the notification stands for that was put at a place of a journal.
-fn tell_writes(alloc: Global, shape: &Shape, journal: Journal, place: u64) -> Result<Told, NoMemory>
+fn tell_writes(
+    alloc: Global,
+    shape: &Shape,
+    journal: Journal,
+    place: u64,
+) -> Result<CommandResult, NoMemory>
     ensures writes { IfOk result (λ told. HasWrites place shape.now told.journal told.status told.text) }
     ensures journal { IfOk result (λ told. told.journal ≡ journal) }
     ensures plain { IfOk result (λ told. told.tally ≡ None) }
 {
     let answer = why(alloc, shape, &journal, place)?;
     let text = why_text(alloc, place, &answer)?;
-    Ok(Told {
+    Ok(CommandResult {
         journal,
         tally: None,
         status: why_status(&answer),
@@ -201,13 +206,13 @@ fn tell_reply(
     shape: &Shape,
     journal: Journal,
     question: Question,
-) -> Result<Told, NoMemory>
+) -> Result<CommandResult, NoMemory>
     ensures reply { IfOk result (λ told. HasReply question shape.now told.journal told.status told.text) }
     ensures journal { IfOk result (λ told. told.journal ≡ journal) }
     ensures plain { IfOk result (λ told. told.tally ≡ None) }
 {
     match question {
-        Question::Verdict => tell_verdict(alloc, shape, journal),
+        Question::Verdict => verdict_result(alloc, shape, journal),
         Question::Writes { place } => tell_writes(alloc, shape, journal, place),
     }
 }
@@ -234,20 +239,24 @@ fn tell_journal(
     text: &[u8],
     number: u64,
     question: Question,
-) -> Result<Told, NoMemory>
+) -> Result<CommandResult, NoMemory>
     requires { (1 ≤ number) × (number + length text.now < 2 ^ 63) }
     ensures read { IfOk result (λ told. IsRead question shape.now text.now number told.journal told.status told.text) }
     ensures plain { IfOk result (λ told. told.tally ≡ None) }
 {
     match read(alloc, text) {
         Ok(journal) => tell_reply(alloc, shape, journal, question),
-        Err(JournalFault::At { line }) => tell_no_journal(alloc, number - 1 + line),
+        Err(JournalFault::At { line }) => no_journal_result(alloc, number - 1 + line),
         Err(JournalFault::NoMemory) => Err(NoMemory),
     }
 }
 
 /// Replays the journal of an input in the world of the text before it, and tells of it what is asked.
-pub fn tell_judged(alloc: Global, input: &[u8], question: Question) -> Result<Told, ScriptFault>
+pub fn tell_judged(
+    alloc: Global,
+    input: &[u8],
+    question: Question,
+) -> Result<CommandResult, ScriptFault>
     ensures told { IfOk result (λ told. IsChecked question input.now told.journal told.status told.text) }
     ensures plain { IfOk result (λ told. told.tally ≡ None) }
     ensures fault { (number line : ℕ) → IsErrOf result (script_faults.At number line)
@@ -255,7 +264,7 @@ pub fn tell_judged(alloc: Global, input: &[u8], question: Question) -> Result<To
 {
     let (shape, _scripts, place) = read_input(alloc, input)?;
     match place {
-        None => Ok(tell_no_journal(alloc, line_count(input) + 1)?),
+        None => Ok(no_journal_result(alloc, line_count(input) + 1)?),
         Some((place, number)) => {
             let journal = &input[place as usize..];
             Ok(tell_journal(alloc, &shape, journal, number, question)?)

@@ -6,20 +6,20 @@ ghost use Rattle.gaspi_types.specs.declared.replies.Ready.TheVariants.{Join, Not
 ghost use Rattle.gaspi_types.specs.declared.events.Event.TheVariants.{Called};
 ghost use Rattle.gaspi_model.specs.CollectiveCalls.{is_joining, join_event};
 ghost use Rattle.gaspi_model.specs.Calls.{recorded_reply};
-ghost use Rattle.gaspi_model.specs.Step.{step, answer_in, is_active, is_full_in, transfer_event};
+ghost use Rattle.gaspi_model.specs.Step.{step, answer_in, is_active, lacks_room_in, transfer_event};
 ghost use Rattle.gaspi_model.specs.Transfers.{transfers};
 ghost use Rattle.gaspi_run.specs.Generator.{picked};
-ghost use Rattle.gaspi_run.specs.Schedule.{made, looks_of, recorded, looked, join_args, joined, joined_turn, is_full, going_turn, ending_turn, caller_turn, candidate_turn, candidates, turn, AreActive, IsCallerAt, MayBeRecorded};
-ghost use Rattle.plain_machine.specs.Looking.{IsFindingIn};
+ghost use Rattle.gaspi_run.specs.Schedule.{made, looks_of, recorded, looked, join_args, joined, joined_iteration, is_full, active_iteration, end_iteration, caller_turn, candidate_turn, candidates, iterate, AreActive, IsCallerAt, MayBeRecorded};
+ghost use Rattle.plain_machine.specs.Looking.{IsEvaluationIn};
 ghost use Rattle.rank_script.specs.Runs.{advanced};
 ghost use Rattle.rank_script.specs.declared.scripts.ScriptLine.{ScriptLine};
-ghost use Rattle.gaspi_run.specs.declared.turns.Waiting.{Waiting};
+ghost use Rattle.gaspi_run.specs.declared.schedule_states.ActiveCaller.{ActiveCaller};
 
-use crate::turns::{Finished, Turns, Waiting};
+use crate::schedule_states::{ActiveCaller, EndedCaller, ScheduleState};
 use gaspi_model::{StepFault, soundness};
 use gaspi_types::{Args, Call, Event, Invocation, NoMemory, Ready, Reply, Timeout, Transfer};
-use plain_calls::Finding;
-use rank_script::{Halted, RunOutcome, drawn};
+use plain_calls::Evaluation;
+use rank_script::{RunOutcome, RunStop, drawn};
 use std::alloc::Global;
 
 /// The candidate that a draw picks, of so many callers that wait and so many transfers.
@@ -46,7 +46,7 @@ fn looks_of(limit: u32, timeout: Timeout) -> u32
 }
 
 /// Makes an event. One that is no step is not made.
-fn make(turns: &mut Turns, alloc: Global, event: Event) -> Result<(), NoMemory>
+fn make(turns: &mut ScheduleState, alloc: Global, event: Event) -> Result<(), NoMemory>
     ensures { OnOk result (turns.new ≡ made turns.old event) }
 {
     match turns.state.step(alloc, &event) {
@@ -60,7 +60,7 @@ fn make(turns: &mut Turns, alloc: Global, event: Event) -> Result<(), NoMemory>
 }
 
 /// Brings the run of a waiting caller on by what a look at its present call found.
-fn bring_on(waiting: &mut Waiting<'_>, ready: &Ready)
+fn bring_on(waiting: &mut ActiveCaller<'_>, ready: &Ready)
     ensures { waiting.new ≡ record { caller = waiting.old.caller; cursor = advanced waiting.old.cursor (recorded_reply ready.now); looks = 0 } }
 {
     match ready {
@@ -72,22 +72,22 @@ fn bring_on(waiting: &mut Waiting<'_>, ready: &Ready)
 
 /// Records a look at the present call of a waiting caller, which is a step.
 fn record_call(
-    turns: &mut Turns,
+    turns: &mut ScheduleState,
     alloc: Global,
     place: usize,
     invocation: &Invocation<'_>,
-    look: Finding,
+    look: Evaluation,
 ) -> Result<(), NoMemory>
-    requires place { place < length turns.old.waiting }
+    requires place { place < length turns.old.active }
     requires caller { IsCallerAt turns.old place invocation.now.caller }
     requires active { is_active turns.old.state invocation.now.caller.rank invocation.now.caller.thread ≡ true }
-    requires look { IsFindingIn look turns.old.state invocation.now.caller invocation.now.call.now }
+    requires look { IsEvaluationIn look turns.old.state invocation.now.caller invocation.now.call.now }
     requires unjoined { is_joining look.ready ≡ false }
     requires steps { IsOk (step turns.old.state (Called invocation.now.caller invocation.now.call.now (recorded_reply look.ready))) }
-    ensures { (w : Waiting) → slice_get turns.old.waiting place ≡ Some w → OnOk result (turns.new ≡ recorded turns.old place w invocation.now.call.now (recorded_reply look.ready)) }
+    ensures { (w : ActiveCaller) → slice_get turns.old.active place ≡ Some w → OnOk result (turns.new ≡ recorded turns.old place w invocation.now.call.now (recorded_reply look.ready)) }
 {
     let call = invocation.call.copy(alloc)?;
-    bring_on(turns.waiting.at_mut(place), &look.ready);
+    bring_on(turns.active.at_mut(place), &look.ready);
     let reply = turns.state.record(alloc, invocation, look)?;
     let event = Event::Called(invocation.caller, call, reply);
     turns.journal.push(event)?;
@@ -96,54 +96,54 @@ fn record_call(
 
 /// The end of a waiting caller whose run is over.
 fn end_caller(
-    turns: &mut Turns,
+    turns: &mut ScheduleState,
     alloc: Global,
     place: usize,
     outcome: RunOutcome,
 ) -> Result<(), NoMemory>
-    requires { place < length turns.old.waiting }
-    ensures { (w : Waiting) → slice_get turns.old.waiting place ≡ Some w → OnOk result (turns.new ≡ ending_turn turns.old place w outcome) }
+    requires { place < length turns.old.active }
+    ensures { (w : ActiveCaller) → slice_get turns.old.active place ≡ Some w → OnOk result (turns.new ≡ end_iteration turns.old place w outcome) }
 {
-    let end = Event::Called(turns.waiting.at(place).caller, Call::End, Reply::Done);
-    let caller = turns.waiting.at(place).caller;
-    drop(turns.waiting.remove(place));
-    turns.finished.push(Finished { caller, outcome })?;
+    let end = Event::Called(turns.active.at(place).caller, Call::End, Reply::Done);
+    let caller = turns.active.at(place).caller;
+    drop(turns.active.remove(place));
+    turns.ended.push(EndedCaller { caller, outcome })?;
     make(turns, alloc, end)
 }
 
 /// A look at the present call of a waiting caller that is not ready: at the last one a timeout is recorded, which is a step.
 fn look_again(
-    turns: &mut Turns,
+    turns: &mut ScheduleState,
     alloc: Global,
     limit: u32,
     place: usize,
     invocation: &Invocation<'_>,
     timeout: Timeout,
-    look: Finding,
+    look: Evaluation,
 ) -> Result<(), NoMemory>
-    requires place { place < length turns.old.waiting }
+    requires place { place < length turns.old.active }
     requires caller { IsCallerAt turns.old place invocation.now.caller }
     requires active { is_active turns.old.state invocation.now.caller.rank invocation.now.caller.thread ≡ true }
-    requires look { IsFindingIn look turns.old.state invocation.now.caller invocation.now.call.now }
+    requires look { IsEvaluationIn look turns.old.state invocation.now.caller invocation.now.call.now }
     requires not_ready { look.ready ≡ NotReady }
     requires steps { IsOk (step turns.old.state (Called invocation.now.caller invocation.now.call.now (recorded_reply look.ready))) }
-    ensures { (w : Waiting) (line : ScriptLine) → slice_get turns.old.waiting place ≡ Some w → line.call ≡ invocation.now.call.now → line.timeout ≡ timeout
+    ensures { (w : ActiveCaller) (line : ScriptLine) → slice_get turns.old.active place ≡ Some w → line.call ≡ invocation.now.call.now → line.timeout ≡ timeout
         → OnOk result (turns.new ≡ looked limit turns.old place w line) }
 {
-    let looks = turns.waiting.at(place).looks;
+    let looks = turns.active.at(place).looks;
     let most = looks_of(limit, timeout);
     if u64::from(most) <= u64::from(looks) + 1 {
         return record_call(turns, alloc, place, invocation, look);
     }
-    turns.waiting.at_mut(place).looks = looks + 1;
+    turns.active.at_mut(place).looks = looks + 1;
     Ok(())
 }
 
 /// The arguments with which a look found that a call may join its group.
-fn join_args(look: Finding) -> Option<Args>
+fn join_args(look: Evaluation) -> Option<Args>
     ensures { result ≡ join_args look.ready }
 {
-    let Finding {
+    let Evaluation {
         ready,
         kinds: _,
         message: _,
@@ -156,7 +156,7 @@ fn join_args(look: Finding) -> Option<Args>
 
 /// The join of the present call of a waiting caller to its group, where a look found that it may; it is a step. (GASPI: collectives)
 fn join_group(
-    turns: &mut Turns,
+    turns: &mut ScheduleState,
     alloc: Global,
     invocation: &Invocation<'_>,
     args: Args,
@@ -164,10 +164,10 @@ fn join_group(
     requires active { is_active turns.old.state invocation.now.caller.rank invocation.now.caller.thread ≡ true }
     requires joins { answer_in turns.old.state invocation.now.caller.rank invocation.now.caller.thread invocation.now.call.now ≡ Some (Join args) }
     requires steps { IsOk (step turns.old.state (join_event invocation.now.caller invocation.now.call.now args)) }
-    ensures joined { (w : Waiting) (line : ScriptLine) → w.caller ≡ invocation.now.caller → line.call ≡ invocation.now.call.now → OnOk result (turns.new ≡ joined turns.old w line args) }
+    ensures joined { (w : ActiveCaller) (line : ScriptLine) → w.caller ≡ invocation.now.caller → line.call ≡ invocation.now.call.now → OnOk result (turns.new ≡ joined turns.old w line args) }
     ensures stepped { OnOk result (step turns.old.state (join_event invocation.now.caller invocation.now.call.now args) ≡ Ok turns.new.state) }
     ensures active { OnOk result (is_active turns.new.state invocation.now.caller.rank invocation.now.caller.thread ≡ true) }
-    ensures waiting { turns.new.waiting ≡ turns.old.waiting }
+    ensures waiting { turns.new.active ≡ turns.old.active }
 {
     soundness();
     let event = turns.state.join(alloc, invocation, args)?;
@@ -177,19 +177,19 @@ fn join_group(
 
 /// The look at the present call of a waiting caller goes on, which has joined its group: what it finds is no join, and may be recorded.
 fn look_joined(
-    turns: &mut Turns,
+    turns: &mut ScheduleState,
     alloc: Global,
     limit: u32,
     place: usize,
     invocation: &Invocation<'_>,
     timeout: Timeout,
 ) -> Result<(), NoMemory>
-    requires place { place < length turns.old.waiting }
+    requires place { place < length turns.old.active }
     requires caller { IsCallerAt turns.old place invocation.now.caller }
     requires active { is_active turns.old.state invocation.now.caller.rank invocation.now.caller.thread ≡ true }
     requires recordable { MayBeRecorded turns.old.state invocation.now.caller invocation.now.call.now }
-    ensures { (w : Waiting) (line : ScriptLine) → slice_get turns.old.waiting place ≡ Some w → line.call ≡ invocation.now.call.now → line.timeout ≡ timeout
-        → OnOk result (turns.new ≡ joined_turn limit turns.old place w line) }
+    ensures { (w : ActiveCaller) (line : ScriptLine) → slice_get turns.old.active place ≡ Some w → line.call ≡ invocation.now.call.now → line.timeout ≡ timeout
+        → OnOk result (turns.new ≡ joined_iteration limit turns.old place w line) }
 {
     let found = turns.state.look(alloc, invocation)?;
     match found.ready {
@@ -200,52 +200,52 @@ fn look_joined(
 }
 
 /// Whether the rank of a waiting caller has no room for what its present call needs.
-fn is_full(turns: &Turns, invocation: &Invocation<'_>) -> bool
+fn is_full(turns: &ScheduleState, invocation: &Invocation<'_>) -> bool
     requires active { is_active turns.now.state invocation.now.caller.rank invocation.now.caller.thread ≡ true }
-    ensures room { result ≡ is_full_in turns.now.state invocation.now.caller invocation.now.call.now }
-    ensures full { (w : Waiting) (line : ScriptLine) → w.caller ≡ invocation.now.caller → line.call ≡ invocation.now.call.now → result ≡ is_full turns.now.state w.caller line }
+    ensures room { result ≡ lacks_room_in turns.now.state invocation.now.caller invocation.now.call.now }
+    ensures full { (w : ActiveCaller) (line : ScriptLine) → w.caller ≡ invocation.now.caller → line.call ≡ invocation.now.call.now → result ≡ is_full turns.now.state w.caller line }
 {
     turns.state.is_full(invocation)
 }
 
 /// The turn of a waiting caller whose script goes on.
 fn go_on(
-    turns: &mut Turns,
+    turns: &mut ScheduleState,
     alloc: Global,
     limit: u32,
     place: usize,
     call: &Call,
     timeout: Timeout,
 ) -> Result<(), NoMemory>
-    requires place { place < length turns.old.waiting }
+    requires place { place < length turns.old.active }
     requires active { AreActive turns.old }
-    ensures { (w : Waiting) (line : ScriptLine) → slice_get turns.old.waiting place ≡ Some w → line.call ≡ call.now → line.timeout ≡ timeout
-        → OnOk result (turns.new ≡ going_turn limit turns.old place w line) }
+    ensures { (w : ActiveCaller) (line : ScriptLine) → slice_get turns.old.active place ≡ Some w → line.call ≡ call.now → line.timeout ≡ timeout
+        → OnOk result (turns.new ≡ active_iteration limit turns.old place w line) }
 {
-    let caller = turns.waiting.at(place).caller;
+    let caller = turns.active.at(place).caller;
     let invocation = Invocation::new(caller, call);
     go_on_with(turns, alloc, limit, place, &invocation, timeout)
 }
 
 /// The turn of a waiting caller whose script goes on, with its present call.
 fn go_on_with(
-    turns: &mut Turns,
+    turns: &mut ScheduleState,
     alloc: Global,
     limit: u32,
     place: usize,
     invocation: &Invocation<'_>,
     timeout: Timeout,
 ) -> Result<(), NoMemory>
-    requires place { place < length turns.old.waiting }
+    requires place { place < length turns.old.active }
     requires caller { IsCallerAt turns.old place invocation.now.caller }
     requires active { is_active turns.old.state invocation.now.caller.rank invocation.now.caller.thread ≡ true }
-    ensures { (w : Waiting) (line : ScriptLine) → slice_get turns.old.waiting place ≡ Some w → line.call ≡ invocation.now.call.now → line.timeout ≡ timeout
-        → OnOk result (turns.new ≡ going_turn limit turns.old place w line) }
+    ensures { (w : ActiveCaller) (line : ScriptLine) → slice_get turns.old.active place ≡ Some w → line.call ≡ invocation.now.call.now → line.timeout ≡ timeout
+        → OnOk result (turns.new ≡ active_iteration limit turns.old place w line) }
 {
     turns.state.limits();
     if is_full(turns, invocation) {
-        let waiting = turns.waiting.at_mut(place);
-        waiting.cursor.stop(Halted::Limit);
+        let waiting = turns.active.at_mut(place);
+        waiting.cursor.stop(RunStop::Limit);
         waiting.looks = 0;
         return Ok(());
     }
@@ -264,12 +264,17 @@ fn go_on_with(
 }
 
 /// The turn of a waiting caller.
-fn caller_turn(turns: &mut Turns, alloc: Global, limit: u32, place: usize) -> Result<(), NoMemory>
-    requires place { place < length turns.old.waiting }
+fn caller_iteration(
+    turns: &mut ScheduleState,
+    alloc: Global,
+    limit: u32,
+    place: usize,
+) -> Result<(), NoMemory>
+    requires place { place < length turns.old.active }
     requires active { AreActive turns.old }
-    ensures { (w : Waiting) → slice_get turns.old.waiting place ≡ Some w → OnOk result (turns.new ≡ caller_turn limit turns.old place w) }
+    ensures { (w : ActiveCaller) → slice_get turns.old.active place ≡ Some w → OnOk result (turns.new ≡ caller_turn limit turns.old place w) }
 {
-    let cursor = &turns.waiting.at(place).cursor;
+    let cursor = &turns.active.at(place).cursor;
     if let Some(outcome) = cursor.outcome() {
         return end_caller(turns, alloc, place, outcome);
     }
@@ -283,7 +288,11 @@ fn caller_turn(turns: &mut Turns, alloc: Global, limit: u32, place: usize) -> Re
 }
 
 /// The turn of a transfer, with the machine's outcome.
-fn transfer_turn(turns: &mut Turns, alloc: Global, transfer: &Transfer) -> Result<(), NoMemory>
+fn transfer_iteration(
+    turns: &mut ScheduleState,
+    alloc: Global,
+    transfer: &Transfer,
+) -> Result<(), NoMemory>
     ensures { OnOk result (turns.new ≡ made turns.old (transfer_event turns.old.state transfer.now)) }
 {
     match turns.state.make(alloc, transfer) {
@@ -297,8 +306,8 @@ fn transfer_turn(turns: &mut Turns, alloc: Global, transfer: &Transfer) -> Resul
 }
 
 /// The turn of a candidate: the callers that wait come first, then the transfers that may come next.
-fn candidate_turn(
-    turns: &mut Turns,
+fn candidate_iteration(
+    turns: &mut ScheduleState,
     alloc: Global,
     limit: u32,
     candidate: usize,
@@ -306,29 +315,29 @@ fn candidate_turn(
     requires active { AreActive turns.old }
     ensures { OnOk result (turns.new ≡ candidate_turn limit turns.old candidate) }
 {
-    let waiting = turns.waiting.len();
+    let waiting = turns.active.len();
     if candidate < waiting {
-        return caller_turn(turns, alloc, limit, candidate);
+        return caller_iteration(turns, alloc, limit, candidate);
     }
     match turns.state.transfer_at(candidate - waiting) {
-        Some(transfer) => transfer_turn(turns, alloc, &transfer),
+        Some(transfer) => transfer_iteration(turns, alloc, &transfer),
         None => Ok(()),
     }
 }
 
 /// One turn: a draw picks the candidate. False where there is none, and then nothing has happened.
-pub fn turn(turns: &mut Turns, alloc: Global, limit: u32) -> Result<bool, NoMemory>
+pub fn iterate(turns: &mut ScheduleState, alloc: Global, limit: u32) -> Result<bool, NoMemory>
     requires { AreActive turns.old }
     ensures over { result ≡ Ok false → (candidates turns.old ≡ 0) × (turns.new ≡ turns.old) }
-    ensures turned { result ≡ Ok true → (0 < candidates turns.old) × (turns.new ≡ turn limit turns.old) }
+    ensures turned { result ≡ Ok true → (0 < candidates turns.old) × (turns.new ≡ iterate limit turns.old) }
 {
-    let waiting = turns.waiting.len();
+    let waiting = turns.active.len();
     let transfers = turns.state.transfer_count();
     if waiting == 0 && transfers == 0 {
         return Ok(false);
     }
     turns.x = drawn(turns.x);
     let candidate = picked(turns.x, waiting, transfers);
-    candidate_turn(turns, alloc, limit, candidate)?;
+    candidate_iteration(turns, alloc, limit, candidate)?;
     Ok(true)
 }

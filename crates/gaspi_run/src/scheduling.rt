@@ -2,32 +2,32 @@
 
 ghost use Rattle.std.specs.Prelude.{◌≡◌, ℕ, ◌<◌, ◌≤◌, ◌++◌, OnOk, IfOk, true};
 ghost use Rattle.gaspi_texts.specs.JournalText.{AreInRange, HaveOwnValues};
-ghost use Rattle.gaspi_types.specs.World.{IsWorld};
+ghost use Rattle.gaspi_types.specs.World.{IsShape};
 ghost use Rattle.gaspi_model.specs.Step.{is_legal};
 ghost use Rattle.rank_script.specs.PlainScripts.{ArePlain};
 ghost use Rattle.rank_script.specs.WorldText.{AreScriptsOf};
 ghost use Rattle.gaspi_run.specs.Endings.{HasSettled, HaveEnded};
 ghost use Rattle.gaspi_run.specs.Schedule.{starts, rank_starts, thread_starts, started, IsScheduled};
 
-use crate::moves::turn;
-use crate::turns::{Finished, Turns, Waiting};
+use crate::moves::iterate;
+use crate::schedule_states::{ActiveCaller, EndedCaller, ScheduleState};
 use gaspi_model::{enabled, endings, settling, soundness};
 use gaspi_texts::{Journal, journal_is_in_range};
-use gaspi_types::{CallerId, NoMemory, RankId, Rows, Shape, ThreadId};
+use gaspi_types::{CallerId, NoMemory, RankId, Sequence, Shape, ThreadId};
 use plain_machine::Machine;
 use rank_script::{Cursor, Scripts, runs};
 use std::alloc::Global;
 
 /// What a schedule gave: the events, and how each caller ended, in the order of their ends.
 #[derive(Debug, Drop)]
-pub struct Ran {
+pub struct ScheduleResult {
     pub journal: Journal,
-    pub outcomes: Rows<Finished>,
+    pub outcomes: Sequence<EndedCaller>,
 }
 
 /// A caller at its start, added to those before where it has a script.
 fn add_start<'a>(
-    waiting: &mut Rows<Waiting<'a>>,
+    waiting: &mut Sequence<ActiveCaller<'a>>,
     caller: CallerId,
     scripts: &'a Scripts,
 ) -> Result<(), NoMemory>
@@ -36,7 +36,7 @@ fn add_start<'a>(
     let Some(script) = scripts.of(caller) else {
         return Ok(());
     };
-    waiting.push(Waiting {
+    waiting.push(ActiveCaller {
         caller: script.caller,
         cursor: Cursor::new(waiting.allocator(), script)?,
         looks: 0,
@@ -45,7 +45,7 @@ fn add_start<'a>(
 
 /// The callers of a rank at their start, by thread, added to those of the ranks before.
 fn add_starts<'a>(
-    waiting: &mut Rows<Waiting<'a>>,
+    waiting: &mut Sequence<ActiveCaller<'a>>,
     rank: u32,
     scripts: &'a Scripts,
 ) -> Result<(), NoMemory>
@@ -67,13 +67,13 @@ fn starts<'a>(
     alloc: Global,
     shape: &Shape,
     scripts: &'a Scripts,
-) -> Result<Rows<Waiting<'a>>, NoMemory>
+) -> Result<Sequence<ActiveCaller<'a>>, NoMemory>
     ensures waiting { IfOk result (λ waiting. waiting ≡ starts shape.now scripts.now) }
-    ensures world { IsWorld shape.now }
+    ensures world { IsShape shape.now }
     ensures plain { ArePlain scripts.now }
 {
     let limits = shape.limits();
-    let mut waiting = Rows::with_room(alloc, scripts.len())?;
+    let mut waiting = Sequence::with_capacity(alloc, scripts.len())?;
     for rank in 0..limits.ranks {
         add_starts(&mut waiting, rank, scripts)?;
     }
@@ -88,7 +88,7 @@ pub fn schedule(
     scripts: &Scripts,
     seed: u32,
     limit: u32,
-) -> Result<Ran, NoMemory>
+) -> Result<ScheduleResult, NoMemory>
     requires limit { 1 ≤ limit }
     requires scripts { AreScriptsOf shape.now scripts.now }
     ensures scheduled { IfOk result (λ ran. IsScheduled shape.now scripts.now seed limit ran.journal ran.outcomes) }
@@ -103,23 +103,23 @@ pub fn schedule(
     settling();
     endings();
     runs();
-    let mut turns = Turns {
+    let mut turns = ScheduleState {
         x: seed,
         state: Machine::start(alloc, shape)?,
-        waiting: starts(alloc, shape, scripts)?,
-        finished: Rows::new(alloc),
-        journal: Rows::new(alloc),
+        active: starts(alloc, shape, scripts)?,
+        ended: Sequence::new(alloc),
+        journal: Sequence::new(alloc),
     };
-    while turn(&mut turns, alloc, limit)? {}
-    let Turns {
+    while iterate(&mut turns, alloc, limit)? {}
+    let ScheduleState {
         x: _,
         state: _,
-        waiting: _,
-        finished,
+        active: _,
+        ended: finished,
         journal,
     } = turns;
     prove!(journal_is_in_range(&journal));
-    Ok(Ran {
+    Ok(ScheduleResult {
         journal,
         outcomes: finished,
     })

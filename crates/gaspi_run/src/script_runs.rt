@@ -2,7 +2,7 @@
 
 ghost use Rattle.std.specs.Prelude.{◌≡◌, ◌≢◌, Err, false};
 ghost use Rattle.gaspi_types.specs.CallRows.{row_of};
-ghost use Rattle.gaspi_types.specs.World.{IsWorld};
+ghost use Rattle.gaspi_types.specs.World.{IsShape};
 ghost use Rattle.gaspi_types.specs.declared.calls.Call.TheVariants.{End};
 ghost use Rattle.gaspi_types.specs.declared.calls.Timeout.TheVariants.{Looks};
 ghost use Rattle.gaspi_types.specs.declared.replies.Reply.TheVariants.{Done};
@@ -13,16 +13,16 @@ ghost use Rattle.gaspi_world.specs.Callers.{IsPassOf};
 ghost use Rattle.gaspi_world.specs.Calling.{MayCall, CallsBy, IsCalled};
 ghost use Rattle.gaspi_world.specs.declared.calling.Stop.TheVariants.{NoMemory};
 ghost use Rattle.gaspi_run.specs.Bodies.{IsRunnable, IsFresh};
-ghost use Rattle.rank_script.specs.Runs.{Over, going_on};
+ghost use Rattle.rank_script.specs.Runs.{RunEnded, at_first_line};
 ghost use Rattle.gaspi_run.specs.Runs.{moved};
-ghost use Rattle.gaspi_run.specs.SoFar.{HasNoEnd, HasComeTo};
+ghost use Rattle.gaspi_run.specs.SoFar.{HasNoEnd, HasRunTo};
 
 use crate::bodies::ScriptBody;
 use crate::looks::bounded;
 use gaspi_model::{enabled, replies};
 use gaspi_types::{Call, Reply, Timeout};
 use gaspi_world::{Pass, Rank, Stop, World, waits_on};
-use rank_script::{Cursor, Halted, RunOutcome, runs};
+use rank_script::{Cursor, RunOutcome, RunStop, runs};
 use std::alloc::Global;
 use std::sync::Wait;
 
@@ -49,8 +49,8 @@ fn move_on(cursor: &mut Cursor, made: Result<Reply, Stop>)
 {
     match made {
         Ok(reply) => cursor.advance(&reply),
-        Err(Stop::EventLimit) => cursor.stop(Halted::Limit),
-        Err(Stop::NoMemory) => cursor.stop(Halted::NoMemory),
+        Err(Stop::EventLimit) => cursor.stop(RunStop::Limit),
+        Err(Stop::NoMemory) => cursor.stop(RunStop::NoMemory),
     }
 }
 
@@ -62,15 +62,15 @@ pub(crate) fn run_lines<R: Wait>(
     pass: &mut Pass,
     body: &mut ScriptBody<'_>,
 ) -> RunOutcome
-    requires world { IsWorld world.now.start.shape }
+    requires world { IsShape world.now.start.shape }
     requires script { IsRunnable body.old.script.now body.old.limit }
     requires pass { IsFresh body.old.script.now world.now pass.old }
-    requires start { body.old.cursor ≡ going_on body.old.script.now.lines }
+    requires start { body.old.cursor ≡ at_first_line body.old.script.now.lines }
     ensures script { body.new.script ≡ body.old.script }
     ensures limit { body.new.limit ≡ body.old.limit }
     ensures table { pass.new.table ≡ pass.old.table }
     ensures free { HoldsNone pass.new.known }
-    ensures run { HasComeTo world.now.start.shape body.old.script.now.caller body.old.script.now.lines body.old.limit (Over result) pass.old.known pass.new.known }
+    ensures run { HasRunTo world.now.start.shape body.old.script.now.caller body.old.script.now.lines body.old.limit (RunEnded result) pass.old.known pass.new.known }
 {
     enabled();
     runs();

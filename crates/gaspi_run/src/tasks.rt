@@ -6,12 +6,12 @@ ghost use Rattle.gaspi_types.specs.declared.shapes.CallerId.{CallerId};
 ghost use Rattle.gaspi_world.specs.Callers.{IsPassOf};
 ghost use Rattle.rank_script.specs.PlainScripts.{ArePlain};
 ghost use Rattle.rank_script.specs.WorldText.{AreScriptsOf};
-ghost use Rattle.gaspi_run.specs.Parts.{made_pass, AreCallersThere, EachAt, NeedsOf, IsPartOf, IsReady, HaveAllRun, IsDone, HaveRun, finished_of, finished_in};
+ghost use Rattle.gaspi_run.specs.ThreadBodies.{made_pass, AreCallersThere, EachAt, BodyNeeds, IsBodyOf, IsReady, HaveAllRun, IsDone, HaveRun, finished_of, finished_in};
 
 use crate::ScriptBody;
-use crate::parts::Part;
-use crate::turns::Finished;
-use gaspi_types::{NoMemory, Rows};
+use crate::schedule_states::EndedCaller;
+use crate::thread_bodies::ThreadBody;
+use gaspi_types::{NoMemory, Sequence};
 use gaspi_world::{Pass, Passes, Task, World, launch};
 use rank_script::{Cursor, RunOutcome, Scripts};
 use std::alloc::Global;
@@ -20,31 +20,31 @@ use std::thread::Threads;
 
 /// The passes of a world once its parts have run, and how its callers ended, by rank and thread.
 #[derive(Drop)]
-pub(crate) struct RanParts {
+pub(crate) struct ThreadsResult {
     pub passes: Passes,
-    pub outcomes: Rows<Finished>,
+    pub outcomes: Sequence<EndedCaller>,
 }
 
 /// The script of the caller whose pass this is, to be run. What its run takes of memory for the script is taken here.
-fn caller_part<'a>(
+fn caller_body<'a>(
     alloc: Global,
     world: &World,
     scripts: &'a Scripts,
     pass: &Pass,
     place: usize,
     limit: u32,
-) -> Result<Part<'a>, NoMemory>
+) -> Result<ThreadBody<'a>, NoMemory>
     requires pass { pass.now ≡ made_pass world.now place }
     requires caller { (c : CallerId) × IsPassOf world.now.start.shape c pass.now.known }
     requires scripts { AreScriptsOf world.now.start.shape scripts.now }
-    ensures { IfOk result (λ part. IsPartOf world.now scripts.now limit place part) }
+    ensures { IfOk result (λ part. IsBodyOf world.now scripts.now limit place part) }
 {
     let caller = world.caller_of(pass);
     let Some(script) = scripts.of(caller) else {
         unreachable!()
     };
     let cursor = Cursor::new(alloc, script)?;
-    Ok(Part::Caller(ScriptBody {
+    Ok(ThreadBody::Caller(ScriptBody {
         script,
         cursor,
         limit,
@@ -53,24 +53,24 @@ fn caller_part<'a>(
 }
 
 /// What the thread with a pass does, where the passes of the callers stand first.
-fn part_of<'a>(
+fn thread_body<'a>(
     alloc: Global,
     world: &World,
     scripts: &'a Scripts,
     pass: &Pass,
     place: usize,
     limit: u32,
-) -> Result<Part<'a>, NoMemory>
+) -> Result<ThreadBody<'a>, NoMemory>
     requires pass { pass.now ≡ made_pass world.now place }
     requires callers { AreCallersThere world.now }
     requires scripts { AreScriptsOf world.now.start.shape scripts.now }
-    ensures { IfOk result (λ part. IsPartOf world.now scripts.now limit place part) }
+    ensures { IfOk result (λ part. IsBodyOf world.now scripts.now limit place part) }
 {
     let callers = world.shape().callers().len();
     if place < callers {
-        return caller_part(alloc, world, scripts, pass, place, limit);
+        return caller_body(alloc, world, scripts, pass, place, limit);
     }
-    Ok(Part::Worker {
+    Ok(ThreadBody::Worker {
         turns: (place - callers) as u64,
     })
 }
@@ -83,13 +83,13 @@ fn task_of<'a>(
     pass: Pass,
     place: usize,
     limit: u32,
-) -> Result<Task<Part<'a>>, NoMemory>
+) -> Result<Task<ThreadBody<'a>>, NoMemory>
     requires pass { pass ≡ made_pass world.now place }
     requires callers { AreCallersThere world.now }
     requires scripts { AreScriptsOf world.now.start.shape scripts.now }
     ensures { IfOk result (λ task. IsReady world.now scripts.now limit place task) }
 {
-    let body = part_of(alloc, world, scripts, &pass, place, limit)?;
+    let body = thread_body(alloc, world, scripts, &pass, place, limit)?;
     Ok(Task { body, pass })
 }
 
@@ -100,7 +100,7 @@ fn tasks_of<'a>(
     scripts: &'a Scripts,
     passes: Passes,
     limit: u32,
-) -> Result<Vec<Task<Part<'a>>>, NoMemory>
+) -> Result<Vec<Task<ThreadBody<'a>>>, NoMemory>
     requires passes { EachAt (λ place pass. pass ≡ made_pass world.now place) passes.items }
     requires callers { AreCallersThere world.now }
     requires scripts { AreScriptsOf world.now.start.shape scripts.now }
@@ -120,9 +120,9 @@ fn run_slice<R: Threads + Wait + Sync>(
     rt: &R,
     alloc: Global,
     world: &World,
-    tasks: &mut [Task<Part<'_>>],
+    tasks: &mut [Task<ThreadBody<'_>>],
 )
-    requires { All (λ t. NeedsOf t.body world.now t.pass) tasks.old }
+    requires { All (λ t. BodyNeeds t.body world.now t.pass) tasks.old }
     ensures ran { HaveAllRun tasks.old tasks.new }
     ensures count { length tasks.new ≡ length tasks.old }
 {
@@ -134,9 +134,9 @@ fn run_tasks<R: Threads + Wait + Sync>(
     rt: &R,
     alloc: Global,
     world: &World,
-    tasks: &mut Vec<Task<Part<'_>>>,
+    tasks: &mut Vec<Task<ThreadBody<'_>>>,
 )
-    requires { All (λ t. NeedsOf t.body world.now t.pass) tasks.old.items }
+    requires { All (λ t. BodyNeeds t.body world.now t.pass) tasks.old.items }
     ensures ran { HaveAllRun tasks.old.items tasks.new.items }
     ensures count { length tasks.new.items ≡ length tasks.old.items }
 {
@@ -144,20 +144,20 @@ fn run_tasks<R: Threads + Wait + Sync>(
 }
 
 /// How the caller of a part ended, where it is a caller's. Only a caller that found no memory, or that has not run, is an error.
-fn finished_of(part: &Part<'_>) -> Result<Option<Finished>, NoMemory>
+fn finished_of(part: &ThreadBody<'_>) -> Result<Option<EndedCaller>, NoMemory>
     ensures finished { IfOk result (λ finished. option_to_list finished ≡ finished_of part.now) }
     ensures told { OnOk result (IsDone part.now) }
     ensures starved { OnErr result (¬ IsDone part.now) }
 {
     match part {
-        Part::Caller(body) => match body.outcome {
+        ThreadBody::Caller(body) => match body.outcome {
             None | Some(RunOutcome::NoMemory { .. }) => Err(NoMemory),
-            Some(outcome) => Ok(Some(Finished {
+            Some(outcome) => Ok(Some(EndedCaller {
                 caller: body.script.caller,
                 outcome,
             })),
         },
-        Part::Worker { .. } => Ok(None),
+        ThreadBody::Worker { .. } => Ok(None),
     }
 }
 
@@ -165,12 +165,12 @@ fn finished_of(part: &Part<'_>) -> Result<Option<Finished>, NoMemory>
 fn outcomes_of(
     alloc: Global,
     callers: usize,
-    tasks: &[Task<Part<'_>>],
-) -> Result<Rows<Finished>, NoMemory>
+    tasks: &[Task<ThreadBody<'_>>],
+) -> Result<Sequence<EndedCaller>, NoMemory>
     ensures finished { IfOk result (λ finished. finished ≡ finished_in tasks.now) }
     ensures told { OnOk result (All (λ t. IsDone t.body) tasks.now) }
 {
-    let mut outcomes = Rows::with_room(alloc, callers)?;
+    let mut outcomes = Sequence::with_capacity(alloc, callers)?;
     for task in tasks {
         if let Some(finished) = finished_of(&task.body)? {
             outcomes.push(finished)?;
@@ -180,7 +180,7 @@ fn outcomes_of(
 }
 
 /// The passes of the tasks, in their order.
-fn passes_of(alloc: Global, tasks: Vec<Task<Part<'_>>>) -> Result<Passes, NoMemory>
+fn passes_of(alloc: Global, tasks: Vec<Task<ThreadBody<'_>>>) -> Result<Passes, NoMemory>
     ensures { IfOk result (λ passes. passes.items ≡ map (λ t. t.pass) tasks.entry.items) }
 {
     let mut passes = Vec::with_capacity(alloc, tasks.len())?;
@@ -199,7 +199,7 @@ pub(crate) fn run_parts<R: Threads + Wait + Sync>(
     scripts: &Scripts,
     passes: Passes,
     limit: u32,
-) -> Result<RanParts, NoMemory>
+) -> Result<ThreadsResult, NoMemory>
     requires limit { 1 ≤ limit }
     requires passes { EachAt (λ place pass. pass ≡ made_pass world.now place) passes.items }
     requires count { length passes.items ≡ world.now.passes }
@@ -213,5 +213,5 @@ pub(crate) fn run_parts<R: Threads + Wait + Sync>(
     run_tasks(rt, alloc, world, &mut tasks);
     let outcomes = outcomes_of(alloc, callers, tasks.as_slice())?;
     let passes = passes_of(alloc, tasks)?;
-    Ok(RanParts { passes, outcomes })
+    Ok(ThreadsResult { passes, outcomes })
 }

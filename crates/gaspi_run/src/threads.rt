@@ -10,11 +10,11 @@ ghost use Rattle.gaspi_world.specs.Closing.{HaveSeen, HaveDone};
 ghost use Rattle.rank_script.specs.WorldText.{AreScriptsOf};
 ghost use Rattle.gaspi_run.specs.Threads.{HasRunWorld};
 
-use crate::tasks::{RanParts, run_parts};
-use crate::turns::Finished;
+use crate::schedule_states::EndedCaller;
+use crate::tasks::{ThreadsResult, run_parts};
 use gaspi_model::{notification_order, settling};
 use gaspi_texts::{Journal, journal_is_in_range};
-use gaspi_types::{NoMemory, Rows, Shape};
+use gaspi_types::{NoMemory, Sequence, Shape};
 use gaspi_world::{Passes, Started, Tally, World, waits_last};
 use rank_script::Scripts;
 use std::alloc::Global;
@@ -23,10 +23,10 @@ use std::thread::Threads;
 
 /// What a run on threads gave: the events, what is known of the closed world, and how each caller ended, by rank and thread.
 #[derive(Drop)]
-pub struct RanOnThreads {
+pub struct RunResult {
     pub journal: Journal,
     pub tally: Tally,
-    pub outcomes: Rows<Finished>,
+    pub outcomes: Sequence<EndedCaller>,
 }
 
 /// Ends a world.
@@ -55,7 +55,7 @@ pub fn run_on_threads<R: Threads + Wait + Sync>(
     scripts: &Scripts,
     workers: u32,
     limit: u32,
-) -> Result<RanOnThreads, NoMemory>
+) -> Result<RunResult, NoMemory>
     requires limit { 1 ≤ limit }
     requires workers { (1 ≤ workers) × (workers ≤ 4) }
     requires scripts { AreScriptsOf shape.now scripts.now }
@@ -66,10 +66,10 @@ pub fn run_on_threads<R: Threads + Wait + Sync>(
     notification_order();
     waits_last();
     let Started { world, passes } = World::start(alloc, shape, workers)?;
-    let RanParts { passes, outcomes } = run_parts(rt, alloc, &world, scripts, passes, limit)?;
+    let ThreadsResult { passes, outcomes } = run_parts(rt, alloc, &world, scripts, passes, limit)?;
     let (journal, tally) = closed(alloc, world, passes)?;
     prove!(journal_is_in_range(&journal));
-    Ok(RanOnThreads {
+    Ok(RunResult {
         journal,
         tally,
         outcomes,

@@ -80,7 +80,7 @@ unfolding words_of_event
 joined_text c group args = join_spaced (codes "joined") (caller_word c ∷ decimal group ∷ args_words args)
 
 -- what keeps a longer text in front keeps a shorter one
-pub kept_front : (old mid new more : List ℕ) → mid ≡ old ++ more → take (length mid) new ≡ mid → take (length old) new ≡ old
-kept_front old mid new more is kept =
+pub kept_prefix : (old mid new more : List ℕ) → mid ≡ old ++ more → take (length mid) new ≡ mid → take (length old) new ≡ old
+kept_prefix old mid new more is kept =
     let le : length old ≤ length mid = omega (arith, ap length is, length-append old more) in
     sym (take-take (length old) (length mid) new le) ∙ ap (λ (text : List ℕ). take (length old) text) (kept ∙ is) ∙ take_at old more (length old) refl

@@ -7,7 +7,7 @@ use Rattle.std.proofs.lemmas.List.Elements.{All-push}
 use Rattle.gaspi_types.specs.declared.events.Event.{Event}
 use Rattle.gaspi_texts.specs.EventText.{IsInEventRange}
 use Rattle.call_texts.specs.Lines.{fed_lines}
-use Rattle.gaspi_texts.specs.JournalText.{first_line, event_line, end_line, event_lines, journal_lines, journal_text, AreInRange, Begins, IsFaultyAt}
+use Rattle.gaspi_texts.specs.JournalText.{first_line, event_line, end_line, event_lines, journal_lines, journal_text, AreInRange, ArePrefixLines, IsFaultyAt}
 use Rattle.call_texts.proofs.FedLines.{concat-fed_lines}
 use Rattle.gaspi_texts.proofs.JournalLines.{HaveNoFeeds, fed_lines-journal, event-no-end, first-in, rest-in}
 
@@ -62,8 +62,8 @@ no-nil : (xs ys : List (List ℕ)) (l : List ℕ) → [] ≡ xs ++ l ∷ ys → 
 no-nil [] ys l is = cc
 no-nil (x ∷ xs) ys l is = cc
 
-front-kept : (front tail : List (List ℕ)) → take (length front) (front ++ tail) ≡ front
-front-kept front tail = take_at front tail (length front) refl
+prefix-kept : (front tail : List (List ℕ)) → take (length front) (front ++ tail) ≡ front
+prefix-kept front tail = take_at front tail (length front) refl
 
 one-more : (front ls : List (List ℕ)) (l : List ℕ) → take (length front + 1) (front ++ l ∷ ls) ≡ front ++ l ∷ []
 one-more front ls l =
@@ -72,8 +72,8 @@ one-more front ls l =
 
 -- The line after a front that begins a journal is faulty where the front with that line begins none, and where there is
 -- no such line, the front is no whole journal.
-fault-after : HaveNoFeeds → (text : List ℕ) (front tail : List (List ℕ)) → fed_lines text ≡ front ++ tail → Begins front
-    → ((l : List ℕ) (ls : List (List ℕ)) → tail ≡ l ∷ ls → Begins (front ++ l ∷ []) → ⊥)
+fault-after : HaveNoFeeds → (text : List ℕ) (front tail : List (List ℕ)) → fed_lines text ≡ front ++ tail → ArePrefixLines front
+    → ((l : List ℕ) (ls : List (List ℕ)) → tail ≡ l ∷ ls → ArePrefixLines (front ++ l ∷ []) → ⊥)
     → (tail ≡ [] → (journal : List Event) → front ≡ journal_lines journal → ⊥)
     → IsFaultyAt text (length front + 1)
 fault-after feeds text front [] lines begins bad short =
@@ -84,7 +84,7 @@ fault-after feeds text front [] lines begins bad short =
       other = λ journal range is. short refl journal (sym all ∙ ap fed_lines is ∙ fed_lines-journal feeds journal range);
       some = omega arith;
       within = omega arith;
-      before = rw (less, all) (subst Begins (sym (take_all (length front) front (let le : length front ≤ length front = omega arith in le))) begins);
+      before = rw (less, all) (subst ArePrefixLines (sym (take_all (length front) front (let le : length front ≤ length front = omega arith in le))) begins);
       first = λ there. absurd (omega arith);
     }
 fault-after feeds text front (l ∷ ls) lines begins bad short =
@@ -101,12 +101,12 @@ fault-after feeds text front (l ∷ ls) lines begins bad short =
           });
       some = omega arith;
       within = omega arith;
-      before = subst Begins (sym (ap (λ (n : ℕ). take n (fed_lines text)) less ∙ ap (λ (ls : List (List ℕ)). take (length front) ls) lines ∙ front-kept front (l ∷ ls))) begins;
-      first = λ there begun. bad l ls refl (subst Begins more begun);
+      before = subst ArePrefixLines (sym (ap (λ (n : ℕ). take n (fed_lines text)) less ∙ ap (λ (ls : List (List ℕ)). take (length front) ls) lines ∙ prefix-kept front (l ∷ ls))) begins;
+      first = λ there begun. bad l ls refl (subst ArePrefixLines more begun);
     }
 
 -- lines that begin a journal are followed by its others
-followed : (front : List (List ℕ)) (b : Begins front) → journal_lines b.journal ≡ front ++ drop (length front) (journal_lines b.journal)
+followed : (front : List (List ℕ)) (b : ArePrefixLines front) → journal_lines b.journal ≡ front ++ drop (length front) (journal_lines b.journal)
 followed front b = sym (take-append-drop (length front) (journal_lines b.journal)) ∙ ap (λ (ls : List (List ℕ)). ls ++ drop (length front) (journal_lines b.journal)) b.front
 
 -- At the place after some events, a journal has an event or its end.
@@ -148,8 +148,8 @@ no-end place count (h ∷ H) (j ∷ journal) is =
     let behind : event_lines (place + 1) journal ≡ event_lines (place + 1) H ++ end_line count ∷ [] = cc in
     no-end (place + 1) count H journal behind
 
-begun : (journal : List Event) → AreInRange journal → Begins (lines_before journal)
-begun journal range = record { journal = journal; ranges = range; front = front-kept (lines_before journal) (end_line (length journal) ∷ []) }
+begun : (journal : List Event) → AreInRange journal → ArePrefixLines (lines_before journal)
+begun journal range = record { journal = journal; ranges = range; front = prefix-kept (lines_before journal) (end_line (length journal) ∷ []) }
 
 count-before : (journal : List Event) → length (lines_before journal) + 1 ≡ length journal + 2
 count-before journal = let same = length-event_lines 0 journal in omega (arith, same)

@@ -4,12 +4,12 @@ use Rattle.std.specs.List.{concat}
 use Rattle.std.proofs.lemmas.List.{take_at, take_all, take_more, take-take, length-take-le}
 use Rattle.std.proofs.lemmas.List.Folds.{concat-append}
 use Rattle.gaspi_types.specs.declared.events.Event.{Event}
-use Rattle.gaspi_texts.specs.Additions.{KeepsFront}
+use Rattle.gaspi_texts.specs.Additions.{KeepsPrefix}
 use Rattle.gaspi_texts.specs.JournalText.{first_line, event_line, end_line, event_lines, journal_text}
 use Rattle.gaspi_texts.proofs.ReadJournals.{event_lines-push}
 
 -- a text that was added to begins what comes of it
-pub kept-through : (old mid new more : List ℕ) → mid ≡ old ++ more → KeepsFront mid new → KeepsFront old new
+pub kept-through : (old mid new more : List ℕ) → mid ≡ old ++ more → KeepsPrefix mid new → KeepsPrefix old new
 kept-through old mid new more is kept =
     let le : length old ≤ length mid = let sum = length-append old more in let same = ap (λ (bytes : List ℕ). length bytes) is in omega (arith, sum, same) in
     sym (take-take (length old) (length mid) new le) ∙ ap (λ (bytes : List ℕ). take (length old) bytes) (kept ∙ is) ∙ take_at old more (length old) refl

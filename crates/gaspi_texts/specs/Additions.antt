@@ -2,5 +2,5 @@
 use Rattle.std.specs.Prelude.{◌≡◌, ℕ, List, length, take}
 
 -- the first text begins the second one
-abbrev pub KeepsFront : List ℕ → List ℕ → Type 0
-KeepsFront old new = take (length old) new ≡ old
+abbrev pub KeepsPrefix : List ℕ → List ℕ → Type 0
+KeepsPrefix old new = take (length old) new ≡ old

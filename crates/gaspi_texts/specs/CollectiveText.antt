@@ -7,7 +7,7 @@ use Rattle.std.specs.Str.{bytes_eq}
 use Rattle.call_texts.specs.Elements.{type_word, op_word, type_of, op_of, elements_of}
 use Rattle.call_texts.specs.Steps.{◌>>=◌}
 use Rattle.call_texts.specs.Numbers.{value_of}
-use Rattle.gaspi_types.specs.Collectives.{AreWhole, no_values}
+use Rattle.gaspi_types.specs.Collectives.{HaveOwnValues, no_values}
 use Rattle.gaspi_types.specs.NumberTypes.{AreInType, TypedNumbers}
 use Rattle.gaspi_types.specs.Replies.{coll_fields}
 use Rattle.gaspi_types.specs.declared.collectives.Stage.{Stage}
@@ -75,7 +75,7 @@ coll_of (word ∷ arguments) =
 pub record AreArgsInRange (args : Args) : Type 0 where
   pub numbers : AllByRecursion (λ n. n < 2 ^ 32) (coll_fields args.coll)
   pub elements : AreInType args.values.num_type args.values.items
-  pub own : AreWhole args
+  pub own : HaveOwnValues args
 
 -- the values stand behind the kind and the other arguments
 abbrev pub args_words : Args → List (List ℕ)

@@ -2,7 +2,7 @@
 use Rattle.std.specs.Prelude.{◌^◌, ◌<◌, ℕ, List, [], ◌∷◌, ◌++◌, codes}
 use Rattle.std.specs.Fmt.{decimal}
 use Rattle.std.specs.List.{join_with_byte}
-use Rattle.gaspi_types.specs.Collectives.{AreWhole}
+use Rattle.gaspi_types.specs.Collectives.{HaveOwnValues}
 use Rattle.gaspi_types.specs.declared.shapes.CallerId.{CallerId}
 use Rattle.gaspi_types.specs.declared.events.Outcome.{Outcome}
 use Rattle.gaspi_types.specs.declared.events.Outcome.TheVariants.{Applied, Failed}
@@ -38,7 +38,7 @@ event_text e = join_with_byte 32 (words_of_event e)
 
 -- what a caller joins has the values that it says
 abbrev pub HasOwnValues : Event → Type 0
-HasOwnValues (Joined c group args) = AreWhole args
+HasOwnValues (Joined c group args) = HaveOwnValues args
 HasOwnValues e = Unit {0}
 
 -- the numbers of an event are those of its types, whatever the world's limits are

@@ -37,7 +37,7 @@ abbrev pub AreInRange : List Event → Type 0
 AreInRange journal = All IsInEventRange journal
 
 -- these lines begin the text of some journal
-pub record Begins (lines : List (List ℕ)) : Type 0 where
+pub record ArePrefixLines (lines : List (List ℕ)) : Type 0 where
   pub journal : List Event
   pub ranges : AreInRange journal
   pub front : take (length lines) (journal_lines journal) ≡ lines
@@ -49,5 +49,5 @@ pub record IsFaultyAt (text : List ℕ) (line : ℕ) : Type 0 where
   pub other : (journal : List Event) → AreInRange journal → text ≢ journal_text journal
   pub some : 1 ≤ line
   pub within : line ≤ length (fed_lines text) + 1
-  pub before : Begins (take (line - 1) (fed_lines text))
-  pub first : line ≤ length (fed_lines text) → Begins (take line (fed_lines text)) → ⊥
+  pub before : ArePrefixLines (take (line - 1) (fed_lines text))
+  pub first : line ≤ length (fed_lines text) → ArePrefixLines (take line (fed_lines text)) → ⊥

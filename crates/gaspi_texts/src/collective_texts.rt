@@ -8,7 +8,7 @@ use call_texts::{
     append_elements, append_numbers, append_word, op_word, read_elements, read_op, read_type,
     read_value, type_word,
 };
-use gaspi_types::{Args, Bytes, Coll, NoMemory, NumType, Numbers, Rows};
+use gaspi_types::{Args, Bytes, Coll, NoMemory, NumType, Numbers, Sequence};
 use std::alloc::Global;
 
 /// The number that is the only field.
@@ -103,7 +103,7 @@ fn read_values(alloc: Global, coll: Coll, words: &[&[u8]]) -> Result<Option<Numb
     ensures { IfOk result (λ values. values ≡ values_of coll (map (λ word. word.now) words.now)) }
 {
     let Coll::Allreduce(_, num_type, count) = coll else {
-        return Ok(Some(Numbers::new(NumType::Int, Rows::new(alloc))));
+        return Ok(Some(Numbers::new(NumType::Int, Sequence::new(alloc))));
     };
     if words.len() != count as usize {
         return Ok(None);

@@ -10,7 +10,7 @@ use crate::event_reading::{outcome_word, read_event_words};
 use crate::reply_texts::write_reply;
 use crate::text_laws::{events_read_back, read_events_are_in_range};
 use call_texts::{append_line, append_numbers, append_word, set_words, write_call, write_number};
-use gaspi_types::{Bytes, CallerId, Event, GroupId, NoMemory, Rows};
+use gaspi_types::{Bytes, CallerId, Event, GroupId, NoMemory, Sequence};
 use std::alloc::Global;
 
 /// Adds a caller behind a space: its rank and its thread. Without memory the text keeps its front.
@@ -102,17 +102,17 @@ pub fn write_event(text: &mut Bytes, event: &Event) -> Result<(), NoMemory>
 /// The room that reading an event takes, kept from one event to the next: for the words of its text, and for the text
 /// that an event has.
 #[derive(Debug, Drop)]
-pub struct Scratch<'a> {
+pub struct ReadingBuffers<'a> {
     words: Vec<&'a [u8]>,
     text: Bytes,
 }
 
-impl<'a> Scratch<'a> {
+impl<'a> ReadingBuffers<'a> {
     /// No room yet. It takes no memory.
-    pub fn new(alloc: Global) -> Scratch<'a> {
-        Scratch {
+    pub fn new(alloc: Global) -> ReadingBuffers<'a> {
+        ReadingBuffers {
             words: Vec::new(alloc),
-            text: Rows::new(alloc),
+            text: Sequence::new(alloc),
         }
     }
 }
@@ -129,7 +129,7 @@ fn is_text_of(written: &mut Bytes, event: &Event, text: &[u8]) -> Result<bool, N
 /// The event that a text spells; none exactly where it is the text of no event.
 pub fn read_event_with<'a>(
     alloc: Global,
-    scratch: &mut Scratch<'a>,
+    scratch: &mut ReadingBuffers<'a>,
     text: &'a [u8],
 ) -> Result<Option<Event>, NoMemory>
     ensures { IfOk result (λ found. MatchOption found
@@ -156,6 +156,6 @@ pub fn read_event(alloc: Global, text: &[u8]) -> Result<Option<Event>, NoMemory>
         ((event : Event) → IsInEventRange event → text.now ≢ event_text event)
         (λ event. IsInEventRange event × (text.now ≡ event_text event))) }
 {
-    let mut scratch = Scratch::new(alloc);
+    let mut scratch = ReadingBuffers::new(alloc);
     read_event_with(alloc, &mut scratch, text)
 }

@@ -6,7 +6,7 @@ ghost use Rattle.gaspi_types.specs.declared.events.Event.{Event};
 ghost use Rattle.gaspi_texts.specs.EventText.{IsInEventRange};
 ghost use Rattle.gaspi_texts.specs.JournalText.{event_line, end_line};
 
-use crate::{Scratch, read_event_with, write_number};
+use crate::{ReadingBuffers, read_event_with, write_number};
 use gaspi_types::{Bytes, Event, NoMemory};
 use std::alloc::Global;
 
@@ -33,7 +33,7 @@ pub(crate) fn is_end_line(scratch: &mut Bytes, line: &[u8], count: u64) -> Resul
 /// The event of a line, where it is the line of an event at that place. The number's text is written over.
 pub(crate) fn read_event_line<'a>(
     alloc: Global,
-    scratch: &mut Scratch<'a>,
+    scratch: &mut ReadingBuffers<'a>,
     number: &mut Bytes,
     line: &'a [u8],
     place: u64,

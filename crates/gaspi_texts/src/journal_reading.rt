@@ -5,9 +5,9 @@ ghost use Rattle.gaspi_texts.specs.JournalText.{journal_text, AreInRange, IsFaul
 ghost use Rattle.gaspi_texts.specs.declared.journal_reading.JournalFault.TheVariants as faults;
 
 use crate::journal_lines::{is_end_line, read_event_line};
-use crate::{Journal, Scratch, events_have_no_line_feed};
+use crate::{Journal, ReadingBuffers, events_have_no_line_feed};
 use call_texts::first_line;
-use gaspi_types::{Bytes, NoMemory, Rows};
+use gaspi_types::{Bytes, NoMemory, Sequence};
 use std::alloc::Global;
 use thiserror::Error;
 
@@ -40,8 +40,8 @@ pub fn read(alloc: Global, text: &[u8]) -> Result<Journal, JournalFault>
     let Some(mut rest) = text.strip_prefix(b"journal 1\n") else {
         return Err(JournalFault::At { line: 1 });
     };
-    let mut journal: Journal = Rows::new(alloc);
-    let mut scratch = Scratch::new(alloc);
+    let mut journal: Journal = Sequence::new(alloc);
+    let mut scratch = ReadingBuffers::new(alloc);
     let mut number = Bytes::new(alloc);
     while !rest.is_empty() {
         let (line, later) = first_line(rest);

@@ -2,7 +2,7 @@
 
 ghost use Rattle.std.specs.Prelude.{◌≡◌, ◌++◌, List, OnOk, OnErr};
 ghost use Rattle.gaspi_types.specs.declared.events.Event.{Event};
-ghost use Rattle.gaspi_texts.specs.Additions.{KeepsFront};
+ghost use Rattle.gaspi_texts.specs.Additions.{KeepsPrefix};
 ghost use Rattle.gaspi_texts.specs.JournalText.{event_line, end_line, journal_text, HaveOwnValues, AreInRange};
 
 use crate::journal_laws::journals_differ_in_text;
@@ -13,7 +13,7 @@ use gaspi_types::{Bytes, Event, NoMemory};
 /// Adds the line of an event. Without memory a part of it may be there.
 fn append_event_line(text: &mut Bytes, place: u64, event: &Event) -> Result<(), NoMemory>
     ensures ok { OnOk result (text.new ≡ text.old ++ event_line place event.now) }
-    ensures kept { KeepsFront text.old text.new }
+    ensures kept { KeepsPrefix text.old text.new }
 {
     write_number(text, place)?;
     text.append(b" ")?;
@@ -24,7 +24,7 @@ fn append_event_line(text: &mut Bytes, place: u64, event: &Event) -> Result<(), 
 /// Adds the end line of a journal of so many events. Without memory a part of it may be there.
 fn append_end_line(text: &mut Bytes, count: u64) -> Result<(), NoMemory>
     ensures ok { OnOk result (text.new ≡ text.old ++ end_line count) }
-    ensures kept { KeepsFront text.old text.new }
+    ensures kept { KeepsPrefix text.old text.new }
 {
     text.append(b"end ")?;
     write_number(text, count)?;
@@ -34,7 +34,7 @@ fn append_end_line(text: &mut Bytes, count: u64) -> Result<(), NoMemory>
 /// Adds the text of a journal. Without memory a part of it may be there.
 fn append_journal(text: &mut Bytes, journal: &Journal) -> Result<(), NoMemory>
     ensures ok { OnOk result (text.new ≡ text.old ++ journal_text journal.now) }
-    ensures kept { KeepsFront text.old text.new }
+    ensures kept { KeepsPrefix text.old text.new }
 {
     text.append(b"journal 1\n")?;
     for (place, event) in journal.as_slice().iter().enumerate() {

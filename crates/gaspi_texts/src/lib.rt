@@ -26,8 +26,8 @@ pub use call_texts::{
     read_call_words, read_number, read_value, words, words_read_back, write_bytes, write_call,
     write_number,
 };
-pub use event_texts::{Scratch, read_event, read_event_with, write_event};
-use gaspi_types::{Buffer, Event, PlacedEvent, Rows};
+pub use event_texts::{ReadingBuffers, read_event, read_event_with, write_event};
+use gaspi_types::{Buffer, Event, PlacedEvent, Sequence};
 pub use journal_laws::journals_differ_in_text;
 pub use journal_ranges::journal_is_in_range;
 pub use journal_reading::{JournalFault, read};
@@ -43,7 +43,7 @@ pub use text_laws::{
 };
 
 /// The events of a world in the order in which they happened: the place of an event is its index, from 0.
-pub type Journal = Rows<Event>;
+pub type Journal = Sequence<Event>;
 
 /// A journal with room for so many events: it takes its memory when it is made, and adding an event below its room cannot
 /// fail. `into_rows` makes a journal of it, without taking memory. The place of an event is its index, so it is the journal of

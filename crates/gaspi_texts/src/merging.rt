@@ -83,7 +83,7 @@ impl Model for MergeRoom {
 
     ghost Value = { Merging };
 
-    ghost view = { λ room. record { lists = room.lists.items; ranks = room.lists.room; events = room.journal.room } };
+    ghost view = { λ room. record { lists = room.lists.items; ranks = room.lists.capacity; events = room.journal.capacity } };
 
     ghost invariant = { λ room. room.journal.items ≡ [] };
 }
@@ -94,8 +94,8 @@ impl MergeRoom {
         ensures { IfOk result (λ room. room ≡ record { lists = []; ranks = ranks; events = events }) }
     {
         Ok(MergeRoom {
-            lists: Buffer::with_room(alloc, ranks)?,
-            journal: ReservedJournal::with_room(alloc, events)?,
+            lists: Buffer::with_capacity(alloc, ranks)?,
+            journal: ReservedJournal::with_capacity(alloc, events)?,
         })
     }
 

@@ -3,7 +3,7 @@
 ghost use Rattle.std.specs.Prelude.{◌^◌, ◌<◌};
 ghost use Rattle.std.specs.List.{AllByRecursion};
 ghost use Rattle.gaspi_types.specs.Replies.{coll_fields, refusal_fields};
-ghost use Rattle.gaspi_types.specs.Collectives.{AreWhole};
+ghost use Rattle.gaspi_types.specs.Collectives.{HaveOwnValues};
 ghost use Rattle.gaspi_texts.specs.CollectiveText.{AreArgsInRange};
 ghost use Rattle.gaspi_texts.specs.EventText.{HasOwnValues, IsInEventRange};
 ghost use Rattle.gaspi_texts.specs.ReplyText.{IsInRange};
@@ -18,7 +18,7 @@ fn coll_is_in_range(_coll: Coll)
 
 /// The numbers of a collective with its values are those of their types.
 fn args_are_in_range(args: &Args)
-    requires { AreWhole args.now }
+    requires { HaveOwnValues args.now }
     ensures { AreArgsInRange args.now }
 {
     coll_is_in_range(args.coll);

@@ -3,8 +3,8 @@ use Rattle.std.proofs.Common.{zero, suc, Some, ◌≡◌, ℕ, ◌+◌, ◌<◌,
 use Rattle.std.proofs.lemmas.Bool.{eqb-true}
 use Rattle.std.proofs.lemmas.List.Sums.{sum_by-append, sum_by-cons, sum_by_push}
 use Rattle.std.specs.List.{list_any, slice_get}
-use Rattle.gaspi_types.specs.World.{World, IsWorld, is_caller, is_segment, is_segment_size}
-use Rattle.gaspi_types.specs.declared.shapes.Declared.{Declared}
+use Rattle.gaspi_types.specs.World.{ShapeValue, IsShape, is_caller, is_segment, is_segment_size}
+use Rattle.gaspi_types.specs.declared.shapes.DeclaredSegment.{DeclaredSegment}
 use Rattle.gaspi_types.specs.declared.shapes.CallerId.{CallerId}
 
 both : (a b : Bool) → (a && b) ≡ true → (a ≡ true) × (b ≡ true)
@@ -63,10 +63,10 @@ within-push {T} {P} (x ∷ cs) c d zero all new at = all 0 d at
 within-push (x ∷ cs) c d (suc place) all new at = within-push cs c d place (λ p e here. all (suc p) e here) new at
 
 -- a rank with room for one more caller
-pub IsWorld-caller : (w : World) (callers : List CallerId) (c : CallerId) → IsWorld w → callers ≡ w.callers ++ c ∷ []
+pub IsWorld-caller : (w : ShapeValue) (callers : List CallerId) (c : CallerId) → IsShape w → callers ≡ w.callers ++ c ∷ []
     → list_any (is_caller c.rank c.thread) w.callers ≡ false → count_by (λ d. d.rank == c.rank) w.callers < w.limits.events
     → c.rank < w.limits.ranks → c.thread < 4
-    → IsWorld (record { limits = w.limits; segments = w.segments; callers = callers })
+    → IsShape (record { limits = w.limits; segments = w.segments; callers = callers })
 IsWorld-caller w callers c sound is new room rank thread = record {
   limits = sound.limits;
   callers = λ r. rw is (more-fits _ _ _ (eqb c.rank r) (sound.callers r) (λ same. subst (λ (n : ℕ). count_by (λ (d : CallerId). d.rank == n) w.callers < w.limits.events) (eqb-true c.rank r same) room) (count_by-more w.callers c r));
@@ -77,10 +77,10 @@ IsWorld-caller w callers c sound is new room rank thread = record {
 }
 
 -- the same as the code has it: the count and the test are of lists that were read, at the numbers that were told
-pub IsWorld-counted : (w : World) (callers seen looked : List CallerId) (c : CallerId) (rank thread count : ℕ) → IsWorld w
+pub IsWorld-counted : (w : ShapeValue) (callers seen looked : List CallerId) (c : CallerId) (rank thread count : ℕ) → IsShape w
     → callers ≡ w.callers ++ c ∷ [] → c.rank ≡ rank → c.thread ≡ thread → seen ≡ w.callers → count ≡ count_by (λ d. d.rank == rank) seen
     → count < w.limits.events → looked ≡ w.callers → list_any (is_caller rank thread) looked ≡ false → rank < w.limits.ranks → thread < 4
-    → IsWorld (record { limits = w.limits; segments = w.segments; callers = callers })
+    → IsShape (record { limits = w.limits; segments = w.segments; callers = callers })
 IsWorld-counted w callers seen looked c rank thread count sound is same same' read counted room read' new low few =
     IsWorld-caller w callers c sound is
     (subst (λ (t : ℕ). list_any (is_caller c.rank t) w.callers ≡ false) (sym same')
@@ -93,7 +93,7 @@ IsWorld-counted w callers seen looked c rank thread count sound is same same' re
     (subst (λ (n : ℕ). n < w.limits.ranks) (sym same) low) (subst (λ (n : ℕ). n < 4) (sym same') few)
 
 -- a segment that was not there is there once
-segment-once : (segments : List Declared) (d : Declared) (rank segment : ℕ) → list_any (is_segment d.rank d.segment) segments ≡ false
+segment-once : (segments : List DeclaredSegment) (d : DeclaredSegment) (rank segment : ℕ) → list_any (is_segment d.rank d.segment) segments ≡ false
     → count_by (is_segment rank segment) segments ≤ 1 → count_by (is_segment rank segment) (segments ++ d ∷ []) ≤ 1
 segment-once segments d rank segment new once = go (is_segment rank segment d) refl
   where
@@ -111,18 +111,18 @@ segment-once segments d rank segment new once = go (is_segment rank segment d) r
         let none : cond {A = ℕ} (is_segment rank segment d) 1 0 ≡ 0 = ap (λ (b : Bool). cond {A = ℕ} b 1 0) is in
         omega arith
 
-pub IsWorld-segment : (w : World) (segments looked : List Declared) (d : Declared) (rank segment : ℕ) → IsWorld w → segments ≡ w.segments ++ d ∷ [] → d.rank ≡ rank → d.segment ≡ segment
+pub IsWorld-segment : (w : ShapeValue) (segments looked : List DeclaredSegment) (d : DeclaredSegment) (rank segment : ℕ) → IsShape w → segments ≡ w.segments ++ d ∷ [] → d.rank ≡ rank → d.segment ≡ segment
     → looked ≡ w.segments → list_any (is_segment rank segment) looked ≡ false → rank < w.limits.ranks → segment < 32 → is_segment_size d.size ≡ true
-    → IsWorld (record { limits = w.limits; segments = segments; callers = w.callers })
+    → IsShape (record { limits = w.limits; segments = segments; callers = w.callers })
 IsWorld-segment w segments looked d rank segment sound is same same' read new low few size = record {
   limits = sound.limits;
   callers = sound.callers;
   once = sound.once;
   within = sound.within;
   segments = λ place e at. within-push w.segments d e place (λ p x here. sound.segments p x here)
-      (subst (λ (n : ℕ). n < w.limits.ranks) (sym same) low, subst (λ (n : ℕ). n < 32) (sym same') few, size) (subst (λ (ds : List Declared). slice_get ds place ≡ Some e) is at);
+      (subst (λ (n : ℕ). n < w.limits.ranks) (sym same) low, subst (λ (n : ℕ). n < 32) (sym same') few, size) (subst (λ (ds : List DeclaredSegment). slice_get ds place ≡ Some e) is at);
   declared_once = λ r n. rw is (segment-once w.segments d r n
       (subst (λ (m : ℕ). list_any (is_segment d.rank m) w.segments ≡ false) (sym same')
       (subst (λ (m : ℕ). list_any (is_segment m segment) w.segments ≡ false) (sym same)
-      (subst (λ (ds : List Declared). list_any (is_segment rank segment) ds ≡ false) read new))) (sound.declared_once r n));
+      (subst (λ (ds : List DeclaredSegment). list_any (is_segment rank segment) ds ≡ false) read new))) (sound.declared_once r n));
 }

@@ -6,7 +6,7 @@ use Rattle.std.proofs.lemmas.List.{get_or-replicate, length-replicate, length-se
 use Rattle.std.proofs.lemmas.Bool.{eq-eqb, eqb-true}
 use Rattle.std.proofs.lemmas.List.Sums.{sum_by-set}
 use Rattle.std.proofs.lemmas.Option.{slice_get-map, slice_get_within, get_or_from_slice_get}
-use Rattle.gaspi_types.specs.Tables.{entry_at, changed_at}
+use Rattle.gaspi_types.specs.Tables.{item_at, changed_at}
 
 -- what stands in a table after a change: at the place what was set, elsewhere what was there
 pub slice_get-set : {A : Type 0} (xs : List A) (i j : ℕ) (y z : A) → slice_get (slice_set xs i y) j ≡ Some z → ((j ≡ i) × (z ≡ y)) ⊎ (slice_get xs j ≡ Some z)
@@ -135,7 +135,7 @@ slice_get-replicate n x y k h =
     sym (get_or_from_slice_get (replicate n x) k y y h) ∙ get_or-replicate n k x y within
 
 -- what stands in a table of things that may be missing
-pub joined : {A : Type 0} (table : List (Option A)) (k : ℕ) (x : A) → entry_at table k ≡ Some x → slice_get table k ≡ Some (Some x)
+pub joined : {A : Type 0} (table : List (Option A)) (k : ℕ) (x : A) → item_at table k ≡ Some x → slice_get table k ≡ Some (Some x)
 joined {A} table k x h = go (slice_get table k) refl
   where
     go : (o : Option (Option A)) → slice_get table k ≡ o → slice_get table k ≡ Some (Some x)
@@ -145,21 +145,21 @@ joined {A} table k x h = go (slice_get table k) refl
 
 -- Items of lists that were cut and joined.
 
-pub front-of-joined : {A : Type 0} (xs ys : List A) (k : ℕ) → k < length xs → slice_get (xs ++ ys) k ≡ slice_get xs k
-front-of-joined [] ys k less = absurd (let no : ⊥ = omega arith in no)
-front-of-joined (x ∷ xs) ys zero less = refl
-front-of-joined (x ∷ xs) ys (suc k) less = front-of-joined xs ys k (omega arith)
+pub prefix-of-joined : {A : Type 0} (xs ys : List A) (k : ℕ) → k < length xs → slice_get (xs ++ ys) k ≡ slice_get xs k
+prefix-of-joined [] ys k less = absurd (let no : ⊥ = omega arith in no)
+prefix-of-joined (x ∷ xs) ys zero less = refl
+prefix-of-joined (x ∷ xs) ys (suc k) less = prefix-of-joined xs ys k (omega arith)
 
 pub behind-of-joined : {A : Type 0} (xs ys : List A) (k j : ℕ) → j ≡ length xs + k → slice_get (xs ++ ys) j ≡ slice_get ys k
 behind-of-joined [] ys k j is = let same : j ≡ k = omega arith in rw same refl
 behind-of-joined (x ∷ xs) ys k zero is = absurd (let no : ⊥ = omega arith in no)
 behind-of-joined (x ∷ xs) ys k (suc j) is = behind-of-joined xs ys k j (omega arith)
 
-pub front-of-taken : {A : Type 0} (n : ℕ) (xs : List A) (k : ℕ) → k < n → slice_get (take n xs) k ≡ slice_get xs k
-front-of-taken zero xs k less = absurd (let no : ⊥ = omega arith in no)
-front-of-taken (suc n) [] k less = refl
-front-of-taken (suc n) (x ∷ xs) zero less = refl
-front-of-taken (suc n) (x ∷ xs) (suc k) less = front-of-taken n xs k (omega arith)
+pub prefix-of-taken : {A : Type 0} (n : ℕ) (xs : List A) (k : ℕ) → k < n → slice_get (take n xs) k ≡ slice_get xs k
+prefix-of-taken zero xs k less = absurd (let no : ⊥ = omega arith in no)
+prefix-of-taken (suc n) [] k less = refl
+prefix-of-taken (suc n) (x ∷ xs) zero less = refl
+prefix-of-taken (suc n) (x ∷ xs) (suc k) less = prefix-of-taken n xs k (omega arith)
 
 pub rest-of-dropped : {A : Type 0} (n : ℕ) (xs : List A) (k j : ℕ) → j ≡ n + k → slice_get (drop n xs) k ≡ slice_get xs j
 rest-of-dropped zero xs k j is = let same : j ≡ k = omega arith in rw same refl

@@ -1,13 +1,13 @@
 -- Posts of one item, and of none: what their checks come to.
 use Rattle.std.proofs.Common.{◌≡◌, ℕ, Bool, true, false, not, ◌==◌, nat_lt, List, [], ◌∷◌, Option, None, Some, Result, Ok, refl}
-use Rattle.gaspi_types.specs.Checks.{◌>>=◌, check, found}
-use Rattle.gaspi_types.specs.Posts.{slot_in, ends_of, transfer_kind, transfers_alone, noted_writes, noted_reads}
+use Rattle.gaspi_types.specs.Checks.{◌>>=◌, check, ok_or}
+use Rattle.gaspi_types.specs.Posts.{slot_in, endpoints_of, transfer_kind, transfers_alone, writes_with_notification, reads_with_notification}
 use Rattle.gaspi_types.specs.SegmentBytes.{is_transfer_size, is_within}
 use Rattle.gaspi_types.specs.SegmentTables.{extent_in, known_extent}
 use Rattle.gaspi_types.specs.declared.calls.posts.Item.{Item}
 use Rattle.gaspi_types.specs.declared.entries.Direction.{Direction}
 use Rattle.gaspi_types.specs.declared.entries.Direction.TheVariants.{Outward, Inward}
-use Rattle.gaspi_types.specs.declared.entries.Ends.{Ends}
+use Rattle.gaspi_types.specs.declared.entries.Endpoints.{Endpoints}
 use Rattle.gaspi_types.specs.declared.entries.Kind.{Kind}
 use Rattle.gaspi_types.specs.declared.entries.Kind.TheVariants.{Notify, ReadNote}
 use Rattle.gaspi_types.specs.declared.segments.Extent.{Extent}
@@ -48,10 +48,10 @@ checked me table rank item = by-mine (extent_in table.own item.seg) refl
     by-mine (Some mine) hm = by-theirs mine hm (known_extent me table rank item.rseg) refl
 
 pub one-transfer : (direction : Direction) (me : ℕ) (table : SegmentTable) (rank : ℕ) (item : Item)
-    → transfers_alone direction me table rank (item ∷ []) ≡ (ends_of me table rank item >>= (λ (ends : Ends). Ok (transfer_kind direction ends ∷ [])))
+    → transfers_alone direction me table rank (item ∷ []) ≡ (endpoints_of me table rank item >>= (λ (ends : Endpoints). Ok (transfer_kind direction ends ∷ [])))
 one-transfer direction me table rank item = go (checked me table rank item)
   where
-    go : Checked me table rank item → transfers_alone direction me table rank (item ∷ []) ≡ (ends_of me table rank item >>= (λ (ends : Ends). Ok (transfer_kind direction ends ∷ [])))
+    go : Checked me table rank item → transfers_alone direction me table rank (item ∷ []) ≡ (endpoints_of me table rank item >>= (λ (ends : Endpoints). Ok (transfer_kind direction ends ∷ [])))
     go (NoOwn a) = rw a refl
     go (NotKnown mine a b) = rw (a, b) refl
     go (NoSize mine theirs a b c) = rw (a, b, c) refl
@@ -68,22 +68,22 @@ valued_by value kinds = check (not (value == 0)) ZeroValue >>= (λ valued. kinds
 
 abbrev pub write_then_note : ℕ → ℕ → SegmentTable → ℕ → Item → ℕ → ℕ → Result (List Kind) Refusal
 write_then_note notes me table rank item note value =
-    ends_of me table rank item >>= (λ (ends : Ends). noted_by notes note (valued_by value (Ok (transfer_kind Outward ends ∷ Notify (slot_in ends.theirs item.rseg note) value ∷ []))))
+    endpoints_of me table rank item >>= (λ (ends : Endpoints). noted_by notes note (valued_by value (Ok (transfer_kind Outward ends ∷ Notify (slot_in ends.theirs item.rseg note) value ∷ []))))
 
 abbrev pub read_then_note : ℕ → ℕ → SegmentTable → ℕ → Item → ℕ → Result (List Kind) Refusal
 read_then_note notes me table rank item note =
-    ends_of me table rank item >>= (λ (ends : Ends). noted_by notes note (Ok (transfer_kind Inward ends ∷ ReadNote (slot_in ends.mine item.seg note) ∷ [])))
+    endpoints_of me table rank item >>= (λ (ends : Endpoints). noted_by notes note (Ok (transfer_kind Inward ends ∷ ReadNote (slot_in ends.mine item.seg note) ∷ [])))
 
 abbrev pub note_alone : ℕ → ℕ → SegmentTable → ℕ → ℕ → ℕ → ℕ → Result (List Kind) Refusal
 note_alone notes me table rank segment note value =
-    found (known_extent me table rank segment) Unregistered
+    ok_or (known_extent me table rank segment) Unregistered
     >>= (λ (theirs : Extent). noted_by notes note (valued_by value (Ok (Notify (slot_in theirs segment note) value ∷ []))))
 
 pub one-noted_write : (notes me : ℕ) (table : SegmentTable) (rank : ℕ) (item : Item) (note value : ℕ)
-    → noted_writes notes me table rank (item ∷ []) item.rseg note value ≡ write_then_note notes me table rank item note value
+    → writes_with_notification notes me table rank (item ∷ []) item.rseg note value ≡ write_then_note notes me table rank item note value
 one-noted_write notes me table rank item note value = go (checked me table rank item)
   where
-    go : Checked me table rank item → noted_writes notes me table rank (item ∷ []) item.rseg note value ≡ write_then_note notes me table rank item note value
+    go : Checked me table rank item → writes_with_notification notes me table rank (item ∷ []) item.rseg note value ≡ write_then_note notes me table rank item note value
     go (NoOwn a) = rw a refl
     go (NotKnown mine a b) = rw (a, b) refl
     go (NoSize mine theirs a b c) = rw (a, b, c) refl
@@ -92,10 +92,10 @@ one-noted_write notes me table rank item note value = go (checked me table rank 
     go (Ranged mine theirs false a b c d e) = rw (a, b, c, d, e) refl
 
 pub one-noted_read : (notes me : ℕ) (table : SegmentTable) (rank : ℕ) (item : Item) (note : ℕ)
-    → noted_reads notes me table rank (item ∷ []) item.seg note ≡ read_then_note notes me table rank item note
+    → reads_with_notification notes me table rank (item ∷ []) item.seg note ≡ read_then_note notes me table rank item note
 one-noted_read notes me table rank item note = go (checked me table rank item)
   where
-    go : Checked me table rank item → noted_reads notes me table rank (item ∷ []) item.seg note ≡ read_then_note notes me table rank item note
+    go : Checked me table rank item → reads_with_notification notes me table rank (item ∷ []) item.seg note ≡ read_then_note notes me table rank item note
     go (NoOwn a) = rw a refl
     go (NotKnown mine a b) = rw (a, b) refl
     go (NoSize mine theirs a b c) = rw (a, b, c) refl
@@ -104,9 +104,9 @@ one-noted_read notes me table rank item note = go (checked me table rank item)
     go (Ranged mine theirs false a b c d e) = rw (a, b, c, d, e) refl
 
 pub no-item-noted : (notes me : ℕ) (table : SegmentTable) (rank segment note value : ℕ)
-    → noted_writes notes me table rank [] segment note value ≡ note_alone notes me table rank segment note value
+    → writes_with_notification notes me table rank [] segment note value ≡ note_alone notes me table rank segment note value
 no-item-noted notes me table rank segment note value = go (known_extent me table rank segment) refl
   where
-    go : (o : Option Extent) → known_extent me table rank segment ≡ o → noted_writes notes me table rank [] segment note value ≡ note_alone notes me table rank segment note value
+    go : (o : Option Extent) → known_extent me table rank segment ≡ o → writes_with_notification notes me table rank [] segment note value ≡ note_alone notes me table rank segment note value
     go None none = rw none refl
     go (Some theirs) there = rw there refl

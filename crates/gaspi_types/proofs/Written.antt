@@ -11,10 +11,10 @@ use Rattle.gaspi_types.specs.SegmentTables.{extent_in}
 use Rattle.gaspi_types.specs.SegmentWords.{word_at, with_sum, with_swap}
 use Rattle.gaspi_types.specs.Segments.{segment_in, bytes_in, bytes_of, with_bytes, is_generation, extent_of, extents_of, IsSegmentWritten}
 use Rattle.gaspi_types.specs.Slots.{slots_of, with_slots, IsSlotSet, IsSlotWritten}
-use Rattle.gaspi_types.specs.Tables.{entry_at}
+use Rattle.gaspi_types.specs.Tables.{item_at}
 use Rattle.gaspi_types.specs.declared.segments.Extent.{Extent}
 use Rattle.gaspi_types.specs.declared.segments.Segment.{Segment}
-use Rattle.gaspi_types.proofs.Items.{slice_get-set_same, slice_get-set_other, past-none, joined, front-of-joined, behind-of-joined, front-of-taken, rest-of-dropped, map-set_alike}
+use Rattle.gaspi_types.proofs.Items.{slice_get-set_same, slice_get-set_other, past-none, joined, prefix-of-joined, behind-of-joined, prefix-of-taken, rest-of-dropped, map-set_alike}
 use Rattle.gaspi_types.proofs.Extents.{extent-at}
 
 -- Bytes.
@@ -59,9 +59,9 @@ range-written bytes new offset within =
     record {
       size = with_range-length bytes offset new;
       within = within;
-      there = λ k less. rw is (front-of-joined (take offset bytes ++ new) rest (offset + k) (omega arith) ∙ behind-of-joined (take offset bytes) new k (offset + k) (omega arith));
+      there = λ k less. rw is (prefix-of-joined (take offset bytes ++ new) rest (offset + k) (omega arith) ∙ behind-of-joined (take offset bytes) new k (offset + k) (omega arith));
       before = λ k less.
-          rw is (front-of-joined (take offset bytes ++ new) rest k (omega arith) ∙ front-of-joined (take offset bytes) new k (omega arith) ∙ front-of-taken offset bytes k less);
+          rw is (prefix-of-joined (take offset bytes ++ new) rest k (omega arith) ∙ prefix-of-joined (take offset bytes) new k (omega arith) ∙ prefix-of-taken offset bytes k less);
       behind = λ k past. rw is (behind-part k past front two);
     }
   where
@@ -153,18 +153,18 @@ slot-set slots note value within = go (slice_get slots note) refl
       others = λ k apart. slice_get-set_other slots note k value (λ same. apart (sym same));
     }
 
-pub slot-written : (table : List (Option (List ℕ))) (segment note value : ℕ) (slots : List ℕ) → entry_at table segment ≡ Some slots → note < length slots
+pub slot-written : (table : List (Option (List ℕ))) (segment note value : ℕ) (slots : List ℕ) → item_at table segment ≡ Some slots → note < length slots
     → IsSlotWritten table (with_slots table segment (slice_set (slots_of table segment) note value)) segment note value
 slot-written table segment note value slots there within =
     let at = joined table segment slots there in
     let change = λ (old : List ℕ). slice_set (slots_of table segment) note value in
-    let set = slice_get-set_same table segment (Some slots) (option_map change (entry_at table segment)) at in
+    let set = slice_get-set_same table segment (Some slots) (option_map change (item_at table segment)) at in
     record {
       before = slots;
       after = slice_set slots note value;
       before_there = there;
       after_there = rw (set, there) refl;
-      others = λ k apart. rw (slice_get-set_other table segment k (option_map change (entry_at table segment)) (λ same. apart (sym same))) refl;
+      others = λ k apart. rw (slice_get-set_other table segment k (option_map change (item_at table segment)) (λ same. apart (sym same))) refl;
       set = slot-set slots note value within;
     }
 
@@ -172,7 +172,7 @@ slot-written table segment note value slots there within =
 pub counts-with_slots : (table : List (Option (List ℕ))) (segment : ℕ) (slots : List ℕ) → length slots ≡ length (slots_of table segment) → map (option_map length) (with_slots table segment slots) ≡ map (option_map length) table
 counts-with_slots table segment slots same = map-set_alike (option_map length) table segment _ (λ x at. alike x at)
   where
-    alike : (x : Option (List ℕ)) → slice_get table segment ≡ Some x → option_map length (option_map (λ (old : List ℕ). slots) (entry_at table segment)) ≡ option_map length x
+    alike : (x : Option (List ℕ)) → slice_get table segment ≡ Some x → option_map length (option_map (λ (old : List ℕ). slots) (item_at table segment)) ≡ option_map length x
     alike None at = rw at refl
     alike (Some old) at =
         let size : length slots ≡ length old = rw at at same in

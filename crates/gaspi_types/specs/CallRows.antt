@@ -5,16 +5,16 @@ use Rattle.gaspi_types.specs.declared.calls.Call.{Call}
 use Rattle.gaspi_types.specs.declared.calls.Call.TheVariants.{Alloc, Register, Delete, Store, Load, Write, Read, Notify, WriteNotify, ReadNotify, WriteList, WriteListNotify, ReadList, ReadListNotify, Wait, Purge, Qsize, Waitsome, Reset, PassiveSend, PassiveReceive, FetchAdd, CompareSwap, GroupCreate, GroupAdd, GroupDelete, Commit, Barrier, Allreduce, Create, State, End}
 use Rattle.gaspi_types.specs.declared.call_rows.Posting.{Posting}
 use Rattle.gaspi_types.specs.declared.call_rows.CallRow.{CallRow}
-use Rattle.gaspi_types.specs.declared.touches.Touch.{Touch}
-use Rattle.gaspi_types.specs.declared.touches.Touch.TheVariants.{Nothing, OwnMemory, MemoryOf, BothMemories, PostsOf, GroupOf, GroupAndMemory}
+use Rattle.gaspi_types.specs.declared.footprints.DeclaredFootprint.{DeclaredFootprint}
+use Rattle.gaspi_types.specs.declared.footprints.DeclaredFootprint.TheVariants.{Nothing, OwnMemory, MemoryOf, BothMemories, PostsOf, GroupOf, GroupAndMemory}
 
 -- a call that touches that, and does no more of what rows tell
-abbrev pub row_touching : Touch → CallRow
-row_touching touch = record { touch = touch; posting = None; group = None; times_out = false; takes_memory = false; ends = false }
+abbrev pub row_with_footprint : DeclaredFootprint → CallRow
+row_with_footprint touch = record { footprint = touch; posting = None; group = None; times_out = false; takes_memory = false; ends = false }
 
 -- a call that appends so many entries to the lane of a rank and a queue
 abbrev pub row_posting : ℕ → ℕ → ℕ → CallRow
-row_posting entries rank queue = record (row_touching Nothing) { posting = Some (record { entries = entries; rank = rank; queue = queue }) }
+row_posting entries rank queue = record (row_with_footprint Nothing) { posting = Some (record { entries = entries; rank = rank; queue = queue }) }
 
 abbrev pub with_memory : CallRow → CallRow
 with_memory row = record row { takes_memory = true }
@@ -23,8 +23,8 @@ abbrev pub with_timeout : CallRow → CallRow
 with_timeout row = record row { times_out = true }
 
 -- a collective on a group, which takes a timeout, and touches that
-abbrev pub row_joining : ℕ → Touch → CallRow
-row_joining group touch = record (with_timeout (row_touching touch)) { group = Some group }
+abbrev pub row_joining : ℕ → DeclaredFootprint → CallRow
+row_joining group touch = record (with_timeout (row_with_footprint touch)) { group = Some group }
 
 -- How many entries a list post asks for: one for each of its items, and so many more. Own choice: one whose length is
 -- outside its limits asks for none.
@@ -32,11 +32,11 @@ abbrev pub list_entries : ℕ → ℕ → ℕ
 list_entries items more = if is_list_length items then items + more else 0
 
 abbrev pub row_of : Call → CallRow
-row_of (Alloc call) = with_memory (row_touching OwnMemory)
-row_of (Register call) = row_touching (PostsOf call.rank)
-row_of (Delete call) = row_touching OwnMemory
-row_of (Store call) = with_memory (row_touching OwnMemory)
-row_of (Load call) = with_memory (row_touching OwnMemory)
+row_of (Alloc call) = with_memory (row_with_footprint OwnMemory)
+row_of (Register call) = row_with_footprint (PostsOf call.rank)
+row_of (Delete call) = row_with_footprint OwnMemory
+row_of (Store call) = with_memory (row_with_footprint OwnMemory)
+row_of (Load call) = with_memory (row_with_footprint OwnMemory)
 row_of (Write call) = with_memory (row_posting 1 call.rank call.queue)
 row_of (Read call) = with_memory (row_posting 1 call.rank call.queue)
 row_of (Notify call) = row_posting 1 call.rank call.queue
@@ -46,24 +46,24 @@ row_of (WriteList call) = with_memory (row_posting (list_entries (length call.it
 row_of (WriteListNotify call) = with_memory (row_posting (list_entries (length call.items) 1) call.rank call.queue)
 row_of (ReadList call) = with_memory (row_posting (list_entries (length call.items) 0) call.rank call.queue)
 row_of (ReadListNotify call) = with_memory (row_posting (list_entries (length call.items) 1) call.rank call.queue)
-row_of (Wait call) = with_timeout (row_touching Nothing)
-row_of (Purge call) = row_touching Nothing
-row_of (Qsize call) = row_touching Nothing
-row_of (Waitsome call) = with_timeout (row_touching OwnMemory)
-row_of (Reset call) = row_touching OwnMemory
-row_of (PassiveSend call) = with_timeout (with_memory (row_touching (BothMemories call.rank)))
-row_of (PassiveReceive call) = with_timeout (row_touching OwnMemory)
-row_of (FetchAdd call) = row_touching (MemoryOf call.rank)
-row_of (CompareSwap call) = row_touching (MemoryOf call.rank)
-row_of GroupCreate = row_touching Nothing
-row_of (GroupAdd call) = row_touching Nothing
-row_of (GroupDelete call) = row_touching Nothing
+row_of (Wait call) = with_timeout (row_with_footprint Nothing)
+row_of (Purge call) = row_with_footprint Nothing
+row_of (Qsize call) = row_with_footprint Nothing
+row_of (Waitsome call) = with_timeout (row_with_footprint OwnMemory)
+row_of (Reset call) = row_with_footprint OwnMemory
+row_of (PassiveSend call) = with_timeout (with_memory (row_with_footprint (BothMemories call.rank)))
+row_of (PassiveReceive call) = with_timeout (row_with_footprint OwnMemory)
+row_of (FetchAdd call) = row_with_footprint (MemoryOf call.rank)
+row_of (CompareSwap call) = row_with_footprint (MemoryOf call.rank)
+row_of GroupCreate = row_with_footprint Nothing
+row_of (GroupAdd call) = row_with_footprint Nothing
+row_of (GroupDelete call) = row_with_footprint Nothing
 row_of (Commit call) = row_joining call.group (GroupOf call.group)
 row_of (Barrier call) = row_joining call.group (GroupOf call.group)
 row_of (Allreduce call) = with_memory (row_joining call.group (GroupOf call.group))
 row_of (Create call) = with_memory (row_joining call.group (GroupAndMemory call.group))
-row_of State = row_touching Nothing
-row_of End = record (row_touching Nothing) { ends = true }
+row_of State = row_with_footprint Nothing
+row_of End = record (row_with_footprint Nothing) { ends = true }
 
 -- how many entries are appended
 abbrev pub entries_in : Option Posting → ℕ

@@ -11,14 +11,14 @@ abbrev pub check : {E : Type 0} → Bool → E → Result (Unit {0}) E
 check test e = if test then Ok tt else Err e
 
 -- passes with what is there
-abbrev pub found : {A E : Type 0} → Option A → E → Result A E
-found (Some x) e = Ok x
-found None e = Err e
+abbrev pub ok_or : {A E : Type 0} → Option A → E → Result A E
+ok_or (Some x) e = Ok x
+ok_or None e = Err e
 
 -- passes where nothing is there
-abbrev pub absent : {A E : Type 0} → Option A → (A → E) → Result (Unit {0}) E
-absent None e = Ok tt
-absent (Some x) e = Err (e x)
+abbrev pub err_if_some : {A E : Type 0} → Option A → (A → E) → Result (Unit {0}) E
+err_if_some None e = Ok tt
+err_if_some (Some x) e = Err (e x)
 
 -- one check of each item, in order
 abbrev pub check_each : {A E : Type 0} → (A → Result (Unit {0}) E) → List A → Result (Unit {0}) E

@@ -19,9 +19,9 @@ use Rattle.gaspi_types.specs.declared.collectives.Op.TheVariants.{Min, Max, Sum}
 use Rattle.gaspi_types.specs.declared.groups.Args.{Args}
 use Rattle.gaspi_types.specs.declared.groups.Contribution.{Contribution}
 use Rattle.gaspi_types.specs.declared.groups.Group.{Group}
-use Rattle.gaspi_types.specs.declared.groups.Made.{Made}
-use Rattle.gaspi_types.specs.declared.groups.Part.{Part}
-use Rattle.gaspi_types.specs.declared.groups.Pending.{Pending}
+use Rattle.gaspi_types.specs.declared.groups.MemberSegment.{MemberSegment}
+use Rattle.gaspi_types.specs.declared.groups.RankContributions.{RankContributions}
+use Rattle.gaspi_types.specs.declared.groups.PendingCollective.{PendingCollective}
 use Rattle.gaspi_types.specs.declared.groups.Resume.{Resume}
 use Rattle.gaspi_types.specs.declared.groups.Resume.TheVariants.{Fresh, Same}
 use Rattle.gaspi_types.specs.declared.replies.Refusal.{Refusal}
@@ -80,8 +80,8 @@ AreValuesOf (Create segment size) values = values ≡ no_values
 AreValuesOf (Commit mask) values = values ≡ no_values
 
 -- whole arguments have them
-abbrev pub AreWhole : Args → Type 0
-AreWhole args = AreValuesOf args.coll args.values
+abbrev pub HaveOwnValues : Args → Type 0
+HaveOwnValues args = AreValuesOf args.coll args.values
 
 -- Arguments compared, and a pending collective resumed. (GASPI: timeouts)
 
@@ -92,17 +92,17 @@ abbrev pub same_args : Args → Args → Bool
 same_args a b = same_coll a.coll b.coll && same_numbers a.values b.values
 
 -- whether those are the arguments that are kept; a call may have none that could be kept
-abbrev pub asks_same : Option Args → Args → Bool
-asks_same None kept = false
-asks_same (Some args) kept = same_args args kept
+abbrev pub has_same_args : Option Args → Args → Bool
+has_same_args None kept = false
+has_same_args (Some args) kept = same_args args kept
 
 -- What a collective of a thread meets where that one of the rank is pending on its group, or none: it is new; or it is the one
 -- that is pending, which is resumed; or that is another thread's, or differs from it in kind, arguments or values.
-abbrev pub resume : Option Pending → ℕ → Option Args → Result Resume Refusal
+abbrev pub resume : Option PendingCollective → ℕ → Option Args → Result Resume Refusal
 resume None thread args = Ok Fresh
 resume (Some p) thread args = do
   mine ← check (p.thread == thread) (ActiveCollective p.thread)
-  same ← check (asks_same args p.args) (ResumeOther p.args.coll)
+  same ← check (has_same_args args p.args) (ResumeOther p.args.coll)
   Ok Same
 
 -- One turn, by what each rank has given to it.
@@ -120,9 +120,9 @@ abbrev pub or_later : Option Contribution → Option Contribution → Option Con
 or_later None later = later
 or_later (Some c) later = Some c
 
-abbrev pub first_given : (ℕ → Option Contribution) → List ℕ → Option Contribution
-first_given given [] = None
-first_given given (m ∷ members) = or_later (given m) (first_given given members)
+abbrev pub first_contribution : (ℕ → Option Contribution) → List ℕ → Option Contribution
+first_contribution given [] = None
+first_contribution given (m ∷ members) = or_later (given m) (first_contribution given members)
 
 -- a collective fits a turn where what members have given to it is of that kind and those arguments, values aside
 abbrev pub fits : Option Contribution → Coll → Result (Unit {0}) Refusal
@@ -134,40 +134,40 @@ values_in None = []
 values_in (Some c) = c.args.values.items
 
 -- what all members' values come to, in the order of their ranks (allreduce)
-abbrev pub folded_onto : (ℕ → Option Contribution) → Op → NumType → List ℤ → List ℕ → List ℤ
-folded_onto given op t total [] = total
-folded_onto given op t total (m ∷ members) = folded_onto given op t (combined op t total (values_in (given m))) members
+abbrev pub reduced_onto : (ℕ → Option Contribution) → Op → NumType → List ℤ → List ℕ → List ℤ
+reduced_onto given op t total [] = total
+reduced_onto given op t total (m ∷ members) = reduced_onto given op t (combined op t total (values_in (given m))) members
 
-abbrev pub folded : (ℕ → Option Contribution) → Op → NumType → List ℕ → List ℤ
-folded given op t [] = []
-folded given op t (m ∷ members) = folded_onto given op t (values_in (given m)) members
+abbrev pub reduced_values : (ℕ → Option Contribution) → Op → NumType → List ℕ → List ℤ
+reduced_values given op t [] = []
+reduced_values given op t (m ∷ members) = reduced_onto given op t (values_in (given m)) members
 
-abbrev pub fold_of : (ℕ → Option Contribution) → Op → NumType → List ℕ → TypedNumbers
-fold_of given op t members = record { num_type = t; items = folded given op t members }
+abbrev pub reduction_of : (ℕ → Option Contribution) → Op → NumType → List ℕ → TypedNumbers
+reduction_of given op t members = record { num_type = t; items = reduced_values given op t members }
 
 abbrev pub generation_in : Option Contribution → ℕ
 generation_in None = 0
 generation_in (Some c) = c.generation
 
 -- in which generation each member has made its segment (segment_create)
-abbrev pub made_by : (ℕ → Option Contribution) → List ℕ → List Made
+abbrev pub made_by : (ℕ → Option Contribution) → List ℕ → List MemberSegment
 made_by given members = map (λ m. record { rank = m; generation = generation_in (given m) }) members
 
 -- A group of the whole world: lists of turns that only grow.
 
-abbrev pub no_part : Part
-no_part = record { contributions = []; completed = 0 }
+abbrev pub no_contributions : RankContributions
+no_contributions = record { contributions = []; completed = 0 }
 
-abbrev pub part_of : Group → ℕ → Part
-part_of g rank = part_or_none (slice_get g.parts rank)
+abbrev pub contributions_of : Group → ℕ → RankContributions
+contributions_of g rank = part_or_none (slice_get g.contributions rank)
   where
-    part_or_none : Option Part → Part
-    part_or_none None = no_part
+    part_or_none : Option RankContributions → RankContributions
+    part_or_none None = no_contributions
     part_or_none (Some part) = part
 
 -- what a rank has given to a turn
-abbrev pub given_in : Group → ℕ → ℕ → Option Contribution
-given_in g turn rank = slice_get (part_of g rank).contributions turn
+abbrev pub contribution_in : Group → ℕ → ℕ → Option Contribution
+contribution_in g turn rank = slice_get (contributions_of g rank).contributions turn
 
 abbrev pub members_in : Group → List ℕ
 members_in g = members_or_none g.members
@@ -177,20 +177,20 @@ members_in g = members_or_none g.members
     members_or_none (Some mask) = members_of mask
 
 -- the turn of a rank: the first that it has not completed
-abbrev pub turn_of : Group → ℕ → ℕ
-turn_of g rank = (part_of g rank).completed
+abbrev pub round_of : Group → ℕ → ℕ
+round_of g rank = (contributions_of g rank).completed
 
-abbrev pub is_turn_full : Group → ℕ → Bool
-is_turn_full g rank = is_full (given_in g (turn_of g rank)) (members_in g)
+abbrev pub is_round_full : Group → ℕ → Bool
+is_round_full g rank = is_full (contribution_in g (round_of g rank)) (members_in g)
 
-abbrev pub turn_checks : Group → ℕ → Coll → Result (Unit {0}) Refusal
-turn_checks g rank coll = fits (first_given (given_in g (turn_of g rank)) (members_in g)) coll
+abbrev pub round_checks : Group → ℕ → Coll → Result (Unit {0}) Refusal
+round_checks g rank coll = fits (first_contribution (contribution_in g (round_of g rank)) (members_in g)) coll
 
-abbrev pub turn_fold : Group → ℕ → Op → NumType → TypedNumbers
-turn_fold g rank op t = fold_of (given_in g (turn_of g rank)) op t (members_in g)
+abbrev pub round_reduction : Group → ℕ → Op → NumType → TypedNumbers
+round_reduction g rank op t = reduction_of (contribution_in g (round_of g rank)) op t (members_in g)
 
-abbrev pub turn_made : Group → ℕ → List Made
-turn_made g rank = made_by (given_in g (turn_of g rank)) (members_in g)
+abbrev pub round_segments : Group → ℕ → List MemberSegment
+round_segments g rank = made_by (contribution_in g (round_of g rank)) (members_in g)
 
 -- own choice: the first commit fixes the members
 abbrev pub fixed_by : Option ℕ → Coll → Option ℕ
@@ -202,9 +202,9 @@ fixed_by None coll = None
 abbrev pub with_joined : Group → ℕ → Contribution → Group
 with_joined g rank c = record {
   members = fixed_by g.members c.args.coll;
-  parts = changed_at g.parts rank (λ (p : Part). record p { contributions = p.contributions ++ c ∷ [] });
+  contributions = changed_at g.contributions rank (λ (p : RankContributions). record p { contributions = p.contributions ++ c ∷ [] });
 }
 
 -- a rank has completed its turn
 abbrev pub with_completed : Group → ℕ → Group
-with_completed g rank = record g { parts = changed_at g.parts rank (λ (p : Part). record p { completed = p.completed + 1 }) }
+with_completed g rank = record g { contributions = changed_at g.contributions rank (λ (p : RankContributions). record p { completed = p.completed + 1 }) }

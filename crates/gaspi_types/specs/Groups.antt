@@ -1,14 +1,14 @@
 -- The groups of a rank: their handles by their numbers, from 0 to 7. (GASPI: groups)
 use Rattle.std.specs.Prelude.{ℕ, ◌+◌, Bool, true, false, not, ◌==◌, nat_lt, List, Option, None, Some, Result, Ok, slice_set, replicate}
 use Rattle.std.specs.Option.{option_map}
-use Rattle.gaspi_types.specs.Checks.{◌>>=◌, check, found, absent}
+use Rattle.gaspi_types.specs.Checks.{◌>>=◌, check, ok_or, err_if_some}
 use Rattle.gaspi_types.specs.Masks.{is_member, with_member, all_below}
-use Rattle.gaspi_types.specs.Tables.{entry_at}
+use Rattle.gaspi_types.specs.Tables.{item_at}
 use Rattle.gaspi_types.specs.declared.collectives.Stage.{Stage}
 use Rattle.gaspi_types.specs.declared.collectives.Stage.TheVariants.{Building, Committed}
 use Rattle.gaspi_types.specs.declared.groups.Handle.{Handle}
 use Rattle.gaspi_types.specs.declared.groups.Handles.{Handles}
-use Rattle.gaspi_types.specs.declared.groups.Pending.{Pending}
+use Rattle.gaspi_types.specs.declared.groups.PendingCollective.{PendingCollective}
 use Rattle.gaspi_types.specs.declared.replies.Refusal.{Refusal}
 use Rattle.gaspi_types.specs.declared.replies.Refusal.TheVariants.{NoGroup, GroupStage, NotMember, GroupMismatch, ActiveCollective, GroupsFull}
 
@@ -25,31 +25,31 @@ handle_of_all ranks = record { stage = Committed; members = all_below ranks }
 
 -- the groups of a rank at the start: group 0 alone, which is GASPI_GROUP_ALL
 abbrev pub opening_handles : ℕ → Handles
-opening_handles ranks = record { table = slice_set (replicate 8 None) 0 (Some (handle_of_all ranks)); made = 0 }
+opening_handles ranks = record { table = slice_set (replicate 8 None) 0 (Some (handle_of_all ranks)); last_id = 0 }
 
 -- the group with a number, if the rank has made it and not dropped it
 abbrev pub handle_at : Handles → ℕ → Option Handle
-handle_at groups id = entry_at groups.table id
+handle_at groups id = item_at groups.table id
 
 -- The number of the next group: they rise from 1 to 7, and none is used again (own choice; group_create).
 abbrev pub next_group : Handles → Result ℕ Refusal
 next_group groups = do
-  room ← check (nat_lt groups.made 7) GroupsFull
-  Ok (groups.made + 1)
+  room ← check (nat_lt groups.last_id 7) GroupsFull
+  Ok (groups.last_id + 1)
 
 abbrev pub with_group : Handles → Handles
-with_group groups = record { table = slice_set groups.table (groups.made + 1) (Some new_handle); made = groups.made + 1 }
+with_group groups = record { table = slice_set groups.table (groups.last_id + 1) (Some new_handle); last_id = groups.last_id + 1 }
 
 -- the stage of a group
 abbrev pub stage_of : Handles → ℕ → Result Stage Refusal
 stage_of groups id = do
-  handle ← found (handle_at groups id) NoGroup
+  handle ← ok_or (handle_at groups id) NoGroup
   Ok handle.stage
 
 -- a group that is built yet, or why there is none
 abbrev pub building_at : Handles → ℕ → Result Handle Refusal
 building_at groups id = do
-  handle ← found (handle_at groups id) NoGroup
+  handle ← ok_or (handle_at groups id) NoGroup
   building ← check (is_building handle.stage) (GroupStage handle.stage)
   Ok handle
 
@@ -62,9 +62,9 @@ abbrev pub with_added : Handles → ℕ → ℕ → Handles
 with_added groups id rank = with_handle groups id (λ (h : Handle). record h { members = with_member h.members rank })
 
 -- why a group may not be dropped: it is not there, or it is group 0, which stays for good (group_delete)
-abbrev pub drop_checks : Handles → ℕ → Result (Unit {0}) Refusal
-drop_checks groups id = do
-  handle ← found (handle_at groups id) NoGroup
+abbrev pub delete_checks : Handles → ℕ → Result (Unit {0}) Refusal
+delete_checks groups id = do
+  handle ← ok_or (handle_at groups id) NoGroup
   check (not (id == 0)) (GroupStage Committed)
 
 abbrev pub without_group : Handles → ℕ → Handles
@@ -87,8 +87,8 @@ fix_checks None mask = Ok tt
 fix_checks (Some kept) mask = check (kept == mask) (GroupMismatch kept)
 
 -- a group of a rank may be built or dropped only where no collective of the rank is pending on it, in any thread
-abbrev pub idle_check : Option Pending → Result (Unit {0}) Refusal
-idle_check pending = absent pending (λ p. ActiveCollective p.thread)
+abbrev pub idle_check : Option PendingCollective → Result (Unit {0}) Refusal
+idle_check pending = err_if_some pending (λ p. ActiveCollective p.thread)
 
-abbrev pub idle_checks : List (Option Pending) → ℕ → Result (Unit {0}) Refusal
-idle_checks pending id = idle_check (entry_at pending id)
+abbrev pub idle_checks : List (Option PendingCollective) → ℕ → Result (Unit {0}) Refusal
+idle_checks pending id = idle_check (item_at pending id)

@@ -1,7 +1,7 @@
 -- The inbox of a rank: the messages that were sent to it and that it has not received, the earliest first.
 -- (GASPI: passive communication)
 use Rattle.std.specs.Prelude.{ℕ, Bool, nat_le, nat_lt, List, [], ◌∷◌, ◌++◌, length, Option, None, Some, Result, Ok}
-use Rattle.gaspi_types.specs.Checks.{◌>>=◌, check, found}
+use Rattle.gaspi_types.specs.Checks.{◌>>=◌, check, ok_or}
 use Rattle.gaspi_types.specs.Ranges.{is_between}
 use Rattle.gaspi_types.specs.SegmentBytes.{is_within}
 use Rattle.gaspi_types.specs.SegmentTables.{extent_in}
@@ -17,7 +17,7 @@ is_passive_size size = is_between 1 4096 size
 -- what a send, and a receive, of that many bytes at an offset of an own segment is refused for, whatever inbox it meets
 abbrev pub passive_checks : List (Option Extent) → ℕ → ℕ → ℕ → Result (Unit {0}) Refusal
 passive_checks own segment offset size = do
-  mine ← found (extent_in own segment) NoSegment
+  mine ← ok_or (extent_in own segment) NoSegment
   sized ← check (is_passive_size size) BadSize
   check (is_within offset size mine.size) (BadRange mine.size)
 

@@ -46,8 +46,8 @@ abbrev pub is_read_note : Entry → Bool
 is_read_note e = is_read_note_kind e.kind
 
 -- the place of the entry with a number
-abbrev pub place_of : List Entry → ℕ → Option ℕ
-place_of lane number = position (λ e. e.number == number) lane
+abbrev pub position_of : List Entry → ℕ → Option ℕ
+position_of lane number = position (λ e. e.number == number) lane
 
 -- how many entries have taken their bytes
 abbrev pub carried_count : List Entry → ℕ

@@ -1,7 +1,7 @@
 -- What becomes of a list whose item is lent to be written.
 use Rattle.std.specs.Prelude.{ℕ, List, slice_set}
 use Rattle.std.specs.Borrow.{Lends, MutBor, Fml, RattleType}
-use Rattle.gaspi_types.specs.contracts.lists.Rows.{the_row}
+use Rattle.gaspi_types.specs.contracts.lists.Sequence.{the_row}
 
 -- once the borrow r ends, the list has the last value written through r at that place
 abbrev pub LendsItem : (T : RattleType) → MutBor (List T.Denot) → ℕ → MutBor T.Denot → Fml

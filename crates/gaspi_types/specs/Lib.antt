@@ -20,5 +20,5 @@ pub mod SegmentWords
 pub mod Segments
 pub mod Slots
 pub mod Tables
-pub mod Touches
+pub mod Footprints
 pub mod World

@@ -1,7 +1,7 @@
 -- What a post asks for: its entries, or the first refusal up to the notification value. A single post is a list post of
 -- one item. (GASPI: one-sided communication)
 use Rattle.std.specs.Prelude.{ℕ, Bool, true, false, not, ◌==◌, ◌&&◌, nat_lt, nat_le, List, [], ◌∷◌, ◌++◌, length, Result, Ok}
-use Rattle.gaspi_types.specs.Checks.{◌>>=◌, check, found, check_each}
+use Rattle.gaspi_types.specs.Checks.{◌>>=◌, check, ok_or, check_each}
 use Rattle.gaspi_types.specs.SegmentBytes.{is_transfer_size, is_within}
 use Rattle.gaspi_types.specs.SegmentTables.{extent_in, known_extent}
 use Rattle.gaspi_types.specs.declared.calls.posts.Item.{Item}
@@ -19,7 +19,7 @@ use Rattle.gaspi_types.specs.declared.calls.Call.TheVariants as calls
 use Rattle.gaspi_types.specs.declared.segments.Extent.{Extent}
 use Rattle.gaspi_types.specs.declared.segments.SegmentTable.{SegmentTable}
 use Rattle.gaspi_types.specs.declared.entries.ByteRange.{ByteRange}
-use Rattle.gaspi_types.specs.declared.entries.Ends.{Ends}
+use Rattle.gaspi_types.specs.declared.entries.Endpoints.{Endpoints}
 use Rattle.gaspi_types.specs.declared.entries.NoteSlot.{NoteSlot}
 use Rattle.gaspi_types.specs.declared.entries.Direction.{Direction}
 use Rattle.gaspi_types.specs.declared.entries.Direction.TheVariants.{Outward, Inward}
@@ -56,8 +56,8 @@ read_notify_item call = record { seg = call.seg; offset = call.offset; rseg = ca
 -- the segments of an item: the own one is there, and that of the rank is known
 abbrev pub has_segments : ℕ → SegmentTable → ℕ → Item → Result (Unit {0}) Refusal
 has_segments me table rank item = do
-  mine ← found (extent_in table.own item.seg) NoSegment
-  theirs ← found (known_extent me table rank item.rseg) Unregistered
+  mine ← ok_or (extent_in table.own item.seg) NoSegment
+  theirs ← ok_or (known_extent me table rank item.rseg) Unregistered
   Ok tt
 
 -- the size of an item
@@ -66,10 +66,10 @@ has_size item = check (is_transfer_size item.size) BadSize
 
 -- The two ends of a transfer with a rank, or its first refusal. The refusals stand in the order of all calls: segments,
 -- sizes, ranges.
-abbrev pub ends_of : ℕ → SegmentTable → ℕ → Item → Result Ends Refusal
-ends_of me table rank item = do
-  mine ← found (extent_in table.own item.seg) NoSegment
-  theirs ← found (known_extent me table rank item.rseg) Unregistered
+abbrev pub endpoints_of : ℕ → SegmentTable → ℕ → Item → Result Endpoints Refusal
+endpoints_of me table rank item = do
+  mine ← ok_or (extent_in table.own item.seg) NoSegment
+  theirs ← ok_or (known_extent me table rank item.rseg) Unregistered
   sized ← check (is_transfer_size item.size) BadSize
   from ← check (is_within item.offset item.size mine.size) (BadRange mine.size)
   to ← check (is_within item.roffset item.size theirs.size) (BadRange theirs.size)
@@ -81,7 +81,7 @@ ends_of me table rank item = do
   })
 
 -- what a transfer between two ends asks for
-abbrev pub transfer_kind : Direction → Ends → Kind
+abbrev pub transfer_kind : Direction → Endpoints → Kind
 transfer_kind Outward ends = Write ends.own ends.target
 transfer_kind Inward ends = Read ends.own ends.target
 
@@ -89,7 +89,7 @@ transfer_kind Inward ends = Read ends.own ends.target
 abbrev pub transfers_of : Direction → ℕ → SegmentTable → ℕ → List Item → Result (List Kind) Refusal
 transfers_of direction me table rank [] = Ok []
 transfers_of direction me table rank (item ∷ items) = do
-  ends ← ends_of me table rank item
+  ends ← endpoints_of me table rank item
   kinds ← transfers_of direction me table rank items
   Ok (transfer_kind direction ends ∷ kinds)
 
@@ -104,28 +104,28 @@ checked_transfers direction me table rank items beside = do
   Ok (known, kinds)
 
 -- nothing else is looked up
-abbrev pub nothing_beside : Result (Unit {0}) Refusal
-nothing_beside = Ok tt
+abbrev pub no_further_check : Result (Unit {0}) Refusal
+no_further_check = Ok tt
 
 -- transfers alone
 abbrev pub transfers_alone : Direction → ℕ → SegmentTable → ℕ → List Item → Result (List Kind) Refusal
 transfers_alone direction me table rank items = do
-  checked ← checked_transfers direction me table rank items nothing_beside
+  checked ← checked_transfers direction me table rank items no_further_check
   Ok checked.1
 
 -- writes, and behind them a notification, whose segment is known: what the writes are refused for comes before its slot and
 -- its value
-abbrev pub noted_writes : ℕ → ℕ → SegmentTable → ℕ → List Item → ℕ → ℕ → ℕ → Result (List Kind) Refusal
-noted_writes notes me table rank items segment note value = do
-  checked ← checked_transfers Outward me table rank items (found (known_extent me table rank segment) Unregistered)
+abbrev pub writes_with_notification : ℕ → ℕ → SegmentTable → ℕ → List Item → ℕ → ℕ → ℕ → Result (List Kind) Refusal
+writes_with_notification notes me table rank items segment note value = do
+  checked ← checked_transfers Outward me table rank items (ok_or (known_extent me table rank segment) Unregistered)
   noted ← check (nat_lt note notes) BadNote
   valued ← check (not (value == 0)) ZeroValue
   Ok (checked.1 ++ Notify (slot_in checked.0 segment note) value ∷ [])
 
 -- reads, and behind them a notification of a slot of an own segment
-abbrev pub noted_reads : ℕ → ℕ → SegmentTable → ℕ → List Item → ℕ → ℕ → Result (List Kind) Refusal
-noted_reads notes me table rank items segment note = do
-  checked ← checked_transfers Inward me table rank items (found (extent_in table.own segment) NoSegment)
+abbrev pub reads_with_notification : ℕ → ℕ → SegmentTable → ℕ → List Item → ℕ → ℕ → Result (List Kind) Refusal
+reads_with_notification notes me table rank items segment note = do
+  checked ← checked_transfers Inward me table rank items (ok_or (extent_in table.own segment) NoSegment)
   noted ← check (nat_lt note notes) BadNote
   Ok (checked.1 ++ ReadNote (slot_in checked.0 segment note) ∷ [])
 
@@ -145,15 +145,15 @@ read_kinds me table call = transfers_alone Inward me table call.rank (read_item 
 
 -- (notify)
 abbrev pub notify_kinds : ℕ → ℕ → SegmentTable → notify.Notify → Result (List Kind) Refusal
-notify_kinds notes me table call = noted_writes notes me table call.rank [] call.rseg call.note call.value
+notify_kinds notes me table call = writes_with_notification notes me table call.rank [] call.rseg call.note call.value
 
 -- (write_notify)
 abbrev pub write_notify_kinds : ℕ → ℕ → SegmentTable → write_notify.WriteNotify → Result (List Kind) Refusal
-write_notify_kinds notes me table call = noted_writes notes me table call.rank (write_notify_item call ∷ []) call.rseg call.note call.value
+write_notify_kinds notes me table call = writes_with_notification notes me table call.rank (write_notify_item call ∷ []) call.rseg call.note call.value
 
 -- (read_notify)
 abbrev pub read_notify_kinds : ℕ → ℕ → SegmentTable → read_notify.ReadNotify → Result (List Kind) Refusal
-read_notify_kinds notes me table call = noted_reads notes me table call.rank (read_notify_item call ∷ []) call.seg call.note
+read_notify_kinds notes me table call = reads_with_notification notes me table call.rank (read_notify_item call ∷ []) call.seg call.note
 
 -- (write_list)
 abbrev pub write_list_kinds : ℕ → SegmentTable → write_list.WriteList → Result (List Kind) Refusal
@@ -165,11 +165,11 @@ read_list_kinds me table call = listed call.items (transfers_alone Inward me tab
 
 -- (write_list_notify)
 abbrev pub write_list_notify_kinds : ℕ → ℕ → SegmentTable → write_list_notify.WriteListNotify → Result (List Kind) Refusal
-write_list_notify_kinds notes me table call = listed call.items (noted_writes notes me table call.rank call.items call.nseg call.note call.value)
+write_list_notify_kinds notes me table call = listed call.items (writes_with_notification notes me table call.rank call.items call.nseg call.note call.value)
 
 -- (read_list_notify)
 abbrev pub read_list_notify_kinds : ℕ → ℕ → SegmentTable → read_list_notify.ReadListNotify → Result (List Kind) Refusal
-read_list_notify_kinds notes me table call = listed call.items (noted_reads notes me table call.rank call.items call.nseg call.note)
+read_list_notify_kinds notes me table call = listed call.items (reads_with_notification notes me table call.rank call.items call.nseg call.note)
 
 -- the posts of lists
 abbrev pub is_list_post : Call → Bool

@@ -1,6 +1,6 @@
 -- Tables of segments: what a rank has, and what it knows of others, by the numbers of the segments. (GASPI: segments)
 use Rattle.std.specs.Prelude.{ℕ, ◌+◌, ◌==◌, nat_lt, List, Option, None, Some, Result, if◌then◌else◌, slice_get, slice_set, slice_index, option_and_then}
-use Rattle.gaspi_types.specs.Checks.{◌>>=◌, check, found, absent}
+use Rattle.gaspi_types.specs.Checks.{◌>>=◌, check, ok_or, err_if_some}
 use Rattle.gaspi_types.specs.SegmentBytes.{range_checks}
 use Rattle.gaspi_types.specs.Tables.{changed_at}
 use Rattle.gaspi_types.specs.World.{is_segment_size}
@@ -22,14 +22,14 @@ known_extent me table rank segment =
 -- what a range of an own segment is refused for
 abbrev pub own_range_checks : List (Option Extent) → ℕ → ℕ → ℕ → Result (Unit {0}) Refusal
 own_range_checks own segment offset size = do
-  mine ← found (extent_in own segment) NoSegment
+  mine ← ok_or (extent_in own segment) NoSegment
   range_checks mine.size offset size
 
 -- what a segment that is to be made is refused for (segment_alloc)
 abbrev pub alloc_checks : List (Option Extent) → ℕ → ℕ → Result (Unit {0}) Refusal
 alloc_checks own segment size = do
   numbered ← check (nat_lt segment 32) NoSegment
-  free ← absent (extent_in own segment) (λ extent. SegmentThere)
+  free ← err_if_some (extent_in own segment) (λ extent. SegmentThere)
   check (is_segment_size size) BadSize
 
 -- own choice: each new segment of a number has the next generation of that number, from 0

@@ -2,7 +2,7 @@
 use Rattle.std.specs.Prelude.{◌≡◌, ◌≢◌, ℕ, Bool, false, ◌==◌, List, [], length, map, replicate, Option, None, Some, slice_set}
 use Rattle.std.specs.Option.{option_map}
 use Rattle.gaspi_types.specs.SegmentBytes.{IsRangeWritten}
-use Rattle.gaspi_types.specs.Tables.{entry_at}
+use Rattle.gaspi_types.specs.Tables.{item_at}
 use Rattle.gaspi_types.specs.declared.segments.Extent.{Extent}
 use Rattle.gaspi_types.specs.declared.segments.Segment.{Segment}
 
@@ -26,7 +26,7 @@ extent_of s = record { generation = s.generation; size = length s.bytes }
 
 -- the segment of a number
 abbrev pub segment_in : List (Option Segment) → ℕ → Option Segment
-segment_in own segment = entry_at own segment
+segment_in own segment = item_at own segment
 
 abbrev pub bytes_of : List (Option Segment) → ℕ → List ℕ
 bytes_of own segment = bytes_in (segment_in own segment)

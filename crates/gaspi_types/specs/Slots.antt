@@ -2,7 +2,7 @@
 use Rattle.std.specs.Prelude.{◌≡◌, ◌≢◌, ℕ, ◌+◌, length, slice_get, Some, List, [], take, drop, position, Option, Bool, not, ◌==◌, ◌&&◌, nat_le, slice_set}
 use Rattle.std.specs.Option.{option_map, unwrap_or}
 use Rattle.gaspi_types.specs.SegmentBytes.{is_within}
-use Rattle.gaspi_types.specs.Tables.{entry_at}
+use Rattle.gaspi_types.specs.Tables.{item_at}
 
 abbrev pub is_set : ℕ → Bool
 is_set value = not (value == 0)
@@ -19,11 +19,11 @@ first_set slots begin num = option_map (λ k. begin + k) (position is_set (take 
 
 -- the slots of a segment; of one that is not there, none
 abbrev pub slots_of : List (Option (List ℕ)) → ℕ → List ℕ
-slots_of table segment = unwrap_or (entry_at table segment) []
+slots_of table segment = unwrap_or (item_at table segment) []
 
 -- the table with the slots of a segment replaced
 abbrev pub with_slots : List (Option (List ℕ)) → ℕ → List ℕ → List (Option (List ℕ))
-with_slots table segment slots = slice_set table segment (option_map (λ (old : List ℕ). slots) (entry_at table segment))
+with_slots table segment slots = slice_set table segment (option_map (λ (old : List ℕ). slots) (item_at table segment))
 
 -- Exactly one slot is set to a value.
 pub record IsSlotSet (old new : List ℕ) (note value : ℕ) : Type 0 where
@@ -35,7 +35,7 @@ pub record IsSlotSet (old new : List ℕ) (note value : ℕ) : Type 0 where
 pub record IsSlotWritten (old new : List (Option (List ℕ))) (segment note value : ℕ) : Type 0 where
   pub before : List ℕ
   pub after : List ℕ
-  pub before_there : entry_at old segment ≡ Some before
-  pub after_there : entry_at new segment ≡ Some after
-  pub others : (other : ℕ) → other ≢ segment → entry_at new other ≡ entry_at old other
+  pub before_there : item_at old segment ≡ Some before
+  pub after_there : item_at new segment ≡ Some after
+  pub others : (other : ℕ) → other ≢ segment → item_at new other ≡ item_at old other
   pub set : IsSlotSet before after note value

@@ -2,8 +2,8 @@
 use Rattle.std.specs.Prelude.{ℕ, List, Option, None, Some, slice_get, slice_set, option_and_then}
 
 -- what stands at a place of a table of things that may be missing
-abbrev pub entry_at : {A : Type 0} → List (Option A) → ℕ → Option A
-entry_at {A} table place = option_and_then (λ (x : Option A). x) (slice_get table place)
+abbrev pub item_at : {A : Type 0} → List (Option A) → ℕ → Option A
+item_at {A} table place = option_and_then (λ (x : Option A). x) (slice_get table place)
 
 -- a table with one item changed
 abbrev pub changed_at : {A : Type 0} → List A → ℕ → (A → A) → List A

@@ -3,16 +3,16 @@ use Rattle.std.specs.Prelude.{◌≡◌, ℕ, ◌≤◌, Bool, true, ◌&&◌, L
 use Rattle.std.specs.List.{list_any}
 use Rattle.gaspi_types.specs.Ranges.{is_between}
 use Rattle.gaspi_types.specs.declared.shapes.Limits.{Limits}
-use Rattle.gaspi_types.specs.declared.shapes.Declared.{Declared}
+use Rattle.gaspi_types.specs.declared.shapes.DeclaredSegment.{DeclaredSegment}
 use Rattle.gaspi_types.specs.declared.shapes.CallerId.{CallerId}
 use Rattle.gaspi_types.specs.declared.shapes.ShapeFault.{ShapeFault}
 use Rattle.gaspi_types.specs.declared.shapes.ShapeFault.TheVariants as faults
 
 -- what a program starts from: the limits, the segments that are there from the start, and the threads that have
 -- a script, in the order in which they were declared
-pub record World : Type 0 where
+pub record ShapeValue : Type 0 where
   pub limits : Limits
-  pub segments : List Declared
+  pub segments : List DeclaredSegment
   pub callers : List CallerId
 
 -- own choice: how large a world may be
@@ -25,15 +25,15 @@ abbrev pub is_segment_size : ℕ → Bool
 is_segment_size size = is_between 1 1048576 size
 
 -- the world of these limits with nothing declared
-abbrev pub world_of : Limits → Result World ShapeFault
-world_of limits = if are_limits limits then Ok (record { limits = limits; segments = []; callers = [] }) else Err faults.Limit
+abbrev pub shape_of : Limits → Result ShapeValue ShapeFault
+shape_of limits = if are_limits limits then Ok (record { limits = limits; segments = []; callers = [] }) else Err faults.Limit
 
 -- the segment of that rank and number
-abbrev pub is_segment : ℕ → ℕ → Declared → Bool
+abbrev pub is_segment : ℕ → ℕ → DeclaredSegment → Bool
 is_segment rank segment d = (d.rank == rank) && (d.segment == segment)
 
 -- a segment declared: within the limits, and once
-abbrev pub segment_added : World → ℕ → ℕ → ℕ → Result World ShapeFault
+abbrev pub segment_added : ShapeValue → ℕ → ℕ → ℕ → Result ShapeValue ShapeFault
 segment_added w rank segment size =
     if nat_lt rank w.limits.ranks && (nat_lt segment 32 && is_segment_size size)
     then (if list_any (is_segment rank segment) w.segments
@@ -46,7 +46,7 @@ is_caller rank thread c = (c.rank == rank) && (c.thread == thread)
 
 -- a caller declared: within the limits, once, and no rank has more callers than it may record events, since each
 -- of them records its end
-abbrev pub caller_added : World → ℕ → ℕ → Result World ShapeFault
+abbrev pub caller_added : ShapeValue → ℕ → ℕ → Result ShapeValue ShapeFault
 caller_added w rank thread =
     if nat_lt rank w.limits.ranks && nat_lt thread 4
     then (if list_any (is_caller rank thread) w.callers
@@ -57,16 +57,16 @@ caller_added w rank thread =
     else Err faults.Limit
 
 -- what holds of every world that was declared so
-pub record IsWorld (w : World) : Type 0 where
+pub record IsShape (w : ShapeValue) : Type 0 where
   pub limits : are_limits w.limits ≡ true
   pub callers : (rank : ℕ) → count_by (λ c. c.rank == rank) w.callers ≤ w.limits.events
   pub once : (rank thread : ℕ) → count_by (is_caller rank thread) w.callers ≤ 1
   pub within : (place : ℕ) (c : CallerId) → slice_get w.callers place ≡ Some c → (c.rank < w.limits.ranks) × (c.thread < 4)
-  pub segments : (place : ℕ) (d : Declared) → slice_get w.segments place ≡ Some d → (d.rank < w.limits.ranks) × (d.segment < 32) × (is_segment_size d.size ≡ true)
+  pub segments : (place : ℕ) (d : DeclaredSegment) → slice_get w.segments place ≡ Some d → (d.rank < w.limits.ranks) × (d.segment < 32) × (is_segment_size d.size ≡ true)
   pub declared_once : (rank segment : ℕ) → count_by (is_segment rank segment) w.segments ≤ 1
 
 -- the world after a declaration that was tried: changed as the outcome says, and unchanged where it was refused
-abbrev pub Declares : Result (Unit {0}) ShapeFault → World → World → Result World ShapeFault → Type 0
+abbrev pub Declares : Result (Unit {0}) ShapeFault → ShapeValue → ShapeValue → Result ShapeValue ShapeFault → Type 0
 Declares (Ok done) old new outcome = outcome ≡ Ok new
 Declares (Err faults.NoMemory) old new outcome = new ≡ old
 Declares (Err faults.Limit) old new outcome = (outcome ≡ Err faults.Limit) × (new ≡ old)

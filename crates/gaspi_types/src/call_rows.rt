@@ -1,11 +1,11 @@
 //! What calls share: a row for each call.
 
 ghost use Rattle.std.specs.Prelude.{◌≡◌, ◌≤◌, OnSome, Some, None, true, false};
-ghost use Rattle.gaspi_types.specs.CallRows.{row_of, row_touching, row_posting, row_joining, list_entries, entries_in, need_in, need_of};
-ghost use Rattle.gaspi_types.specs.declared.touches.Touch.TheVariants.{Nothing};
+ghost use Rattle.gaspi_types.specs.CallRows.{row_of, row_with_footprint, row_posting, row_joining, list_entries, entries_in, need_in, need_of};
+ghost use Rattle.gaspi_types.specs.declared.footprints.DeclaredFootprint.TheVariants.{Nothing};
 
 use crate::calls::{Call, is_list_length};
-use crate::touches::Touch;
+use crate::footprints::DeclaredFootprint;
 
 /// The entries that a call appends: how many, and to the lane of which rank and queue. (GASPI: one-sided communication)
 #[derive(Clone, Copy, Debug, PartialEq, Eq)]
@@ -19,7 +19,7 @@ pub struct Posting {
 #[derive(Clone, Copy, Debug, PartialEq, Eq)]
 pub struct CallRow {
     /// What it touches beside the posts of its caller's rank. (own choice)
-    pub touch: Touch,
+    pub footprint: DeclaredFootprint,
     /// What it appends, where it posts. (GASPI: one-sided communication)
     pub posting: Option<Posting>,
     /// The group that it joins, where it is a collective. (GASPI: collectives)
@@ -34,11 +34,11 @@ pub struct CallRow {
 
 impl CallRow {
     /// A call that touches that, and does no more of what rows tell.
-    fn touching(touch: Touch) -> CallRow
-        ensures { result ≡ row_touching touch }
+    fn touching(touch: DeclaredFootprint) -> CallRow
+        ensures { result ≡ row_with_footprint touch }
     {
         CallRow {
-            touch,
+            footprint: touch,
             posting: None,
             group: None,
             times_out: false,
@@ -57,12 +57,12 @@ impl CallRow {
                 rank,
                 queue,
             }),
-            ..CallRow::touching(Touch::Nothing)
+            ..CallRow::touching(DeclaredFootprint::Nothing)
         }
     }
 
     /// A collective on a group, which takes a timeout, and touches that.
-    fn collective(group: u64, touch: Touch) -> CallRow
+    fn collective(group: u64, touch: DeclaredFootprint) -> CallRow
         ensures { result ≡ row_joining group touch }
     {
         CallRow {
@@ -139,11 +139,11 @@ impl Call {
         ensures bound { entries_in result.posting ≤ 257 }
     {
         match self {
-            Call::Alloc(_) => CallRow::touching(Touch::OwnMemory).with_memory(),
-            Call::Register(call) => CallRow::touching(Touch::PostsOf(call.rank)),
-            Call::Delete(_) => CallRow::touching(Touch::OwnMemory),
-            Call::Store(_) => CallRow::touching(Touch::OwnMemory).with_memory(),
-            Call::Load(_) => CallRow::touching(Touch::OwnMemory).with_memory(),
+            Call::Alloc(_) => CallRow::touching(DeclaredFootprint::OwnMemory).with_memory(),
+            Call::Register(call) => CallRow::touching(DeclaredFootprint::PostsOf(call.rank)),
+            Call::Delete(_) => CallRow::touching(DeclaredFootprint::OwnMemory),
+            Call::Store(_) => CallRow::touching(DeclaredFootprint::OwnMemory).with_memory(),
+            Call::Load(_) => CallRow::touching(DeclaredFootprint::OwnMemory).with_memory(),
             Call::Write(call) => CallRow::posting(1, call.rank, call.queue).with_memory(),
             Call::Read(call) => CallRow::posting(1, call.rank, call.queue).with_memory(),
             Call::Notify(call) => CallRow::posting(1, call.rank, call.queue),
@@ -165,32 +165,46 @@ impl Call {
                 let entries = list_entries(call.items.len(), 1);
                 CallRow::posting(entries, call.rank, call.queue).with_memory()
             }
-            Call::Wait(_) => CallRow::touching(Touch::Nothing).with_timeout(),
-            Call::Purge(_) => CallRow::touching(Touch::Nothing),
-            Call::Qsize(_) => CallRow::touching(Touch::Nothing),
-            Call::Waitsome(_) => CallRow::touching(Touch::OwnMemory).with_timeout(),
-            Call::Reset(_) => CallRow::touching(Touch::OwnMemory),
-            Call::PassiveSend(call) => CallRow::touching(Touch::BothMemories(call.rank))
+            Call::Wait(_) => CallRow::touching(DeclaredFootprint::Nothing).with_timeout(),
+            Call::Purge(_) => CallRow::touching(DeclaredFootprint::Nothing),
+            Call::Qsize(_) => CallRow::touching(DeclaredFootprint::Nothing),
+            Call::Waitsome(_) => CallRow::touching(DeclaredFootprint::OwnMemory).with_timeout(),
+            Call::Reset(_) => CallRow::touching(DeclaredFootprint::OwnMemory),
+            Call::PassiveSend(call) => CallRow::touching(DeclaredFootprint::BothMemories(call.rank))
                 .with_memory()
                 .with_timeout(),
-            Call::PassiveReceive(_) => CallRow::touching(Touch::OwnMemory).with_timeout(),
-            Call::FetchAdd(call) => CallRow::touching(Touch::MemoryOf(call.rank)),
-            Call::CompareSwap(call) => CallRow::touching(Touch::MemoryOf(call.rank)),
-            Call::GroupCreate => CallRow::touching(Touch::Nothing),
-            Call::GroupAdd(_) => CallRow::touching(Touch::Nothing),
-            Call::GroupDelete(_) => CallRow::touching(Touch::Nothing),
-            Call::Commit(call) => CallRow::collective(call.group, Touch::GroupOf(call.group)),
-            Call::Barrier(call) => CallRow::collective(call.group, Touch::GroupOf(call.group)),
+            Call::PassiveReceive(_) => CallRow::touching(
+                DeclaredFootprint::OwnMemory,
+            ).with_timeout(),
+            Call::FetchAdd(call) => CallRow::touching(DeclaredFootprint::MemoryOf(call.rank)),
+            Call::CompareSwap(call) => CallRow::touching(DeclaredFootprint::MemoryOf(call.rank)),
+            Call::GroupCreate => CallRow::touching(DeclaredFootprint::Nothing),
+            Call::GroupAdd(_) => CallRow::touching(DeclaredFootprint::Nothing),
+            Call::GroupDelete(_) => CallRow::touching(DeclaredFootprint::Nothing),
+            Call::Commit(call) => CallRow::collective(
+                call.group,
+                DeclaredFootprint::GroupOf(call.group),
+            ),
+            Call::Barrier(call) => CallRow::collective(
+                call.group,
+                DeclaredFootprint::GroupOf(call.group),
+            ),
             Call::Allreduce(call) => {
-                CallRow::collective(call.group, Touch::GroupOf(call.group)).with_memory()
+                CallRow::collective(
+                    call.group,
+                    DeclaredFootprint::GroupOf(call.group),
+                ).with_memory()
             }
             Call::Create(call) => {
-                CallRow::collective(call.group, Touch::GroupAndMemory(call.group)).with_memory()
+                CallRow::collective(
+                    call.group,
+                    DeclaredFootprint::GroupAndMemory(call.group),
+                ).with_memory()
             }
-            Call::State => CallRow::touching(Touch::Nothing),
+            Call::State => CallRow::touching(DeclaredFootprint::Nothing),
             Call::End => CallRow {
                 ends: true,
-                ..CallRow::touching(Touch::Nothing)
+                ..CallRow::touching(DeclaredFootprint::Nothing)
             },
         }
     }

@@ -4,7 +4,7 @@ ghost use Rattle.std.specs.Prelude.{◌≡◌, ◌↔◌, IsTrue, IfOk, IsOk, le
 ghost use Rattle.std.specs.List.{list_all};
 ghost use Rattle.gaspi_types.specs.NumberTypes.{lowest, highest, is_in_type, AreInType};
 
-use crate::lists::Rows;
+use crate::lists::Sequence;
 use crate::memory::NoMemory;
 use std::alloc::Global;
 use std::marker::Model;
@@ -105,7 +105,7 @@ pub fn are_in_type(num_type: NumType, numbers: &[i128]) -> bool
 #[derive(Debug, PartialEq, Eq, Drop)]
 pub struct Numbers {
     num_type: NumType,
-    items: Rows<i128>,
+    items: Sequence<i128>,
 }
 
 impl Model for Numbers {
@@ -122,7 +122,7 @@ impl Model for Numbers {
 
 impl Numbers {
     /// The numbers of a type, which are all in its range; `are_in_type` tells. It takes no memory.
-    pub fn new(num_type: NumType, items: Rows<i128>) -> Numbers
+    pub fn new(num_type: NumType, items: Sequence<i128>) -> Numbers
         requires { AreInType num_type items }
         ensures { result ≡ record { num_type = num_type; items = items } }
     {
@@ -151,7 +151,7 @@ impl Numbers {
     {
         Ok(Numbers {
             num_type: self.num_type,
-            items: Rows::copied_from(alloc, self.items.as_slice())?,
+            items: Sequence::copied_from(alloc, self.items.as_slice())?,
         })
     }
 }

@@ -6,7 +6,7 @@ ghost use Rattle.gaspi_types.specs.Kinds.{destination_of, source_of};
 ghost use Rattle.gaspi_types.specs.Posts.{transfer_kind};
 
 use crate::ids::RankId;
-use crate::lists::{Bytes, Rows};
+use crate::lists::{Bytes, Sequence};
 use crate::segments::Extent;
 
 /// A range of bytes of a segment of that generation.
@@ -28,7 +28,7 @@ pub struct NoteSlot {
 
 /// The two ends of a transfer: the own segment and the target's as they are known, and a range in each.
 #[derive(Clone, Copy, Debug, PartialEq, Eq)]
-pub struct Ends {
+pub struct Endpoints {
     pub mine: Extent,
     pub theirs: Extent,
     pub own: ByteRange,
@@ -57,7 +57,7 @@ pub enum Direction {
     Inward,
 }
 
-impl Ends {
+impl Endpoints {
     /// What a transfer between these ends asks for.
     pub fn kind(&self, direction: Direction) -> Kind
         ensures { result ≡ transfer_kind direction self.now }
@@ -137,5 +137,5 @@ pub struct Queue {
     /// The target with which it is broken.
     pub broken: Option<RankId>,
     /// Its lane to each rank.
-    pub lanes: Rows<Rows<Entry>>,
+    pub lanes: Sequence<Sequence<Entry>>,
 }

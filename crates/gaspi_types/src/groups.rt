@@ -6,7 +6,7 @@ ghost use Rattle.gaspi_types.specs.Groups.{opening_handles, handle_at, building_
 
 use crate::collectives::{Coll, Numbers, Stage};
 use crate::ids::{RankId, ThreadId};
-use crate::lists::Rows;
+use crate::lists::Sequence;
 use crate::masks::all_below;
 use crate::memory::NoMemory;
 use crate::replies::Refusal;
@@ -24,9 +24,9 @@ pub struct Handle {
 /// numbers 1 to 7, one after another.
 #[derive(Debug, PartialEq, Eq, Drop)]
 pub struct Handles {
-    pub table: Rows<Option<Handle>>,
+    pub table: Sequence<Option<Handle>>,
     /// How many groups the rank has made, at most 7.
-    pub made: u32,
+    pub last_id: u32,
 }
 
 impl Handles {
@@ -35,12 +35,12 @@ impl Handles {
         requires { ranks ≤ 16 }
         ensures { IfOk result (λ handles. handles ≡ opening_handles ranks) }
     {
-        let mut table = Rows::from_vec(vec![in alloc; None; 8]?);
+        let mut table = Sequence::from_vec(vec![in alloc; None; 8]?);
         *table.at_mut(0) = Some(Handle {
             stage: Stage::Committed,
             members: all_below(ranks),
         });
-        Ok(Handles { table, made: 0 })
+        Ok(Handles { table, last_id: 0 })
     }
 
     /// The group with a number, if it is there.
@@ -100,7 +100,7 @@ impl Args {
 
 /// A collective of a rank on a group that a thread has joined, and whose answer it has not got.
 #[derive(Debug, PartialEq, Eq, Drop)]
-pub struct Pending {
+pub struct PendingCollective {
     pub thread: ThreadId,
     pub args: Args,
 }
@@ -115,7 +115,7 @@ pub enum Resume {
 
 /// In which generation a rank has made its segment by a collective. (GASPI: segment_create)
 #[derive(Clone, Copy, Debug, PartialEq, Eq)]
-pub struct Made {
+pub struct MemberSegment {
     pub rank: RankId,
     pub generation: u32,
 }
@@ -131,8 +131,8 @@ pub struct Contribution {
 /// What one rank has had to do with a group: all that it has contributed, turn by turn, and how many of these turns it has
 /// completed.
 #[derive(Debug, PartialEq, Eq, Drop)]
-pub struct Part {
-    pub contributions: Rows<Contribution>,
+pub struct RankContributions {
+    pub contributions: Sequence<Contribution>,
     pub completed: u32,
 }
 
@@ -141,5 +141,5 @@ pub struct Part {
 pub struct Group {
     /// Bit r for rank r.
     pub members: Option<u32>,
-    pub parts: Rows<Part>,
+    pub contributions: Sequence<RankContributions>,
 }

@@ -4,7 +4,7 @@ ghost use Rattle.std.specs.Prelude.{◌≡◌};
 ghost use Rattle.gaspi_types.specs.Inboxes.{is_passive_size};
 
 use crate::ids::RankId;
-use crate::lists::{Bytes, Rows};
+use crate::lists::{Bytes, Sequence};
 
 /// A message: the rank that sent it, and its bytes.
 #[derive(Debug, PartialEq, Eq, Drop)]
@@ -15,7 +15,7 @@ pub struct Message {
 }
 
 /// The messages that were sent to a rank and that it has not received, the earliest first.
-pub type Messages = Rows<Message>;
+pub type Messages = Sequence<Message>;
 
 /// Whether a message may have that many bytes, and a receive take that many: 1 to 4,096. (own choice)
 pub fn is_passive_size(size: u64) -> bool

@@ -7,6 +7,7 @@ mod calls;
 mod collectives;
 mod entries;
 mod events;
+mod footprints;
 mod groups;
 mod ids;
 mod inboxes;
@@ -17,7 +18,6 @@ mod memory;
 mod replies;
 mod segments;
 mod shapes;
-mod touches;
 
 pub use buffers::Buffer;
 pub use call_rows::{CallRow, Posting, need};
@@ -28,16 +28,21 @@ pub use calls::{
     WriteListNotify, WriteNotify, is_list_length,
 };
 pub use collectives::{Coll, NumType, Numbers, Op, Stage, are_in_type, is_in_type};
-pub use entries::{ByteRange, Destination, Direction, Ends, Entry, Kind, NoteSlot, Phase, Queue};
+pub use entries::{
+    ByteRange, Destination, Direction, Endpoints, Entry, Kind, NoteSlot, Phase, Queue,
+};
 pub use events::{Event, Outcome, PlacedEvent, Transfer};
-pub use groups::{Args, Contribution, Group, Handle, Handles, Made, Part, Pending, Resume};
+pub use footprints::{DeclaredFootprint, Footprint};
+pub use groups::{
+    Args, Contribution, Group, Handle, Handles, MemberSegment, PendingCollective,
+    RankContributions, Resume,
+};
 pub use ids::{GroupId, NoteId, QueueId, RankId, SegId, ThreadId};
 pub use inboxes::{Message, Messages, is_passive_size};
 pub use invocations::Invocation;
-pub use lists::{Bytes, Rows};
+pub use lists::{Bytes, Sequence};
 pub use masks::{all_below, is_member, mask_of, with_member};
 pub use memory::NoMemory;
 pub use replies::{Ready, Refusal, Reply};
 pub use segments::{Extent, Extents, OwnSegments, Segment, SegmentTable, is_segment_size};
-pub use shapes::{CallerId, Declared, Limits, Shape, ShapeFault};
-pub use touches::{Reach, Touch};
+pub use shapes::{CallerId, DeclaredSegment, Limits, Shape, ShapeFault};

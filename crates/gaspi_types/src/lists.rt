@@ -11,14 +11,14 @@ use std::marker::Model;
 
 /// A list of items, which contracts see as the list alone.
 #[derive(Debug, Drop)]
-pub struct Rows<T> {
+pub struct Sequence<T> {
     items: Vec<T>,
 }
 
 /// A list of bytes.
-pub type Bytes = Rows<u8>;
+pub type Bytes = Sequence<u8>;
 
-impl<T> Model for Rows<T> {
+impl<T> Model for Sequence<T> {
     ghost use Rattle.std.specs.Prelude.{List};
 
     ghost Value = { List T };
@@ -26,39 +26,39 @@ impl<T> Model for Rows<T> {
     ghost view = { λ rows. rows.items.items };
 }
 
-impl<T> Rows<T> {
+impl<T> Sequence<T> {
     ghost use Rattle.gaspi_types.specs.Lending.{LendsItem};
 
     /// The empty list. It takes no memory.
-    pub fn new(alloc: Global) -> Rows<T>
+    pub fn new(alloc: Global) -> Sequence<T>
         ensures { result ≡ [] }
     {
-        Rows {
+        Sequence {
             items: Vec::new(alloc),
         }
     }
 
     /// The empty list, with memory taken for so many items.
-    pub fn with_room(alloc: Global, room: usize) -> Result<Rows<T>, NoMemory>
+    pub fn with_capacity(alloc: Global, room: usize) -> Result<Sequence<T>, NoMemory>
         ensures { IfOk result (λ rows. rows ≡ []) }
     {
-        Ok(Rows {
+        Ok(Sequence {
             items: Vec::with_capacity(alloc, room)?,
         })
     }
 
     /// The same items, without taking memory.
-    pub fn from_vec(items: Vec<T>) -> Rows<T>
+    pub fn from_vec(items: Vec<T>) -> Sequence<T>
         ensures { result ≡ items.items }
     {
-        Rows { items }
+        Sequence { items }
     }
 
     /// The same items, without taking memory.
     pub fn into_vec(self) -> Vec<T>
         ensures { result.items ≡ self }
     {
-        let Rows { items } = self;
+        let Sequence { items } = self;
         items
     }
 
@@ -142,28 +142,28 @@ impl<T> Rows<T> {
     }
 
     /// Moves the items of a list to the end. Without memory nothing changes but that those items are dropped.
-    pub fn extend(&mut self, more: Rows<T>) -> Result<(), NoMemory>
+    pub fn extend(&mut self, more: Sequence<T>) -> Result<(), NoMemory>
     where
         T: Drop,
         ensures ok { OnOk result (self.new ≡ self.old ++ more) }
         ensures err { OnErr result (self.new ≡ self.old) }
     {
-        let Rows { mut items } = more;
+        let Sequence { mut items } = more;
         self.items.append(&mut items)?;
         Ok(())
     }
 }
 
-impl<T: Copy> Rows<T> {
+impl<T: Copy> Sequence<T> {
     /// A list of the same items. It takes no memory where there are none.
-    pub fn copied_from(alloc: Global, items: &[T]) -> Result<Rows<T>, NoMemory>
+    pub fn copied_from(alloc: Global, items: &[T]) -> Result<Sequence<T>, NoMemory>
         ensures ok { IfOk result (λ rows. rows ≡ items.now) }
         ensures empty { length items.now ≡ 0 → IsOk result }
     {
         if items.is_empty() {
-            return Ok(Rows::new(alloc));
+            return Ok(Sequence::new(alloc));
         }
-        Ok(Rows {
+        Ok(Sequence {
             items: Vec::from_slice(alloc, items)?,
         })
     }
@@ -189,7 +189,7 @@ impl<T: Copy> Rows<T> {
     }
 }
 
-impl<T: PartialEq> PartialEq for Rows<T> {
+impl<T: PartialEq> PartialEq for Sequence<T> {
     ghost eq = { λ a b. pointwise T.eq a b };
 
     ghost laws = { lists_per T.laws };
@@ -199,6 +199,6 @@ impl<T: PartialEq> PartialEq for Rows<T> {
     }
 }
 
-impl<T: Eq> Eq for Rows<T> {
+impl<T: Eq> Eq for Sequence<T> {
     ghost laws = { lists_equiv T.Eq.laws };
 }

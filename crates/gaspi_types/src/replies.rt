@@ -6,7 +6,7 @@ ghost use Rattle.gaspi_types.specs.Replies.{refusal_number};
 
 use crate::collectives::{Coll, Numbers, Stage};
 use crate::groups::Args;
-use crate::lists::{Bytes, Rows};
+use crate::lists::{Bytes, Sequence};
 use crate::memory::NoMemory;
 use std::alloc::Global;
 
@@ -144,7 +144,10 @@ impl Reply {
             Reply::Done => Ok(Reply::Done),
             Reply::Value(n) => Ok(Reply::Value(*n)),
             Reply::Id(n) => Ok(Reply::Id(*n)),
-            Reply::Bytes(bytes) => Ok(Reply::Bytes(Rows::copied_from(alloc, bytes.as_slice())?)),
+            Reply::Bytes(bytes) => Ok(Reply::Bytes(Sequence::copied_from(
+                alloc,
+                bytes.as_slice(),
+            )?)),
             Reply::Mask(mask) => Ok(Reply::Mask(*mask)),
             Reply::List(numbers) => Ok(Reply::List(numbers.copy(alloc)?)),
             Reply::Timeout => Ok(Reply::Timeout),

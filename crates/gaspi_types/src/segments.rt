@@ -3,7 +3,7 @@
 ghost use Rattle.std.specs.Prelude.{◌≡◌};
 ghost use Rattle.gaspi_types.specs.World.{is_segment_size};
 
-use crate::lists::{Bytes, Rows};
+use crate::lists::{Bytes, Sequence};
 
 /// What is known of a segment: its generation and its size in bytes. (GASPI: segments)
 #[derive(Clone, Copy, Debug, PartialEq, Eq)]
@@ -13,7 +13,7 @@ pub struct Extent {
 }
 
 /// A table of segments, by their numbers.
-pub type Extents = Rows<Option<Extent>>;
+pub type Extents = Sequence<Option<Extent>>;
 
 /// What a rank has and knows of segments, their bytes aside: a post is built from it.
 #[derive(Debug, PartialEq, Eq, Drop)]
@@ -21,9 +21,9 @@ pub struct SegmentTable {
     /// Its own segments, by their numbers.
     pub own: Extents,
     /// The generation that its next segment of each number has.
-    pub next_generations: Rows<u32>,
+    pub next_generations: Sequence<u32>,
     /// What was made known to it of the segments of each rank, by their numbers.
-    pub known: Rows<Extents>,
+    pub known: Sequence<Extents>,
 }
 
 /// A segment of a rank. (GASPI: segments)
@@ -36,7 +36,7 @@ pub struct Segment {
 }
 
 /// The segments of a rank, by their numbers.
-pub type OwnSegments = Rows<Option<Segment>>;
+pub type OwnSegments = Sequence<Option<Segment>>;
 
 /// Whether a segment may have that many bytes: 1 to 1,048,576. (own choice)
 pub fn is_segment_size(size: u64) -> bool

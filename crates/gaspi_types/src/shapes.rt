@@ -8,7 +8,7 @@ ghost use Rattle.gaspi_types.specs.World.{is_segment, is_caller};
 ghost use Rattle.gaspi_types.specs.declared.shapes.ShapeFault.TheVariants.{NoMemory};
 
 use crate::ids::{RankId, SegId, ThreadId};
-use crate::lists::Rows;
+use crate::lists::Sequence;
 use crate::memory::NoMemory;
 use crate::segments::is_segment_size;
 use std::alloc::Global;
@@ -41,7 +41,7 @@ pub struct CallerId {
 
 /// A segment that is there from the start, and known to every rank. (GASPI: segments)
 #[derive(Clone, Copy, Debug, PartialEq, Eq)]
-pub struct Declared {
+pub struct DeclaredSegment {
     pub rank: RankId,
     pub segment: SegId,
     /// Its size in bytes, 1 to 1,048,576.
@@ -84,22 +84,22 @@ fn is_between(low: u64, high: u64, n: u64) -> bool
 #[derive(Debug, Drop)]
 pub struct Shape {
     limits: Limits,
-    segments: Rows<Declared>,
-    callers: Rows<CallerId>,
+    segments: Sequence<DeclaredSegment>,
+    callers: Sequence<CallerId>,
 }
 
 impl Model for Shape {
-    ghost use Rattle.gaspi_types.specs.World.{World, IsWorld};
+    ghost use Rattle.gaspi_types.specs.World.{ShapeValue, IsShape};
 
-    ghost Value = { World };
+    ghost Value = { ShapeValue };
 
     ghost view = { λ s. record { limits = s.limits; segments = s.segments; callers = s.callers } };
 
-    ghost invariant = { λ s. IsWorld (record { limits = s.limits; segments = s.segments; callers = s.callers }) };
+    ghost invariant = { λ s. IsShape (record { limits = s.limits; segments = s.segments; callers = s.callers }) };
 }
 
 impl Shape {
-    ghost use Rattle.gaspi_types.specs.World.{are_limits, IsWorld, world_of, segment_added, caller_added, Declares};
+    ghost use Rattle.gaspi_types.specs.World.{are_limits, IsShape, shape_of, segment_added, caller_added, Declares};
 
     /// The shape of these limits, with nothing declared. It takes no memory.
     pub fn new(
@@ -111,7 +111,7 @@ impl Shape {
         inbox: u64,
         events: u64,
     ) -> Result<Shape, ShapeFault>
-        ensures { result ≡ world_of (record { ranks = ranks; queues = queues; depth = depth; notes = notes; inbox = inbox; events = events }) }
+        ensures { result ≡ shape_of (record { ranks = ranks; queues = queues; depth = depth; notes = notes; inbox = inbox; events = events }) }
     {
         let within = is_between(1, 16, ranks)
             && is_between(1, 8, queues)
@@ -131,8 +131,8 @@ impl Shape {
                 inbox: inbox as u32,
                 events: events as u32,
             },
-            segments: Rows::new(alloc),
-            callers: Rows::new(alloc),
+            segments: Sequence::new(alloc),
+            callers: Sequence::new(alloc),
         })
     }
 
@@ -140,7 +140,7 @@ impl Shape {
     pub fn limits(&self) -> Limits
         ensures value { result ≡ self.now.limits }
         ensures within { are_limits result ≡ true }
-        ensures world { IsWorld self.now }
+        ensures world { IsShape self.now }
     {
         self.limits
     }
@@ -188,7 +188,7 @@ impl Shape {
     }
 
     /// The declared segments, in the order in which they were declared.
-    pub fn segments(&self) -> &[Declared]
+    pub fn segments(&self) -> &[DeclaredSegment]
         ensures { result.now ≡ self.now.segments }
     {
         self.segments.as_slice()
@@ -208,8 +208,8 @@ impl Shape {
     {
         Ok(Shape {
             limits: self.limits,
-            segments: Rows::copied_from(alloc, self.segments.as_slice())?,
-            callers: Rows::copied_from(alloc, self.callers.as_slice())?,
+            segments: Sequence::copied_from(alloc, self.segments.as_slice())?,
+            callers: Sequence::copied_from(alloc, self.callers.as_slice())?,
         })
     }
 
@@ -228,7 +228,7 @@ impl Shape {
         if has_segment(self.segments.as_slice(), rank, seg) {
             return Err(ShapeFault::Twice);
         }
-        let declared = Declared {
+        let declared = DeclaredSegment {
             rank: RankId::of(rank as u32),
             segment: SegId::of(seg as u32),
             size: size as u32,
@@ -262,7 +262,7 @@ impl Shape {
 }
 
 /// Whether the segment is declared.
-fn has_segment(segments: &[Declared], rank: u64, seg: u64) -> bool
+fn has_segment(segments: &[DeclaredSegment], rank: u64, seg: u64) -> bool
     ensures { result ≡ list_any (is_segment rank seg) segments.now }
 {
     segments.iter().any(|d| u64::from(d.rank.number()) == rank

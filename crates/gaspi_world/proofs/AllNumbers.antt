@@ -2,7 +2,7 @@
 use Rattle.std.proofs.Common.{◌≡◌, ℕ, zero, suc, ◌+◌, ◌<◌, ◌≤◌, Bool, true, false, cond, ◌==◌, List, [], ◌∷◌, length, Some, count_by, refl, sym, ap, ◌∙◌, subst, arith, inl, inr, ◌⊎◌}
 use Rattle.std.specs.List.{slice_get, list_any}
 use Rattle.std.proofs.lemmas.Bool.{eqb-true, eqb-false, eq-eqb, cases_lt}
-use Rattle.gaspi_types.specs.World.{World, IsWorld, is_caller}
+use Rattle.gaspi_types.specs.World.{ShapeValue, IsShape, is_caller}
 use Rattle.gaspi_types.specs.declared.events.Event.{Event}
 use Rattle.gaspi_types.specs.declared.shapes.CallerId.{CallerId}
 use Rattle.commit_table.specs.Views.{new_pass}
@@ -110,11 +110,11 @@ module _ (f : CallerId → ℕ) where
           let most = once found.1.rank found.1.thread in
           omega arith
 
-pub each-number : (w : World) → IsWorld w → (k : ℕ) → k < length w.callers → (c : CallerId) × (list_any (is_caller c.rank c.thread) w.callers ≡ true) × (number_of w.callers c ≡ k)
+pub each-number : (w : ShapeValue) → IsShape w → (k : ℕ) → k < length w.callers → (c : CallerId) × (list_any (is_caller c.rank c.thread) w.callers ≡ true) × (number_of w.callers c ≡ k)
 each-number w world k below =
     let found = each-hit (number_of w.callers) w.callers (λ place c at. number-below w.callers c (there-any w.callers place c at))
     (λ j less. few-hits (number_of w.callers) w.callers world.once (λ place other c d at_c at_d same. same-number w c d world (there-any w.callers place c at_c) (there-any w.callers other d at_d) same) j) k below in
     (found.1, there-any w.callers found.0 found.1 found.2, found.3)
 
-pub each-pass : (w : World) (start : Start) → IsWorld w → (k : ℕ) → k < length w.callers → (c : CallerId) × IsPassOf {S = Start} {E = Event} w c (new_pass start (Some k) [])
+pub each-pass : (w : ShapeValue) (start : Start) → IsShape w → (k : ℕ) → k < length w.callers → (c : CallerId) × IsPassOf {S = Start} {E = Event} w c (new_pass start (Some k) [])
 each-pass w start world k below = (let found = each-number w world k below in (found.0, (found.1, ap (λ (n : ℕ). Some n) (sym found.2))))

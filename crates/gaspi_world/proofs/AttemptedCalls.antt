@@ -4,9 +4,9 @@ use Rattle.std.specs.List.{slice_get, list_any}
 use Rattle.std.specs.Option.{unwrap_or}
 use Rattle.std.proofs.lemmas.Bool.{lt-ltb, ltb-true}
 use Rattle.gaspi_types.specs.CallRows.{row_of, need_of}
-use Rattle.gaspi_types.specs.Touches.{reach_of}
+use Rattle.gaspi_types.specs.Footprints.{footprint_of}
 use Rattle.gaspi_types.specs.SegmentTables.{alloc_checks}
-use Rattle.gaspi_types.specs.World.{World, IsWorld}
+use Rattle.gaspi_types.specs.World.{ShapeValue, IsShape}
 use Rattle.gaspi_types.specs.declared.calls.Call.{Call}
 use Rattle.gaspi_types.specs.declared.collectives.Coll.{Coll}
 use Rattle.gaspi_types.specs.declared.collectives.Coll.TheVariants as colls
@@ -15,7 +15,7 @@ use Rattle.gaspi_types.specs.declared.events.Event.TheVariants.{Called, Joined}
 use Rattle.gaspi_types.specs.declared.groups.Args.{Args}
 use Rattle.gaspi_types.specs.declared.groups.Group.{Group}
 use Rattle.gaspi_types.specs.declared.groups.Handle.{Handle}
-use Rattle.gaspi_types.specs.declared.groups.Part.{Part}
+use Rattle.gaspi_types.specs.declared.groups.RankContributions.{RankContributions}
 use Rattle.gaspi_types.specs.declared.replies.Ready.{Ready}
 use Rattle.gaspi_types.specs.declared.replies.Ready.TheVariants as ready
 use Rattle.gaspi_types.specs.declared.replies.Reply.{Reply}
@@ -26,7 +26,7 @@ use Rattle.gaspi_model.specs.Calls.{recorded_reply}
 use Rattle.gaspi_model.specs.CollectiveCalls.{is_joining, joining_call, join_event, segment_checks, group_of as call_group}
 use Rattle.gaspi_model.specs.Shards.{numbers_of}
 use Rattle.gaspi_model.specs.State.{owed, thread_at, is_running}
-use Rattle.gaspi_model.specs.Step.{step, answer_in, is_active, is_pending, is_pending_on, room_taken, is_full_in, is_legal}
+use Rattle.gaspi_model.specs.Step.{step, answer_in, is_active, is_pending, is_pending_on, used_room, lacks_room_in, is_legal}
 use Rattle.gaspi_model.specs.declared.states.Memory.{Memory}
 use Rattle.gaspi_model.specs.declared.states.Posts.{Posts}
 use Rattle.gaspi_model.specs.declared.states.State.{State}
@@ -35,7 +35,7 @@ use Rattle.gaspi_model.proofs.GroupEffects.{IsJoinStep, join-step}
 use Rattle.gaspi_model.proofs.Histories.{prefix}
 use Rattle.gaspi_model.proofs.Listed.Joining.{joins-itself}
 use Rattle.gaspi_model.proofs.Recordable.{join-group, recorded-is_step, joined-is_step, joined-goes-on}
-use Rattle.commit_table.specs.declared.views.Known.{Known}
+use Rattle.commit_table.specs.declared.views.PassView.{PassView}
 use Rattle.rank_node.specs.Collectives.{IsMadeFor}
 use Rattle.rank_node.specs.HeldNodes.{peer_of, group_of as held_group}
 use Rattle.rank_node.specs.Lending.{Lends, LendsFor, AreLentFor}
@@ -49,13 +49,13 @@ use Rattle.gaspi_world.specs.Numbering.{by_ranks}
 use Rattle.gaspi_world.specs.RankShards.{call_other}
 use Rattle.gaspi_world.specs.ShardLaws.{arrives, limits-are, last-step, goes-on}
 use Rattle.gaspi_world.specs.ShardMachine.{state_after}
-use Rattle.gaspi_world.specs.Attempts.{found_after, is_full_after}
+use Rattle.gaspi_world.specs.Attempts.{answer_after, lacks_room_after}
 use Rattle.gaspi_world.specs.Callers.{IsPassOf}
-use Rattle.gaspi_world.specs.Holds.{Holds, Added, AgreesOn}
-use Rattle.gaspi_world.specs.Works.{is_full_for, MayRecord, MayJoinAs, FoundFits}
+use Rattle.gaspi_world.specs.HeldShards.{Holds, IsCommitted, AgreesOn}
+use Rattle.gaspi_world.specs.HeldAttempts.{is_full_for, MayRecord, MayJoinAs, FoundFits}
 use Rattle.gaspi_world.specs.declared.holding.HeldShards.{HeldShards}
 use Rattle.gaspi_world.proofs.CommittedNodes.{agrees-self, own-at, lends-at, sound-at, shards-of, join-touches-own}
-use Rattle.gaspi_world.proofs.HeldNodes.{IsReach, reach-is}
+use Rattle.gaspi_world.proofs.HeldNodes.{IsReach, footprint-is}
 use Rattle.gaspi_model.proofs.Sections.{reached-declared}
 use Rattle.gaspi_world.proofs.Working.{has-room, found-in, full-in}
 
@@ -75,7 +75,7 @@ ok-there : (r : Result State Why) → IsOk r → (t : State) × (r ≡ Ok t)
 ok-there (Ok t) is = (t, refl)
 ok-there (Err why) is = absurd (let no : ⊥ = cc in no)
 
-module _ {S : Type 0} (w : World) (world : IsWorld w) (c : CallerId) (call : Call) (h : HeldShards) (v : Known S Event) (holds : Holds w h v) (own : h.own ≡ c.rank) (other : h.other ≡ call_other w c call) where
+module _ {S : Type 0} (w : ShapeValue) (world : IsShape w) (c : CallerId) (call : Call) (h : HeldShards) (v : PassView S Event) (holds : Holds w h v) (own : h.own ≡ c.rank) (other : h.other ≡ call_other w c call) where
   legal : is_legal w v.seen ≡ true
   legal = holds.shards.legal
 
@@ -89,11 +89,11 @@ module _ {S : Type 0} (w : World) (world : IsWorld w) (c : CallerId) (call : Cal
   pub lends-call : (k : List Event) → is_legal w k ≡ true → AgreesOn w h v k → LendsFor (state_after w k) call h.nodes.own.value (peer_of h.nodes.other) (held_group h.nodes.other)
   lends-call k is agree =
       let s = state_after w k in
-      let touch = (row_of call).touch in
-      let lends = lends-at w world h v holds k (reach_of w.limits.ranks c.rank touch) is agree (subst (λ (n : ℕ). IsReach w.limits.ranks n (reach_of w.limits.ranks c.rank touch)) (sym own) (reach-is w.limits.ranks c.rank touch)) other in
-      subst (λ (n : ℕ). Lends s n (reach_of s.limits.ranks n touch) h.nodes.own.value (peer_of h.nodes.other) (held_group h.nodes.other)) (sym (me-at k is agree))
-      (subst (λ (l : Limits). Lends s h.own (reach_of l.ranks h.own touch) h.nodes.own.value (peer_of h.nodes.other) (held_group h.nodes.other)) (sym (limits-are w k is))
-      (subst (λ (n : ℕ). Lends s h.own (reach_of w.limits.ranks n touch) h.nodes.own.value (peer_of h.nodes.other) (held_group h.nodes.other)) (sym own) lends))
+      let touch = (row_of call).footprint in
+      let lends = lends-at w world h v holds k (footprint_of w.limits.ranks c.rank touch) is agree (subst (λ (n : ℕ). IsReach w.limits.ranks n (footprint_of w.limits.ranks c.rank touch)) (sym own) (footprint-is w.limits.ranks c.rank touch)) other in
+      subst (λ (n : ℕ). Lends s n (footprint_of s.limits.ranks n touch) h.nodes.own.value (peer_of h.nodes.other) (held_group h.nodes.other)) (sym (me-at k is agree))
+      (subst (λ (l : Limits). Lends s h.own (footprint_of l.ranks h.own touch) h.nodes.own.value (peer_of h.nodes.other) (held_group h.nodes.other)) (sym (limits-are w k is))
+      (subst (λ (n : ℕ). Lends s h.own (footprint_of w.limits.ranks n touch) h.nodes.own.value (peer_of h.nodes.other) (held_group h.nodes.other)) (sym own) lends))
 
   pub lent-call : AreLentFor call h.nodes.own.value (peer_of h.nodes.other) (held_group h.nodes.other)
   lent-call = record {
@@ -106,11 +106,11 @@ module _ {S : Type 0} (w : World) (world : IsWorld w) (c : CallerId) (call : Cal
   answer-at k found is = subst (λ (r : ℕ). answer_in (state_after w k) r c.thread call ≡ Some found) me-is is
 
   -- what a look at the nodes finds is found after what was seen, and after each history that agrees with it
-  pub found-at : (k : List Event) (found : Ready) → is_legal w k ≡ true → answer_in (state_after w k) h.nodes.own.value.posts.me c.thread call ≡ Some found → found_after w c call k ≡ Some found
+  pub found-at : (k : List Event) (found : Ready) → is_legal w k ≡ true → answer_in (state_after w k) h.nodes.own.value.posts.me c.thread call ≡ Some found → answer_after w c call k ≡ Some found
   found-at k found is answers = found-in w c call k is ∙ (ap (λ (r : ℕ). answer_in (state_after w k) r c.thread call) (sym me-is) ∙ answers)
 
   -- so is whether there is room
-  pub full-at : (k : List Event) → is_legal w k ≡ true → AgreesOn w h v k → is_full_after w c call k ≡ is_full_for h.nodes.own.value.posts c.thread call
+  pub full-at : (k : List Event) → is_legal w k ≡ true → AgreesOn w h v k → lacks_room_after w c call k ≡ is_full_for h.nodes.own.value.posts c.thread call
   full-at k is agree =
       let s = state_after w k in
       let p = h.nodes.own.value.posts in
@@ -124,11 +124,11 @@ module _ {S : Type 0} (w : World) (world : IsWorld w) (c : CallerId) (call : Cal
       full-in w c call k is ∙ (rw there (ap (λ (n : ℕ). nat_lt n (p.posts.events + owed p.posts + need)) (sym events)) ∙ sym (left-is p.limits.events (p.posts.events + owed p.posts) need fits))
 
   -- What was found may be recorded, where there is room.
-  pub may-record : (found : Ready) → IsPassOf w c v → found_after w c call v.seen ≡ Some found → is_joining found ≡ false → is_full_after w c call v.seen ≡ false → MayRecord w c call found v.seen
+  pub may-record : (found : Ready) → IsPassOf w c v → answer_after w c call v.seen ≡ Some found → is_joining found ≡ false → lacks_room_after w c call v.seen ≡ false → MayRecord w c call found v.seen
   may-record found pass finds unjoined room =
       let s = state_after w v.seen in
       let declared = reached-declared w v.seen s c world pass.0 (arrives w v.seen legal) in
-      let full : is_full_in s c call ≡ false = sym (full-in w c call v.seen legal) ∙ room in
+      let full : lacks_room_in s c call ≡ false = sym (full-in w c call v.seen legal) ∙ room in
       let answered : answer_in s c.rank c.thread call ≡ Some found = sym (found-in w c call v.seen legal) ∙ finds in
       let steps = recorded-is_step s c call found (sound-at w world h v holds v.seen legal) declared (has-room s c call full) answered unjoined in
       let t = ok-there (step s (Called c call (recorded_reply found))) steps in
@@ -153,12 +153,12 @@ reply-fits (replies.Bytes bytes) room fits = absurd fits
 reply-fits reply room fits = fits
 
 -- what a look after a join found fits the room
-pub found-fits : (w : World) (c : CallerId) (call : Call) (found : Ready) (room : Room) → AnswerFits found room.numbers.caller → FoundFits w c call found room
+pub found-fits : (w : ShapeValue) (c : CallerId) (call : Call) (found : Ready) (room : Room) → AnswerFits found room.numbers.caller → FoundFits w c call found room
 found-fits w c call (ready.Reply reply) room fits = reply-fits reply room fits
 found-fits w c call (ready.Join args) room fits = tt
 found-fits w c call ready.NotReady room fits = tt
 
-module _ {S : Type 0} (w : World) (world : IsWorld w) (c : CallerId) (call : Call) (args : Args) (h : HeldShards) (v : Known S Event) (holds : Holds w h v) (own : h.own ≡ c.rank) (other : h.other ≡ call_other w c call) (pass : IsPassOf w c v)
+module _ {S : Type 0} (w : ShapeValue) (world : IsShape w) (c : CallerId) (call : Call) (args : Args) (h : HeldShards) (v : PassView S Event) (holds : Holds w h v) (own : h.own ≡ c.rank) (other : h.other ≡ call_other w c call) (pass : IsPassOf w c v)
     (joins : MayJoinAs w c call args h v) where
   seen-legal : is_legal w v.seen ≡ true
   seen-legal = holds.shards.legal
@@ -170,7 +170,7 @@ module _ {S : Type 0} (w : World) (world : IsWorld w) (c : CallerId) (call : Cal
   joins-at k is agree = sym (found-in w c call k is) ∙ joins.finds k is agree
 
   room-at : (k : List Event) → is_legal w k ≡ true → AgreesOn w h v k
-      → room_taken (state_after w k) c.rank + need_of call (is_pending (state_after w k) c.rank c.thread call) (not (is_active (state_after w k) c.rank c.thread)) ≤ (state_after w k).limits.events
+      → used_room (state_after w k) c.rank + need_of call (is_pending (state_after w k) c.rank c.thread call) (not (is_active (state_after w k) c.rank c.thread)) ≤ (state_after w k).limits.events
   room-at k is agree = has-room (state_after w k) c call (sym (full-in w c call k is) ∙ joins.room k is agree)
 
   -- it names a group
@@ -182,7 +182,7 @@ module _ {S : Type 0} (w : World) (world : IsWorld w) (c : CallerId) (call : Cal
       let s = state_after w v.seen in
       ok-there (step s (join_event c call args)) (joined-is_step s c call args (sound-at w world h v holds v.seen seen-legal) (room-at v.seen seen-legal itself-agrees) (joins-at v.seen seen-legal itself-agrees))
 
-  join-facts : (posts : Posts) × (g : Group) × (part : Part) × (memory : Memory) × (handle : Handle) × IsJoinStep (state_after w v.seen) joined-there.0 c (call_group call) args posts g part memory handle
+  join-facts : (posts : Posts) × (g : Group) × (part : RankContributions) × (memory : Memory) × (handle : Handle) × IsJoinStep (state_after w v.seen) joined-there.0 c (call_group call) args posts g part memory handle
   join-facts = join-step (state_after w v.seen) joined-there.0 c (call_group call) args (sound-at w world h v holds v.seen seen-legal) joined-there.1
 
   -- which is one of those that there are
@@ -230,7 +230,7 @@ module _ {S : Type 0} (w : World) (world : IsWorld w) (c : CallerId) (call : Cal
   join-shards id is = other ∙ ap (call_other w c) (sym (join-itself id is))
 
   -- What was committed before the join agrees with what had been seen, on the shards that are held.
-  before-agrees : (n : Known S Event) (added : Added w v (join_event c call args) n) → AgreesOn w h v added.before
+  before-agrees : (n : PassView S Event) (added : IsCommitted w v (join_event c call args) n) → AgreesOn w h v added.before
   before-agrees n added i x at =
       let id = join-named.0 in
       let named = sym join-named.1 in
@@ -240,7 +240,7 @@ module _ {S : Type 0} (w : World) (world : IsWorld w) (c : CallerId) (call : Cal
       added.agrees i (subst (λ (m : ℕ). list_any (eqb i) (numbers_of (by_ranks w).number (state_after w v.seen) (Joined c m args)) ≡ true) (sym (named-is id named)) among)
 
   -- What is found after the join may be recorded.
-  pub after-join : (n : Known S Event) (found : Ready) → Added w v (join_event c call args) n → is_legal w n.seen ≡ true → answer_in (state_after w n.seen) c.rank c.thread call ≡ Some found → MayRecord w c call found n.seen
+  pub after-join : (n : PassView S Event) (found : Ready) → IsCommitted w v (join_event c call args) n → is_legal w n.seen ≡ true → answer_in (state_after w n.seen) c.rank c.thread call ≡ Some found → MayRecord w c call found n.seen
   after-join n found added is now =
       let e = join_event c call args in
       let k = added.before in

@@ -3,7 +3,7 @@ use Rattle.std.proofs.Common.{◌≡◌, ◌<◌, ℕ, inl, inr, Bool, true, fal
 use Rattle.std.specs.List.{slice_get}
 use Rattle.std.proofs.lemmas.Bool.{eqb-true}
 use Rattle.gaspi_types.specs.CallRows.{row_of}
-use Rattle.gaspi_types.specs.World.{World, IsWorld}
+use Rattle.gaspi_types.specs.World.{ShapeValue, IsShape}
 use Rattle.gaspi_types.specs.declared.calls.Call.{Call}
 use Rattle.gaspi_types.specs.declared.events.Event.{Event}
 use Rattle.gaspi_types.specs.declared.events.Event.TheVariants.{Called, Joined}
@@ -11,16 +11,16 @@ use Rattle.gaspi_types.specs.declared.groups.Args.{Args}
 use Rattle.gaspi_types.specs.declared.replies.Reply.{Reply}
 use Rattle.gaspi_types.specs.declared.shapes.CallerId.{CallerId}
 use Rattle.gaspi_types.specs.declared.shapes.Limits.{Limits}
-use Rattle.gaspi_types.specs.declared.touches.Reach.{Reach}
+use Rattle.gaspi_types.specs.declared.footprints.Footprint.{Footprint}
 use Rattle.gaspi_model.specs.CollectiveCalls.{joining_call}
 use Rattle.gaspi_model.specs.Parties.{party_of, caller_party, number_of}
 use Rattle.gaspi_model.specs.Sound.{IsSound}
-use Rattle.gaspi_model.specs.Step.{is_legal, owner_of, event_reach, join_touch}
+use Rattle.gaspi_model.specs.Step.{is_legal, owner_of, event_footprint, join_footprint}
 use Rattle.gaspi_model.specs.declared.states.Posts.{Posts}
 use Rattle.gaspi_model.specs.declared.states.State.{State}
 use Rattle.gaspi_model.proofs.Histories.{reached-sound}
 use Rattle.commit_table.specs.Calls.{Committed}
-use Rattle.commit_table.specs.declared.views.Known.{Known}
+use Rattle.commit_table.specs.declared.views.PassView.{PassView}
 use Rattle.rank_node.specs.HeldNodes.{peer_of, group_of, IsSameKind}
 use Rattle.rank_node.specs.Lending.{IsNodeOf, Lends, IsStepOn, IsLeft}
 use Rattle.rank_node.specs.declared.held_nodes.HeldNodes.{HeldNodes}
@@ -35,13 +35,13 @@ use Rattle.gaspi_world.specs.ShardMachine.{HasParts, state_after}
 use Rattle.gaspi_world.proofs.HeldPairs.{here, elsewhere}
 use Rattle.gaspi_world.proofs.HeldShards.{stands-too, still-holds}
 use Rattle.gaspi_world.specs.Callers.{IsPassOf}
-use Rattle.gaspi_world.specs.Holds.{Holds, AgreesOn, values_of, other_value, IsOther, IsOtherShard}
+use Rattle.gaspi_world.specs.HeldShards.{Holds, AgreesOn, values_of, other_value, IsOther, IsOtherShard}
 use Rattle.gaspi_world.specs.Shards.{node_meaning}
 use Rattle.gaspi_world.specs.WorldMachine.{world_machine}
 use Rattle.gaspi_world.specs.declared.holding.HeldShards.{HeldShards}
 use Rattle.gaspi_world.specs.declared.shards.WorldShard.{WorldShard}
 use Rattle.gaspi_world.specs.declared.shards.WorldShard.TheVariants as shards
-use Rattle.gaspi_world.proofs.HeldNodes.{IsReach, reach-is, own-node, other-node, have-stepped}
+use Rattle.gaspi_world.proofs.HeldNodes.{IsReach, footprint-is, own-node, other-node, have-stepped}
 
 -- The shards that are held are the owner's and the other one.
 other-there : (j : ℕ) (o : OtherNode) → IsOther (Some j) o → (x : WorldShard) × (value_at (other_value (Some j) o) j ≡ Some x)
@@ -87,7 +87,7 @@ value-either own x o other i y at = go (eqb i own) refl at
 either-along : (own own' : ℕ) (o o' : Option ℕ) (i : ℕ) → own ≡ own' → o ≡ o' → IsEither own o i → IsEither own' o' i
 either-along own own' o o' i a b is = subst (λ (p : Option ℕ). IsEither own' p i) b (subst (λ (n : ℕ). IsEither n o i) a is)
 
-module _ {S : Type 0} (w : World) (world : IsWorld w) (h : HeldShards) (v : Known S Event) (holds : Holds w h v) where
+module _ {S : Type 0} (w : ShapeValue) (world : IsShape w) (h : HeldShards) (v : PassView S Event) (holds : Holds w h v) where
   legal : is_legal w v.seen ≡ true
   legal = holds.shards.legal
 
@@ -107,7 +107,7 @@ module _ {S : Type 0} (w : World) (world : IsWorld w) (h : HeldShards) (v : Know
       (own-node w (state_after w k) (sound-at k is) (limits-are w k is) h.own h.nodes (λ rank. journal_of rank k) holds.own (parts-at k agree h.own (shards.Rank h.nodes.own) (here (other_value h.other h.nodes.other) h.own h.own (shards.Rank h.nodes.own) refl))).0
 
   -- the nodes are lent for an event that reaches the other shard
-  pub lends-at : (k : List Event) (reach : Reach) → is_legal w k ≡ true → AgreesOn w h v k → IsReach w.limits.ranks h.own reach → h.other ≡ rank_other w.limits.ranks reach
+  pub lends-at : (k : List Event) (reach : Footprint) → is_legal w k ≡ true → AgreesOn w h v k → IsReach w.limits.ranks h.own reach → h.other ≡ rank_other w.limits.ranks reach
       → Lends (state_after w k) h.own reach h.nodes.own.value (peer_of h.nodes.other) (group_of h.nodes.other)
   lends-at k reach is agree reached other =
       let parts : (j : ℕ) (x : WorldShard) → value_at (other_value (rank_other w.limits.ranks reach) h.nodes.other) j ≡ Some x → HasParts (by_ranks w) w (node_meaning w) j x (state_after w k) (λ rank. journal_of rank k) =
@@ -142,7 +142,7 @@ module _ {S : Type 0} (w : World) (world : IsWorld w) (h : HeldShards) (v : Know
           go true same = absurd (apart-at h.other x others-apart (subst (λ (n : ℕ). value_at (other_value h.other h.nodes.other) n ≡ Some x) (eqb-true j h.own same) at))
 
   -- The shards that are held are those of an event of that reach.
-  pub shards-of : (e : Event) → h.own ≡ owner_of e → h.other ≡ rank_other w.limits.ranks (event_reach w.limits h.nodes.own.value.posts.posts e) → AreShardsOf (by_ranks w) w e v.seen (values_of h)
+  pub shards-of : (e : Event) → h.own ≡ owner_of e → h.other ≡ rank_other w.limits.ranks (event_footprint w.limits h.nodes.own.value.posts.posts e) → AreShardsOf (by_ranks w) w e v.seen (values_of h)
   shards-of e own other =
       let posts = h.nodes.own.value.posts.posts in
       let there = subst (λ (n : ℕ). slice_get (state_after w v.seen).posts n ≡ Some posts) own (own-at v.seen legal agrees-self).posts.posts in
@@ -152,25 +152,25 @@ module _ {S : Type 0} (w : World) (world : IsWorld w) (h : HeldShards) (v : Know
       }
 
   -- An event that may follow what was seen is a step on the nodes.
-  pub step-on : (e : Event) → h.own ≡ owner_of e → IsReach w.limits.ranks h.own (event_reach w.limits h.nodes.own.value.posts.posts e) → h.other ≡ rank_other w.limits.ranks (event_reach w.limits h.nodes.own.value.posts.posts e)
+  pub step-on : (e : Event) → h.own ≡ owner_of e → IsReach w.limits.ranks h.own (event_footprint w.limits h.nodes.own.value.posts.posts e) → h.other ≡ rank_other w.limits.ranks (event_footprint w.limits h.nodes.own.value.posts.posts e)
       → is_legal w (v.seen ++ e ∷ []) ≡ true → IsStepOn (state_after w v.seen) (state_after w (v.seen ++ e ∷ [])) e h.nodes.own.value (peer_of h.nodes.other) (group_of h.nodes.other)
   step-on e own reached other may =
-      let reach = event_reach w.limits h.nodes.own.value.posts.posts e in
+      let reach = event_footprint w.limits h.nodes.own.value.posts.posts e in
       let lends = lends-at v.seen reach legal agrees-self reached other in
       record {
         sound = sound-at v.seen legal;
-        lends = subst (λ (l : Limits). Lends (state_after w v.seen) (owner_of e) (event_reach l h.nodes.own.value.posts.posts e) h.nodes.own.value (peer_of h.nodes.other) (group_of h.nodes.other)) (sym (limits-are w v.seen legal))
+        lends = subst (λ (l : Limits). Lends (state_after w v.seen) (owner_of e) (event_footprint l h.nodes.own.value.posts.posts e) h.nodes.own.value (peer_of h.nodes.other) (group_of h.nodes.other)) (sym (limits-are w v.seen legal))
             (subst (λ (n : ℕ). Lends (state_after w v.seen) n reach h.nodes.own.value (peer_of h.nodes.other) (group_of h.nodes.other)) own lends);
         is_step = last-step w v.seen e may;
       }
 
   -- After the commit and its step the nodes are held.
-  pub committed-holds : (e : Event) (place : ℕ) (k : List Event) (u : Known S Event) (new : HeldNodes) → h.own ≡ owner_of e → IsReach w.limits.ranks h.own (event_reach w.limits h.nodes.own.value.posts.posts e)
-      → h.other ≡ rank_other w.limits.ranks (event_reach w.limits h.nodes.own.value.posts.posts e) → IsSameKind new.other h.nodes.other
+  pub committed-holds : (e : Event) (place : ℕ) (k : List Event) (u : PassView S Event) (new : HeldNodes) → h.own ≡ owner_of e → IsReach w.limits.ranks h.own (event_footprint w.limits h.nodes.own.value.posts.posts e)
+      → h.other ≡ rank_other w.limits.ranks (event_footprint w.limits h.nodes.own.value.posts.posts e) → IsSameKind new.other h.nodes.other
       → ((s t : State) → IsStepOn s t e h.nodes.own.value (peer_of h.nodes.other) (group_of h.nodes.other) → IsLeft s t e place h.nodes.own.value new.own.value (peer_of h.nodes.other) (peer_of new.other) (group_of new.other))
       → Committed (world_machine w) v e place k u → Holds w (record { own = h.own; other = h.other; nodes = new }) u
   committed-holds e place k u new own reached other kind left c =
-      let reach = event_reach w.limits h.nodes.own.value.posts.posts e in
+      let reach = event_footprint w.limits h.nodes.own.value.posts.posts e in
       let below : owner_of e < w.limits.ranks = subst (λ (n : ℕ). n < w.limits.ranks) own holds.own in
       let reached_by = subst (λ (n : ℕ). IsReach w.limits.ranks n reach) own reached in
       let fits = subst (λ (o : Option ℕ). IsOther o h.nodes.other) other holds.fits in
@@ -200,18 +200,18 @@ module _ {S : Type 0} (w : World) (world : IsWorld w) (h : HeldShards) (v : Know
       same-fits (Some j) (others.Group n) (others.Group m) same is = tt
 
 -- a caller's pass may commit the caller's calls and joins
-pub own-party : {S : Type 0} (w : World) (c : CallerId) (v : Known S Event) → IsPassOf w c v → (p : ℕ) → caller_party w.callers c ≡ Some p → v.party ≡ Some p
+pub own-party : {S : Type 0} (w : ShapeValue) (c : CallerId) (v : PassView S Event) → IsPassOf w c v → (p : ℕ) → caller_party w.callers c ≡ Some p → v.party ≡ Some p
 own-party w c v pass p is =
     let mine : caller_party w.callers c ≡ Some (number_of w.callers c) = rw pass.0 refl in
     pass.1 ∙ (sym mine ∙ is)
 
 -- what a call reaches, and what a join reaches
-pub call-reach : (w : World) (own : ℕ) (c : CallerId) (call : Call) (reply : Reply) (posts : Posts) → own ≡ c.rank → IsReach w.limits.ranks own (event_reach w.limits posts (Called c call reply))
-call-reach w own c call reply posts is = subst (λ (n : ℕ). IsReach w.limits.ranks n (event_reach w.limits posts (Called c call reply))) (sym is) (reach-is w.limits.ranks c.rank (row_of call).touch)
+pub call-footprint : (w : ShapeValue) (own : ℕ) (c : CallerId) (call : Call) (reply : Reply) (posts : Posts) → own ≡ c.rank → IsReach w.limits.ranks own (event_footprint w.limits posts (Called c call reply))
+call-footprint w own c call reply posts is = subst (λ (n : ℕ). IsReach w.limits.ranks n (event_footprint w.limits posts (Called c call reply))) (sym is) (footprint-is w.limits.ranks c.rank (row_of call).footprint)
 
-pub join-reach : (w : World) (own : ℕ) (c : CallerId) (id : ℕ) (args : Args) (posts : Posts) → own ≡ c.rank → IsReach w.limits.ranks own (event_reach w.limits posts (Joined c id args))
-join-reach w own c id args posts is = subst (λ (n : ℕ). IsReach w.limits.ranks n (event_reach w.limits posts (Joined c id args))) (sym is) (reach-is w.limits.ranks c.rank (join_touch id args.coll))
+pub join-footprint : (w : ShapeValue) (own : ℕ) (c : CallerId) (id : ℕ) (args : Args) (posts : Posts) → own ≡ c.rank → IsReach w.limits.ranks own (event_footprint w.limits posts (Joined c id args))
+join-footprint w own c id args posts is = subst (λ (n : ℕ). IsReach w.limits.ranks n (event_footprint w.limits posts (Joined c id args))) (sym is) (footprint-is w.limits.ranks c.rank (join_footprint id args.coll))
 
 -- a join has its call's shards
-pub join-touches-own : (w : World) (c : CallerId) (id : ℕ) (args : Args) (posts : Posts) (o : Option ℕ) → o ≡ call_other w c (joining_call id args) → o ≡ rank_other w.limits.ranks (event_reach w.limits posts (Joined c id args))
+pub join-touches-own : (w : ShapeValue) (c : CallerId) (id : ℕ) (args : Args) (posts : Posts) (o : Option ℕ) → o ≡ call_other w c (joining_call id args) → o ≡ rank_other w.limits.ranks (event_footprint w.limits posts (Joined c id args))
 join-touches-own w c id args posts o is = is ∙ sym (join-other w c id args (joining_call id args) posts refl)

@@ -4,7 +4,7 @@ use Rattle.std.specs.List.{slice_get}
 use Rattle.std.proofs.lemmas.Bool.{eqb-false, leb-true}
 use Rattle.std.proofs.lemmas.List.Sums.{sum_by-cons}
 use Rattle.gaspi_types.specs.Ranges.{is_between}
-use Rattle.gaspi_types.specs.World.{World, IsWorld}
+use Rattle.gaspi_types.specs.World.{ShapeValue, IsShape}
 use Rattle.gaspi_types.specs.declared.shapes.CallerId.{CallerId}
 use Rattle.gaspi_types.proofs.Chains.{both}
 
@@ -54,7 +54,7 @@ few-below (suc n) most callers less few = (let rest = few-below n most callers l
 between : (low high n : ℕ) → is_between low high n ≡ true → n ≤ high
 between low high n is = leb-true n high (both (nat_le low n) (nat_le n high) is).1
 
-pub few-callers : (w : World) → IsWorld w → length w.callers ≤ 1048576
+pub few-callers : (w : ShapeValue) → IsShape w → length w.callers ≤ 1048576
 unfolding of-rank
 few-callers w world =
     let one = both (is_between 1 16 w.limits.ranks) _ world.limits in

@@ -1,21 +1,21 @@
 -- The front of a lane of the rank whose node is held: its other shard, and the transfer once that is held.
 use Rattle.std.proofs.Common.{◌≡◌, ℕ, Box, Global, Option, Some, refl, sym, ap, ◌∙◌, subst}
-use Rattle.gaspi_types.specs.World.{World, IsWorld}
+use Rattle.gaspi_types.specs.World.{ShapeValue, IsShape}
 use Rattle.gaspi_types.specs.declared.entries.Entry.{Entry}
 use Rattle.gaspi_types.specs.declared.events.Event.{Event}
 use Rattle.gaspi_types.specs.declared.events.Transfer.{Transfer}
-use Rattle.commit_table.specs.declared.views.Known.{Known}
+use Rattle.commit_table.specs.declared.views.PassView.{PassView}
 use Rattle.rank_node.specs.Fronts.{IsFront, front_entry, transfer_footprint}
 use Rattle.rank_node.specs.declared.nodes.Node.{Node}
 use Rattle.gaspi_world.specs.RankShards.{rank_other}
-use Rattle.gaspi_world.specs.Holds.{Holds, IsOtherShard}
-use Rattle.gaspi_world.specs.Moves.{IsFrontHeld}
+use Rattle.gaspi_world.specs.HeldShards.{Holds, IsOtherShard}
+use Rattle.gaspi_world.specs.Transfers.{IsFrontHeld}
 use Rattle.gaspi_world.specs.declared.holding.HeldShards.{HeldShards}
 use Rattle.gaspi_world.proofs.CommittedNodes.{agrees-self, own-at}
 use Rattle.gaspi_world.proofs.TransferTries.{front-of-node, other-of-node}
 use Rattle.gaspi_world.proofs.Transferring.{front-other}
 
-module _ {S : Type 0} (w : World) (world : IsWorld w) (h : HeldShards) (v : Known S Event) (holds : Holds w h v) (t : Transfer) (n m : Node) (ranks : ℕ) (other : Option ℕ) (is : n ≡ h.nodes.own.value) (also : m ≡ h.nodes.own.value)
+module _ {S : Type 0} (w : ShapeValue) (world : IsShape w) (h : HeldShards) (v : PassView S Event) (holds : Holds w h v) (t : Transfer) (n m : Node) (ranks : ℕ) (other : Option ℕ) (is : n ≡ h.nodes.own.value) (also : m ≡ h.nodes.own.value)
     (many : ranks ≡ w.limits.ranks) (front : IsFront n.posts t) (told : (e : Entry) → front_entry m.posts t ≡ Some e → other ≡ rank_other ranks (transfer_footprint ranks t e.kind)) where
   here : IsFront h.nodes.own.value.posts t
   here = front-of-node n h.nodes.own t is front

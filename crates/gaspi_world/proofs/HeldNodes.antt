@@ -3,20 +3,20 @@
 use Rattle.std.proofs.Common.{◌≡◌, ℕ, ◌+◌, ◌<◌, Bool, true, false, cond, eqb, ◌==◌, nat_lt, List, [], ◌∷◌, ◌++◌, append-nil, length, Option, None, Some, Ok, refl, sym, ap, ◌∙◌, subst, arith, if◌then◌else◌}
 use Rattle.std.specs.List.{slice_get}
 use Rattle.std.proofs.lemmas.Bool.{eqb-true, eqb-false, ltb-true}
-use Rattle.gaspi_types.specs.Touches.{reach_of}
-use Rattle.gaspi_types.specs.World.{World}
+use Rattle.gaspi_types.specs.Footprints.{footprint_of}
+use Rattle.gaspi_types.specs.World.{ShapeValue}
 use Rattle.gaspi_types.specs.declared.events.Event.{Event}
 use Rattle.gaspi_types.specs.declared.events.PlacedEvent.{PlacedEvent}
 use Rattle.gaspi_types.specs.declared.groups.Group as groups
 use Rattle.gaspi_types.specs.declared.shapes.Limits.{Limits}
-use Rattle.gaspi_types.specs.declared.touches.Reach.{Reach}
-use Rattle.gaspi_types.specs.declared.touches.Reach.TheVariants.{Alone, OwnMemory, PeerMemory, BothMemories, PeerPosts, Group, GroupAndMemory}
-use Rattle.gaspi_types.specs.declared.touches.Touch.{Touch}
-use Rattle.gaspi_types.specs.declared.touches.Touch.TheVariants as touches
+use Rattle.gaspi_types.specs.declared.footprints.Footprint.{Footprint}
+use Rattle.gaspi_types.specs.declared.footprints.Footprint.TheVariants.{Alone, OwnMemory, PeerMemory, BothMemories, PeerPosts, Group, GroupAndMemory}
+use Rattle.gaspi_types.specs.declared.footprints.DeclaredFootprint.{DeclaredFootprint}
+use Rattle.gaspi_types.specs.declared.footprints.DeclaredFootprint.TheVariants as touches
 use Rattle.gaspi_types.proofs.Items.{there-within}
 use Rattle.std.proofs.lemmas.Option.{slice_get_within}
 use Rattle.gaspi_model.specs.Sound.{IsSound}
-use Rattle.gaspi_model.specs.Step.{step, owner_of, event_reach}
+use Rattle.gaspi_model.specs.Step.{step, owner_of, event_footprint}
 use Rattle.gaspi_model.specs.declared.states.Memory.{Memory}
 use Rattle.gaspi_model.specs.declared.states.Posts.{Posts}
 use Rattle.gaspi_model.specs.declared.states.State.{State}
@@ -34,13 +34,13 @@ use Rattle.gaspi_world.specs.RankJournals.{placed_at, noted_by, own-noted, none-
 use Rattle.gaspi_world.specs.RankShards.{rank_other}
 use Rattle.gaspi_world.specs.ShardMachine.{HasParts}
 use Rattle.gaspi_world.proofs.HeldPairs.{here}
-use Rattle.gaspi_world.specs.Holds.{other_value, IsOther, IsOtherShard}
+use Rattle.gaspi_world.specs.HeldShards.{other_value, IsOther, IsOtherShard}
 use Rattle.gaspi_world.specs.Shards.{node_meaning, IsRankPosts, IsRankMemory}
 use Rattle.gaspi_world.specs.declared.shards.WorldShard.{WorldShard}
 use Rattle.gaspi_world.specs.declared.shards.WorldShard.TheVariants as shards
 
 -- What an event reaches is apart from its owner's rank, and is there.
-abbrev pub IsReach : ℕ → ℕ → Reach → Type 0
+abbrev pub IsReach : ℕ → ℕ → Footprint → Type 0
 IsReach ranks me Alone = Unit {0}
 IsReach ranks me OwnMemory = Unit {0}
 IsReach ranks me (PeerMemory rank) = ((rank == me) ≡ false) × (rank < ranks)
@@ -49,33 +49,33 @@ IsReach ranks me (PeerPosts rank) = ((rank == me) ≡ false) × (rank < ranks)
 IsReach ranks me (Group id) = id < 8
 IsReach ranks me (GroupAndMemory id) = id < 8
 
-pub reach-is : (ranks me : ℕ) (touch : Touch) → IsReach ranks me (reach_of ranks me touch)
-reach-is ranks me touches.Nothing = tt
-reach-is ranks me touches.OwnMemory = tt
-reach-is ranks me (touches.MemoryOf rank) = go (rank == me) (nat_lt rank ranks) refl refl
+pub footprint-is : (ranks me : ℕ) (touch : DeclaredFootprint) → IsReach ranks me (footprint_of ranks me touch)
+footprint-is ranks me touches.Nothing = tt
+footprint-is ranks me touches.OwnMemory = tt
+footprint-is ranks me (touches.MemoryOf rank) = go (rank == me) (nat_lt rank ranks) refl refl
   where
     go : (a b : Bool) → (rank == me) ≡ a → nat_lt rank ranks ≡ b → IsReach ranks me (if a then OwnMemory else (if b then PeerMemory rank else Alone))
     go true b same is = tt
     go false true same is = (same, ltb-true rank ranks is)
     go false false same is = tt
-reach-is ranks me (touches.BothMemories rank) = go (rank == me) (nat_lt rank ranks) refl refl
+footprint-is ranks me (touches.BothMemories rank) = go (rank == me) (nat_lt rank ranks) refl refl
   where
     go : (a b : Bool) → (rank == me) ≡ a → nat_lt rank ranks ≡ b → IsReach ranks me (if a then OwnMemory else (if b then BothMemories rank else Alone))
     go true b same is = tt
     go false true same is = (same, ltb-true rank ranks is)
     go false false same is = tt
-reach-is ranks me (touches.PostsOf rank) = go (rank == me) (nat_lt rank ranks) refl refl
+footprint-is ranks me (touches.PostsOf rank) = go (rank == me) (nat_lt rank ranks) refl refl
   where
     go : (a b : Bool) → (rank == me) ≡ a → nat_lt rank ranks ≡ b → IsReach ranks me (if a then Alone else (if b then PeerPosts rank else Alone))
     go true b same is = tt
     go false true same is = (same, ltb-true rank ranks is)
     go false false same is = tt
-reach-is ranks me (touches.GroupOf id) = go (nat_lt id 8) refl
+footprint-is ranks me (touches.GroupOf id) = go (nat_lt id 8) refl
   where
     go : (b : Bool) → nat_lt id 8 ≡ b → IsReach ranks me (if b then Group id else Alone)
     go true is = ltb-true id 8 is
     go false is = tt
-reach-is ranks me (touches.GroupAndMemory id) = go (nat_lt id 8) refl
+footprint-is ranks me (touches.GroupAndMemory id) = go (nat_lt id 8) refl
   where
     go : (b : Bool) → nat_lt id 8 ≡ b → IsReach ranks me (if b then GroupAndMemory id else Alone)
     go true is = ltb-true id 8 is
@@ -112,7 +112,7 @@ only-here a y i z found = go (eqb i a) refl found
     go true same there = (eqb-true i a same, let e : y ≡ z = cc in e)
     go false same there = absurd (let no : ⊥ = cc in no)
 
-module _ (w : World) (s : State) (sound : IsSound s) (limits : s.limits ≡ w.limits) where
+module _ (w : ShapeValue) (s : State) (sound : IsSound s) (limits : s.limits ≡ w.limits) where
   -- how many ranks there are
   ranks-many : length s.posts ≡ w.limits.ranks
   ranks-many = sound.ranks ∙ ap (λ (l : Limits). l.ranks) limits
@@ -178,7 +178,7 @@ module _ (w : World) (s : State) (sound : IsSound s) (limits : s.limits ≡ w.li
   }
 
   -- The other node, of a rank or of a group: it is the one that is reached, and stands for its part.
-  abbrev pub HasOther : ℕ → Reach → OtherNode → Type 0
+  abbrev pub HasOther : ℕ → Footprint → OtherNode → Type 0
   HasOther me reach other = IsPeer s me (footprint_peer reach) (peer_of other) × IsGroupAt s (footprint_group reach) (group_of other)
 
   abbrev pub OthersHave : Option ℕ → OtherNode → (ℕ → List PlacedEvent) → Type 0
@@ -219,7 +219,7 @@ module _ (w : World) (s : State) (sound : IsSound s) (limits : s.limits ≡ w.li
   no-group : (other : OtherNode) → group_of other ≡ None → IsGroupAt s None (group_of other)
   no-group other is = subst (λ o. IsGroupAt s None o) (sym is) tt
 
-  pub other-node : (me : ℕ) (reach : Reach) (other : OtherNode) (journal : ℕ → List PlacedEvent) → IsReach w.limits.ranks me reach → IsOther (rank_other w.limits.ranks reach) other
+  pub other-node : (me : ℕ) (reach : Footprint) (other : OtherNode) (journal : ℕ → List PlacedEvent) → IsReach w.limits.ranks me reach → IsOther (rank_other w.limits.ranks reach) other
       → OthersHave (rank_other w.limits.ranks reach) other journal → HasOther me reach other
   other-node me Alone other journal reached is has = let none = nothing-else other is in (no-peer me other none.0, no-group other none.1)
   other-node me OwnMemory other journal reached is has = let none = nothing-else other is in (no-peer me other none.0, no-group other none.1)
@@ -264,7 +264,7 @@ module _ (w : World) (s : State) (sound : IsSound s) (limits : s.limits ≡ w.li
   none-parts other journal j x at = absurd (let no : ⊥ = cc in no)
 
   -- Where the other node is the one that is reached, its value has its parts; the rank journal of a peer is as before.
-  pub other-parts : (me : ℕ) (reach : Reach) (old other : OtherNode) (journal : ℕ → List PlacedEvent) → HasOther me reach other → ((rank : ℕ) → footprint_peer reach ≡ Some rank → journal_at (peer_of other) ≡ Some (journal rank))
+  pub other-parts : (me : ℕ) (reach : Footprint) (old other : OtherNode) (journal : ℕ → List PlacedEvent) → HasOther me reach other → ((rank : ℕ) → footprint_peer reach ≡ Some rank → journal_at (peer_of other) ≡ Some (journal rank))
       → OthersHave (rank_other w.limits.ranks reach) other journal
   other-parts me Alone old other journal is noted = none-parts other journal
   other-parts me OwnMemory old other journal is noted = none-parts other journal
@@ -329,14 +329,14 @@ split own y rest P first later i z at = go (eqb i own) refl at
     go true same there = let e : y ≡ z = cc in subst (λ (k : ℕ). P k z) (sym (eqb-true i own same)) (subst (λ (v : WorldShard). P own v) e first)
     go false same there = later i z there
 
-module _ (w : World) (e : Event) (place : ℕ) (old new : HeldNodes) (reach : Reach) (reaches : reach ≡ event_reach w.limits old.own.value.posts.posts e)
+module _ (w : ShapeValue) (e : Event) (place : ℕ) (old new : HeldNodes) (reach : Footprint) (reaches : reach ≡ event_footprint w.limits old.own.value.posts.posts e)
     (reached : IsReach w.limits.ranks (owner_of e) reach) (fits : IsOther (rank_other w.limits.ranks reach) old.other) (same : IsSameKind new.other old.other) (below : owner_of e < w.limits.ranks)
     (left : (s t : State) → IsStepOn s t e old.own.value (peer_of old.other) (group_of old.other) → IsLeft s t e place old.own.value new.own.value (peer_of old.other) (peer_of new.other) (group_of new.other)) where
   abbrev other : Option ℕ
   other = rank_other w.limits.ranks reach
 
-  reach-at : (s : State) → s.limits ≡ w.limits → event_reach s.limits old.own.value.posts.posts e ≡ reach
-  reach-at s limits = ap (λ (l : Limits). event_reach l old.own.value.posts.posts e) limits ∙ sym reaches
+  footprint-at : (s : State) → s.limits ≡ w.limits → event_footprint s.limits old.own.value.posts.posts e ≡ reach
+  footprint-at s limits = ap (λ (l : Limits). event_footprint l old.own.value.posts.posts e) limits ∙ sym reaches
 
   -- the other value stands behind the own one
   behind : (j : ℕ) (x : WorldShard) → value_at (other_value other old.other) j ≡ Some x → value_at ((owner_of e, shards.Rank old.own) ∷ other_value other old.other) j ≡ Some x
@@ -354,7 +354,7 @@ module _ (w : World) (e : Event) (place : ℕ) (old new : HeldNodes) (reach : Re
           apart-rank : (rank : ℕ) → (rank == owner_of e) ≡ false → rank ≡ owner_of e → ⊥
           apart-rank rank apart is = eqb-false rank (owner_of e) apart is
 
-          apart-from : (r : Reach) → IsReach w.limits.ranks (owner_of e) r → (o : OtherNode) → value_at (other_value (rank_other w.limits.ranks r) o) (owner_of e) ≡ Some x → ⊥
+          apart-from : (r : Footprint) → IsReach w.limits.ranks (owner_of e) r → (o : OtherNode) → value_at (other_value (rank_other w.limits.ranks r) o) (owner_of e) ≡ Some x → ⊥
           apart-from Alone is o at = let no : ⊥ = cc in no
           apart-from OwnMemory is o at = let no : ⊥ = cc in no
           apart-from (PeerMemory rank) is o at = none-at rank o (apart-rank rank is.0) at
@@ -372,7 +372,7 @@ module _ (w : World) (e : Event) (place : ℕ) (old new : HeldNodes) (reach : Re
       let rest = other-node w s sound limits (owner_of e) reach old.other journal reached fits (λ j x at. has j x (behind j x at)) in (
         record {
           sound = sound;
-          lends = subst (λ (r : Reach). Lends s (owner_of e) r old.own.value (peer_of old.other) (group_of old.other)) (sym (reach-at s limits)) (record { own_node = own.0; peer_node = rest.0; group_node = rest.1 });
+          lends = subst (λ (r : Footprint). Lends s (owner_of e) r old.own.value (peer_of old.other) (group_of old.other)) (sym (footprint-at s limits)) (record { own_node = own.0; peer_node = rest.0; group_node = rest.1 });
           is_step = is;
         },
         own.1,
@@ -389,7 +389,7 @@ module _ (w : World) (e : Event) (place : ℕ) (old new : HeldNodes) (reach : Re
         let after = steps s t e sound is in
         let still : t.limits ≡ w.limits = limits-stay s t e is ∙ limits in
         let noted : ℕ → List PlacedEvent = λ rank. journal rank ++ noted_by rank place e in
-        let lends = subst (λ (r : Reach). Lends t (owner_of e) r new.own.value (peer_of new.other) (group_of new.other)) (reach-at s limits) l.lends in
+        let lends = subst (λ (r : Footprint). Lends t (owner_of e) r new.own.value (peer_of new.other) (group_of new.other)) (footprint-at s limits) l.lends in
         let own_journal : new.own.value.posts.journal ≡ noted (owner_of e) = l.journal ∙ (ap (λ (j : List PlacedEvent). j ++ placed_at place e ∷ []) on.1 ∙ ap (λ (j : List PlacedEvent). journal (owner_of e) ++ j) (sym (own-noted (owner_of e) place e refl))) in
         split (owner_of e) (shards.Rank new.own) (other_value other new.other) (λ i z. HasParts (by_ranks w) w (node_meaning w) i z t noted)
         (own-parts w t after still (owner_of e) new noted below lends.own_node own_journal)
@@ -406,7 +406,7 @@ module _ (w : World) (e : Event) (place : ℕ) (old new : HeldNodes) (reach : Re
           apart : (rank : ℕ) → footprint_peer reach ≡ Some rank → rank ≡ owner_of e → ⊥
           apart rank is_peer = go reach reached is_peer
             where
-              go : (r : Reach) → IsReach w.limits.ranks (owner_of e) r → footprint_peer r ≡ Some rank → rank ≡ owner_of e → ⊥
+              go : (r : Footprint) → IsReach w.limits.ranks (owner_of e) r → footprint_peer r ≡ Some rank → rank ≡ owner_of e → ⊥
               go Alone is there = absurd (let no : ⊥ = cc in no)
               go OwnMemory is there = absurd (let no : ⊥ = cc in no)
               go (PeerMemory k) is there = let k_is : k ≡ rank = cc in λ same. eqb-false k (owner_of e) is.0 (k_is ∙ same)
@@ -423,7 +423,7 @@ module _ (w : World) (e : Event) (place : ℕ) (old new : HeldNodes) (reach : Re
                   let same_rank : k ≡ rank = cc in
                   subst (λ (n : ℕ). journal_at (peer_of old.other) ≡ Some (journal n)) same_rank (other-journal w s sound limits (owner_of e) k old.other journal is fit have)
 
-              go : (r : Reach) → IsReach w.limits.ranks (owner_of e) r → IsOther (rank_other w.limits.ranks r) old.other → OthersHave w s sound limits (rank_other w.limits.ranks r) old.other journal → footprint_peer r ≡ Some rank
+              go : (r : Footprint) → IsReach w.limits.ranks (owner_of e) r → IsOther (rank_other w.limits.ranks r) old.other → OthersHave w s sound limits (rank_other w.limits.ranks r) old.other journal → footprint_peer r ≡ Some rank
                   → journal_at (peer_of old.other) ≡ Some (journal rank)
               go Alone is fit have there = absurd (let no : ⊥ = cc in no)
               go OwnMemory is fit have there = absurd (let no : ⊥ = cc in no)
@@ -434,7 +434,7 @@ module _ (w : World) (e : Event) (place : ℕ) (old new : HeldNodes) (reach : Re
               go (GroupAndMemory id) is fit have there = absurd (let no : ⊥ = cc in no)
 
 -- the other shard of what an event of a rank reaches
-pub other-shard : (w : World) (me : ℕ) (reach : Reach) → me < w.limits.ranks → IsReach w.limits.ranks me reach → IsOtherShard w me (rank_other w.limits.ranks reach)
+pub other-shard : (w : ShapeValue) (me : ℕ) (reach : Footprint) → me < w.limits.ranks → IsReach w.limits.ranks me reach → IsOtherShard w me (rank_other w.limits.ranks reach)
 other-shard w me Alone lt is = tt
 other-shard w me OwnMemory lt is = tt
 other-shard w me (PeerMemory rank) lt is = ((let less = is.1 in omega arith), λ same. eqb-false rank me is.0 same)

@@ -1,20 +1,20 @@
 -- What a look leaves but for what was seen.
 use Rattle.std.proofs.Common.{ℕ, List, refl, sym, subst, ◌∙◌}
-use Rattle.gaspi_types.specs.World.{World, IsWorld}
+use Rattle.gaspi_types.specs.World.{ShapeValue, IsShape}
 use Rattle.gaspi_types.specs.declared.events.Event.{Event}
 use Rattle.gaspi_types.specs.declared.shapes.CallerId.{CallerId}
 use Rattle.gaspi_model.specs.Parties.{number_of}
-use Rattle.commit_table.specs.Attempts.{LookedOnly}
+use Rattle.commit_table.specs.Attempts.{IsLookedOnly}
 use Rattle.commit_table.specs.Calls.{Looked}
 use Rattle.commit_table.specs.Machine.{Machine}
-use Rattle.commit_table.specs.declared.views.Known.{Known}
-use Rattle.gaspi_world.specs.Attempts.{GoesOn}
+use Rattle.commit_table.specs.declared.views.PassView.{PassView}
+use Rattle.gaspi_world.specs.Attempts.{IsExtended}
 use Rattle.gaspi_world.specs.Callers.{IsPassOf}
 use Rattle.gaspi_world.specs.WorldMachine.{world_machine}
 use Rattle.gaspi_world.proofs.OwnEvents.{mine-events}
 
-pub looked-only : {S X E : Type 0} (m : Machine X E) (v : Known S E) (n : ℕ) (h : List E) (w : Known S E) → Looked m v n h w → LookedOnly m v w
-looked-only m v n h w look = subst (LookedOnly m v) (sym look.is) (record {
+pub looked-only : {S X E : Type 0} (m : Machine X E) (v : PassView S E) (n : ℕ) (h : List E) (w : PassView S E) → Looked m v n h w → IsLookedOnly m v w
+looked-only m v n h w look = subst (IsLookedOnly m v) (sym look.is) (record {
   goes_on = look.seen;
   legal = look.legal;
   own = look.own;
@@ -28,7 +28,7 @@ looked-only m v n h w look = subst (LookedOnly m v) (sym look.is) (record {
 })
 
 -- what the pass of a caller has seen goes on
-pub looked-goes-on : {S : Type 0} (w : World) (c : CallerId) (v n : Known S Event) → IsWorld w → IsPassOf w c v → LookedOnly (world_machine w) v n → GoesOn w c v n
+pub looked-goes-on : {S : Type 0} (w : ShapeValue) (c : CallerId) (v n : PassView S Event) → IsShape w → IsPassOf w c v → IsLookedOnly (world_machine w) v n → IsExtended w c v n
 looked-goes-on w c v n world pass look = record {
   seen = look.goes_on;
   legal = look.legal;

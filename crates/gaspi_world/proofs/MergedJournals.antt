@@ -5,7 +5,7 @@ use native.Mathlib.Decide.{dec_lt}
 use Rattle.std.specs.List.{slice_get}
 use Rattle.std.proofs.lemmas.Option.{slice_get_within}
 use Rattle.std.proofs.lemmas.Grind.{merely}
-use Rattle.gaspi_types.specs.World.{World, IsWorld}
+use Rattle.gaspi_types.specs.World.{ShapeValue, IsShape}
 use Rattle.gaspi_types.specs.declared.events.Event.{Event}
 use Rattle.gaspi_types.specs.declared.events.PlacedEvent.{PlacedEvent}
 use Rattle.gaspi_types.specs.declared.shapes.Limits.{Limits}
@@ -59,7 +59,7 @@ behind-these : {A : Type 0} (before rest : List A) (x : A) → slice_get (before
 behind-these [] rest x = refl
 behind-these (y ∷ before) rest x = behind-these before rest x
 
-module _ (w : World) (h : List Event) (world : IsWorld w) (legal : is_legal w h ≡ true) where
+module _ (w : ShapeValue) (h : List Event) (world : IsShape w) (legal : is_legal w h ≡ true) where
   sound : IsSound (state_after w h)
   sound = reached-sound w h (state_after w h) world (arrives w h legal)
 

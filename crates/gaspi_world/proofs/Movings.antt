@@ -2,16 +2,16 @@
 use Rattle.std.proofs.Common.{◌≡◌, ℕ, zero, suc, ◌+◌, ◌<◌, true, List, [], ◌∷◌, ◌++◌, length, Option, None, Some, ◌⊎◌, inl, inr, refl, sym, ap, ◌∙◌, subst, arith, append_assoc, append-nil, length-append}
 use Rattle.std.specs.List.{slice_get}
 use mathlib.Core.List.{IsPrefix}
-use Rattle.gaspi_types.specs.World.{World}
+use Rattle.gaspi_types.specs.World.{ShapeValue}
 use Rattle.gaspi_types.specs.declared.events.Event.{Event}
 use Rattle.gaspi_types.specs.declared.events.Event.TheVariants.{Called, Joined, Take, Put}
 use Rattle.gaspi_model.specs.Parties.{party_of}
 use Rattle.commit_table.specs.Calls.{Looked}
-use Rattle.commit_table.specs.Views.{took, missed, looked, gave_back, mine_after}
-use Rattle.commit_table.specs.declared.views.Known.{Known}
-use Rattle.commit_table.specs.declared.views.Turn.{Turn}
+use Rattle.commit_table.specs.Views.{after_take, after_miss, after_look, after_give_back, mine_after}
+use Rattle.commit_table.specs.declared.views.PassView.{PassView}
+use Rattle.commit_table.specs.declared.views.LockRecord.{LockRecord}
 use Rattle.commit_table.proofs.Lists.{prefix_self, prefix_trans}
-use Rattle.gaspi_world.specs.Moves.{is_transfer_of, IsMovedBehind, HasMoved, HasMovedOne}
+use Rattle.gaspi_world.specs.Transfers.{is_transfer_of, IsMovedBehind, HasMoved, HasMovedOne}
 use Rattle.gaspi_world.specs.WorldMachine.{world_machine}
 
 -- what stands in a list stands there in each that goes on from it
@@ -40,14 +40,14 @@ pub more-prefix : {A : Type 0} (xs ys more : List A) → ys ≡ xs ++ more → I
 more-prefix xs ys more is = (more, sym is)
 
 -- a transfer is of no party
-of-nobody : (w : World) (origin : ℕ) (e : Event) → is_transfer_of origin e ≡ true → party_of w e ≡ None
+of-nobody : (w : ShapeValue) (origin : ℕ) (e : Event) → is_transfer_of origin e ≡ true → party_of w e ≡ None
 of-nobody w origin (Called c call reply) is = absurd (let no : ⊥ = cc in no)
 of-nobody w origin (Joined c id args) is = absurd (let no : ⊥ = cc in no)
 of-nobody w origin (Take o queue target number outcome) is = refl
 of-nobody w origin (Put o queue target number outcome) is = refl
 
-module _ {S : Type 0} (w : World) (origin : ℕ) where
-  pub moved-same : (v : Known S Event) → HasMoved w origin v v
+module _ {S : Type 0} (w : ShapeValue) (origin : ℕ) where
+  pub moved-same : (v : PassView S Event) → HasMoved w origin v v
   moved-same v = record {
     places = [];
     commits = sym (append-nil v.commits);
@@ -60,7 +60,7 @@ module _ {S : Type 0} (w : World) (origin : ℕ) where
     start = refl;
   }
 
-  pub moved-then : (v u n : Known S Event) → HasMoved w origin v u → HasMoved w origin u n → HasMoved w origin v n
+  pub moved-then : (v u n : PassView S Event) → HasMoved w origin v u → HasMoved w origin u n → HasMoved w origin v n
   moved-then v u n first then = record {
     places = first.places ++ then.places;
     commits = then.commits ∙ (ap (λ (l : List ℕ). l ++ then.places) first.commits ∙ append_assoc v.commits first.places then.places);
@@ -78,16 +78,16 @@ module _ {S : Type 0} (w : World) (origin : ℕ) where
       by k place (inl at) = (let was = first.each k place at in (was.0, at-prefix u.seen n.seen place was.0 then.seen was.1, was.2))
       by k place (inr (m, at)) = then.each m place at
 
-  pub one-then : (v u n : Known S Event) → HasMovedOne w origin v u → HasMoved w origin u n → HasMovedOne w origin v n
+  pub one-then : (v u n : PassView S Event) → HasMovedOne w origin v u → HasMoved w origin u n → HasMovedOne w origin v n
   unfolding moved-then
   one-then v u n first then = (moved-then v u n first.0 then, (let count = length-append first.0.places then.places in let some = first.1 in omega arith))
 
-  pub then-one : (v u n : Known S Event) → HasMoved w origin v u → HasMovedOne w origin u n → HasMovedOne w origin v n
+  pub then-one : (v u n : PassView S Event) → HasMoved w origin v u → HasMovedOne w origin u n → HasMovedOne w origin v n
   unfolding moved-then
   then-one v u n first then = (moved-then v u n first then.0, (let count = length-append first.places then.0.places in let some = then.1 in omega arith))
 
   -- one transfer was committed
-  pub moved-by : (v n : Known S Event) → IsMovedBehind w origin v n → HasMovedOne w origin v n
+  pub moved-by : (v n : PassView S Event) → IsMovedBehind w origin v n → HasMovedOne w origin v n
   moved-by v n (e, is, added) = (
     record {
       places = length added.before ∷ [];
@@ -110,8 +110,8 @@ module _ {S : Type 0} (w : World) (origin : ℕ) where
       each (suc k) place at = absurd (let no : ⊥ = cc in no)
 
   -- a shard was missed; or taken, and a look made; or given back
-  pub moved-missed : (v u : Known S Event) (shard : ℕ) (turns : List Turn) → u ≡ missed v shard turns → HasMoved w origin v u
-  moved-missed v u shard turns is = subst (λ (k : Known S Event). HasMoved w origin v k) (sym is) (record {
+  pub moved-missed : (v u : PassView S Event) (shard : ℕ) (turns : List LockRecord) → u ≡ after_miss v shard turns → HasMoved w origin v u
+  moved-missed v u shard turns is = subst (λ (k : PassView S Event). HasMoved w origin v k) (sym is) (record {
     places = [];
     commits = sym (append-nil v.commits);
     each = λ k place at. absurd (let no : ⊥ = cc in no);
@@ -123,10 +123,10 @@ module _ {S : Type 0} (w : World) (origin : ℕ) where
     start = refl;
   })
 
-  pub moved-looked : (v u n : Known S Event) (shard number : ℕ) (g h : List Event) → u ≡ took v shard g → Looked (world_machine w) u number h n → HasMoved w origin v n
+  pub moved-looked : (v u n : PassView S Event) (shard number : ℕ) (g h : List Event) → u ≡ after_take v shard g → Looked (world_machine w) u number h n → HasMoved w origin v n
   moved-looked v u n shard number g h is look =
-      let there : Looked (world_machine w) (took v shard g) number h n = subst (λ (k : Known S Event). Looked (world_machine w) k number h n) is look in
-      subst (λ (k : Known S Event). HasMoved w origin v k) (sym there.is) (record {
+      let there : Looked (world_machine w) (after_take v shard g) number h n = subst (λ (k : PassView S Event). Looked (world_machine w) k number h n) is look in
+      subst (λ (k : PassView S Event). HasMoved w origin v k) (sym there.is) (record {
         places = [];
         commits = sym (append-nil v.commits);
         each = λ k place at. absurd (let no : ⊥ = cc in no);
@@ -138,8 +138,8 @@ module _ {S : Type 0} (w : World) (origin : ℕ) where
         start = refl;
       })
 
-  pub moved-gave : (v u : Known S Event) (shard : ℕ) → u ≡ gave_back v shard → HasMoved w origin v u
-  moved-gave v u shard is = subst (λ (k : Known S Event). HasMoved w origin v k) (sym is) (record {
+  pub moved-gave : (v u : PassView S Event) (shard : ℕ) → u ≡ after_give_back v shard → HasMoved w origin v u
+  moved-gave v u shard is = subst (λ (k : PassView S Event). HasMoved w origin v k) (sym is) (record {
     places = [];
     commits = sym (append-nil v.commits);
     each = λ k place at. absurd (let no : ⊥ = cc in no);

@@ -5,11 +5,11 @@ use Rattle.std.proofs.lemmas.Bool.{eqb-true, eq-eqb, ltb-true, lt-ltb}
 use Rattle.std.proofs.lemmas.List.FromFn.{map-range_with_len_more}
 use Rattle.std.proofs.lemmas.List.Sums.{sum_by-cons}
 use Rattle.std.proofs.lemmas.Option.{slice_get-map}
-use Rattle.gaspi_types.specs.World.{World, IsWorld, is_caller}
+use Rattle.gaspi_types.specs.World.{ShapeValue, IsShape, is_caller}
 use Rattle.gaspi_types.specs.declared.shapes.CallerId.{CallerId}
 use Rattle.gaspi_types.proofs.Chains.{both}
-use Rattle.commit_table.specs.declared.views.Known.{Known}
-use Rattle.gaspi_model.proofs.Sound.Turns.{in-range}
+use Rattle.commit_table.specs.declared.views.PassView.{PassView}
+use Rattle.gaspi_model.proofs.Sound.Rounds.{in-range}
 use Rattle.gaspi_world.specs.Callers.{numbered, all_numbered, IsPassOf}
 use Rattle.gaspi_model.specs.Parties.{comes_before, number_of}
 
@@ -93,7 +93,7 @@ number-below cs c there =
     all-count (e ∷ es) = (let rest = all-count es in let one : count_by (λ (f : CallerId). true) (e ∷ es) ≡ 1 + count_by (λ (f : CallerId). true) es = counts-cons (λ f. true) e es in omega arith)
 
 -- callers of one number are the same
-pub same-number : (w : World) (c d : CallerId) → IsWorld w → list_any (is_caller c.rank c.thread) w.callers ≡ true → list_any (is_caller d.rank d.thread) w.callers ≡ true
+pub same-number : (w : ShapeValue) (c d : CallerId) → IsShape w → list_any (is_caller c.rank c.thread) w.callers ≡ true → list_any (is_caller d.rank d.thread) w.callers ≡ true
     → number_of w.callers c ≡ number_of w.callers d → c ≡ d
 same-number w c d world c_there d_there same = go (nat_lt (key c) (key d)) (nat_lt (key d) (key c)) refl refl
   where
@@ -135,7 +135,7 @@ there-any (d ∷ cs) (suc place) c at = go (there-any cs place c at) (is_caller 
     go rest true is = rw is refl
     go rest false is = rw is rest
 
-pub numbered-itself : (w : World) (c : CallerId) → IsWorld w → list_any (is_caller c.rank c.thread) w.callers ≡ true → numbered w.callers (number_of w.callers c) ≡ Some c
+pub numbered-itself : (w : ShapeValue) (c : CallerId) → IsShape w → list_any (is_caller c.rank c.thread) w.callers ≡ true → numbered w.callers (number_of w.callers c) ≡ Some c
 numbered-itself w c world there =
     let at = declared-at c.rank c.thread w.callers there in
     found-first (λ (d : CallerId). number_of w.callers d == number_of w.callers c) w.callers at.0 c at.1 (eq-eqb (number_of w.callers c) (number_of w.callers c) refl)
@@ -144,20 +144,20 @@ numbered-itself w c world there =
 pub numbered_more : (callers : List CallerId) (n : ℕ) → map (numbered callers) (range_with_len 0 (n + 1)) ≡ map (numbered callers) (range_with_len 0 n) ++ numbered callers n ∷ []
 numbered_more callers n = map-range_with_len_more (numbered callers) 0 n n (omega arith)
 
-pub indexed : (w : World) (c : CallerId) → IsWorld w → list_any (is_caller c.rank c.thread) w.callers ≡ true → slice_get (all_numbered w.callers) (number_of w.callers c) ≡ Some (Some c)
+pub indexed : (w : ShapeValue) (c : CallerId) → IsShape w → list_any (is_caller c.rank c.thread) w.callers ≡ true → slice_get (all_numbered w.callers) (number_of w.callers c) ≡ Some (Some c)
 indexed w c world there =
     let n = number_of w.callers c in
     let at : slice_get (range_with_len 0 (length w.callers)) n ≡ Some n = in-range 0 (length w.callers) n (number-below w.callers c there) ∙ ap (λ (m : ℕ). Some m) (let same : 0 + n ≡ n = omega arith in same) in
     slice_get-map (numbered w.callers) (range_with_len 0 (length w.callers)) n ∙ rw at (ap (λ (o : Option CallerId). Some o) (numbered-itself w c world there))
 
 -- what stands at the number of a pass is its caller
-pub stands-there : {S E : Type 0} (w : World) (c : CallerId) (v : Known S E) (number : ℕ) → IsWorld w → IsPassOf w c v → v.party ≡ Some number → slice_get (all_numbered w.callers) number ≡ Some (Some c)
+pub stands-there : {S E : Type 0} (w : ShapeValue) (c : CallerId) (v : PassView S E) (number : ℕ) → IsShape w → IsPassOf w c v → v.party ≡ Some number → slice_get (all_numbered w.callers) number ≡ Some (Some c)
 stands-there w c v number world pass party =
     let same : ◌≡◌ {A = Option ℕ} (Some (number_of w.callers c)) (Some number) = sym pass.1 ∙ party in
     let here : number_of w.callers c ≡ number = cc in
     subst (λ (n : ℕ). slice_get (all_numbered w.callers) n ≡ Some (Some c)) here (indexed w c world pass.0)
 
-pub stands-in : {S E : Type 0} (rows : List (Option CallerId)) (w shape : World) (c : CallerId) (v : Known S E) (number : ℕ) → rows ≡ all_numbered w.callers → shape ≡ w → IsWorld shape → IsPassOf w c v → v.party ≡ Some number
+pub stands-in : {S E : Type 0} (rows : List (Option CallerId)) (w shape : ShapeValue) (c : CallerId) (v : PassView S E) (number : ℕ) → rows ≡ all_numbered w.callers → shape ≡ w → IsShape shape → IsPassOf w c v → v.party ≡ Some number
     → slice_get rows number ≡ Some (Some c)
 stands-in rows w shape c v number all same world pass party =
-    ap (λ (r : List (Option CallerId)). slice_get r number) all ∙ stands-there w c v number (subst IsWorld same world) pass party
+    ap (λ (r : List (Option CallerId)). slice_get r number) all ∙ stands-there w c v number (subst IsShape same world) pass party

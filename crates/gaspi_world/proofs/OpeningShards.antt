@@ -3,10 +3,10 @@ use Rattle.std.proofs.Common.{◌≡◌, ℕ, ◌+◌, ◌<◌, List, [], map, l
 use Rattle.std.specs.List.{slice_get, range_with_len}
 use Rattle.std.specs.Option.{option_map}
 use Rattle.std.proofs.lemmas.Option.{slice_get-map}
-use Rattle.gaspi_types.specs.World.{World}
+use Rattle.gaspi_types.specs.World.{ShapeValue}
 use Rattle.gaspi_model.specs.Parties.{party_of}
 use Rattle.gaspi_model.specs.State.{opening, opening_posts, opening_memory}
-use Rattle.gaspi_model.proofs.Sound.Turns.{in-range}
+use Rattle.gaspi_model.proofs.Sound.Rounds.{in-range}
 use Rattle.commit_table.specs.Calls.{AreShards}
 use Rattle.rank_node.specs.Openings.{posts_at_start, memory_at_start, IsOpeningNode}
 use Rattle.rank_node.specs.declared.nodes.Node.{Node}
@@ -20,7 +20,7 @@ numbered : {A : Type 0} (f : ℕ → A) (count k : ℕ) → k < count → slice_
 numbered f count k less = let zero : 0 + k ≡ k = omega arith in slice_get-map f (range_with_len 0 count) k ∙ ap (option_map f) (in-range 0 count k less) ∙ ap (λ (n : ℕ). Some (f n)) zero
 
 -- the node of a rank at the start
-pub opens-posts : (w : World) (rank : ℕ) (n : Node) → rank < w.limits.ranks → IsOpeningNode w rank n → n.posts ≡ posts_at_start w rank
+pub opens-posts : (w : ShapeValue) (rank : ℕ) (n : Node) → rank < w.limits.ranks → IsOpeningNode w rank n → n.posts ≡ posts_at_start w rank
 opens-posts w rank n lt is =
     let there : slice_get (opening w).posts rank ≡ Some (opening_posts w rank) = numbered (opening_posts w) w.limits.ranks rank lt in
     let here = is.node.posts.posts in
@@ -30,7 +30,7 @@ opens-posts w rank n lt is =
     let journal = is.journal in
     rw (limits, me, journal, same) refl
 
-pub opens-memory : (w : World) (rank : ℕ) (n : Node) → rank < w.limits.ranks → IsOpeningNode w rank n → n.memory ≡ memory_at_start w rank
+pub opens-memory : (w : ShapeValue) (rank : ℕ) (n : Node) → rank < w.limits.ranks → IsOpeningNode w rank n → n.memory ≡ memory_at_start w rank
 opens-memory w rank n lt is =
     let there : slice_get (opening w).memories rank ≡ Some (opening_memory w rank) = numbered (opening_memory w) w.limits.ranks rank lt in
     let here = is.node.memory.memory in
@@ -39,7 +39,7 @@ opens-memory w rank n lt is =
     rw (capacity, same) refl
 
 -- So values of which each is that of its place are the shards of a new table.
-module _ (w : World) (values : List WorldShard) (count : length values ≡ w.limits.ranks + 8) (each : (i : ℕ) (x : WorldShard) → slice_get values i ≡ Some x → IsOpeningShard w i x) where
+module _ (w : ShapeValue) (values : List WorldShard) (count : length values ≡ w.limits.ranks + 8) (each : (i : ℕ) (x : WorldShard) → slice_get values i ≡ Some x → IsOpeningShard w i x) where
   pub opening-shards : AreShards (world_machine w) values []
   opening-shards = all-open (node_meaning w) w (party_of w) values count
       (λ rank x lt at. (each rank x at).rank lt)

@@ -2,7 +2,7 @@
 use Rattle.std.proofs.Common.{◌≡◌, ℕ, Bool, true, false, cond, ◌==◌, List, [], ◌∷◌, refl, sym, ap, ◌∙◌}
 use Rattle.std.specs.List.{list_any}
 use Rattle.std.proofs.lemmas.Bool.{eqb-true, eq-eqb}
-use Rattle.gaspi_types.specs.World.{World, IsWorld, is_caller}
+use Rattle.gaspi_types.specs.World.{ShapeValue, IsShape, is_caller}
 use Rattle.gaspi_types.specs.declared.events.Event.{Event}
 use Rattle.gaspi_types.specs.declared.events.Event.TheVariants.{Called, Joined, Take, Put}
 use Rattle.gaspi_types.specs.declared.shapes.CallerId.{CallerId}
@@ -28,7 +28,7 @@ same-tests true b there back = sym (there refl)
 same-tests false true there back = back refl
 same-tests false false there back = refl
 
-module _ (w : World) (c : CallerId) (world : IsWorld w) (declared : list_any (is_caller c.rank c.thread) w.callers ≡ true) where
+module _ (w : ShapeValue) (c : CallerId) (world : IsShape w) (declared : list_any (is_caller c.rank c.thread) w.callers ≡ true) where
   party-of-caller : (d : CallerId) → is_party (number_of w.callers c) (caller_party w.callers d) ≡ is_caller c.rank c.thread d
   party-of-caller d = go (list_any (is_caller d.rank d.thread) w.callers) refl
     where
@@ -54,5 +54,5 @@ module _ (w : World) (c : CallerId) (world : IsWorld w) (declared : list_any (is
       ∙ ap (λ (rest : List Event). cond (is_event_of c e) (e ∷ rest) rest) (own-events history)
 
 -- what a party did is what its caller did
-pub mine-events : (w : World) (c : CallerId) (history : List Event) → IsWorld w → list_any (is_caller c.rank c.thread) w.callers ≡ true → events_by (party_of w) (number_of w.callers c) history ≡ events_of c history
+pub mine-events : (w : ShapeValue) (c : CallerId) (history : List Event) → IsShape w → list_any (is_caller c.rank c.thread) w.callers ≡ true → events_by (party_of w) (number_of w.callers c) history ≡ events_of c history
 mine-events w c history world declared = own-events w c world declared history

@@ -3,9 +3,9 @@ use Rattle.std.proofs.Common.{◌≡◌, ℕ, ◌+◌, Bool, true, false, nat_lt
 use Rattle.std.specs.List.{slice_get, list_any}
 use Rattle.std.specs.Option.{option_map}
 use Rattle.gaspi_types.specs.CallRows.{row_of}
-use Rattle.gaspi_types.specs.Checks.{◌>>=◌, check, found, absent}
-use Rattle.gaspi_types.specs.Collectives.{resume, is_turn_full}
-use Rattle.gaspi_types.specs.Groups.{next_group, building_at, drop_checks, idle_checks}
+use Rattle.gaspi_types.specs.Checks.{◌>>=◌, check, ok_or, err_if_some}
+use Rattle.gaspi_types.specs.Collectives.{resume, is_round_full}
+use Rattle.gaspi_types.specs.Groups.{next_group, building_at, delete_checks, idle_checks}
 use Rattle.gaspi_types.specs.Inboxes.{passive_checks, has_room, first_within}
 use Rattle.gaspi_types.specs.Lanes.{has_awaited}
 use Rattle.gaspi_types.specs.Queues.{user_of}
@@ -14,7 +14,7 @@ use Rattle.gaspi_types.specs.SegmentTables.{extent_in, known_extent, alloc_check
 use Rattle.gaspi_types.specs.SegmentWords.{word_checks}
 use Rattle.gaspi_types.specs.Segments.{is_generation}
 use Rattle.gaspi_types.specs.Slots.{is_slot_range, first_set}
-use Rattle.gaspi_types.specs.Tables.{entry_at}
+use Rattle.gaspi_types.specs.Tables.{item_at}
 use Rattle.gaspi_types.specs.declared.call_rows.Posting.{Posting}
 use Rattle.gaspi_types.specs.declared.calls.Call.{Call}
 use Rattle.gaspi_types.specs.declared.calls.Call.TheVariants as calls
@@ -31,11 +31,11 @@ use Rattle.gaspi_types.specs.declared.replies.Reply.{Reply}
 use Rattle.gaspi_types.specs.declared.replies.Reply.TheVariants as replies
 use Rattle.gaspi_types.specs.declared.shapes.Limits.{Limits}
 use Rattle.gaspi_types.proofs.Chains.{bind_then}
-use Rattle.gaspi_model.specs.AtomicCalls.{word_finds}
-use Rattle.gaspi_model.specs.Calls.{plain_finds, call_asks, call_finds, ready_of, answer}
-use Rattle.gaspi_model.specs.CollectiveCalls.{element_checks, staged_at, args_of, segment_checks, meeting_checks, full_reply, resumed_finds, met_finds, collective_finds, collective_ready, collective_answer}
+use Rattle.gaspi_model.specs.AtomicCalls.{word_result}
+use Rattle.gaspi_model.specs.Calls.{plain_result, requested_kinds, call_result, ready_of, answer}
+use Rattle.gaspi_model.specs.CollectiveCalls.{element_checks, staged_at, args_of, segment_checks, agreement_checks, full_reply, resumed_answer, resume_result, collective_result, collective_ready, collective_answer}
 use Rattle.gaspi_model.specs.Memories.{slots_of}
-use Rattle.gaspi_model.specs.PostCalls.{asked_finds}
+use Rattle.gaspi_model.specs.PostCalls.{post_request_result}
 use Rattle.gaspi_model.specs.State.{thread_at, is_running, segment_at}
 use Rattle.gaspi_model.specs.Step.{answer_in, answer_for, group_in, call_memory}
 use Rattle.gaspi_model.specs.declared.states.Memory.{Memory}
@@ -72,44 +72,44 @@ named f None h = (let no : ⊥ = cc in no)
 named f (Some x) h = (let no : ⊥ = cc in no)
 
 -- an atomic
-word-none : (limits : Limits) (me : ℕ) (posts : Posts) (memory : Memory) (seg offset rank : ℕ) → IsNoTimeout (word_finds limits me posts memory seg offset rank)
+word-none : (limits : Limits) (me : ℕ) (posts : Posts) (memory : Memory) (seg offset rank : ℕ) → IsNoTimeout (word_result limits me posts memory seg offset rank)
 word-none limits me posts memory seg offset rank =
     chained (check (nat_lt rank limits.ranks) refusals.BadRank) _ _ (λ ranked.
-    chained (found (known_extent me posts.segments rank seg) refusals.Unregistered) _ _ (λ theirs.
+    chained (ok_or (known_extent me posts.segments rank seg) refusals.Unregistered) _ _ (λ theirs.
     chained (check (is_generation theirs.generation (segment_at memory seg)) refusals.Unregistered) _ _ (λ there.
     chained (word_checks theirs.size offset) _ _ (λ fits. replies-so _ refl))))
 
 -- a call that posts
-asked-none : (limits : Limits) (posts : Posts) (rank queue : ℕ) (asked : Result (List Kind) Refusal) → IsNoTimeout (asked_finds limits posts rank queue asked)
+asked-none : (limits : Limits) (posts : Posts) (rank queue : ℕ) (asked : Result (List Kind) Refusal) → IsNoTimeout (post_request_result limits posts rank queue asked)
 asked-none limits posts rank queue asked =
     chained (check (nat_lt rank limits.ranks) refusals.BadRank) _ _ (λ ranked.
-    chained (found (slice_get posts.queues queue) refusals.BadQueue) _ _ (λ q.
+    chained (ok_or (slice_get posts.queues queue) refusals.BadQueue) _ _ (λ q.
     chained asked _ _ (λ kinds.
-    chained (absent q.broken refusals.QueueBroken) _ _ (λ whole.
+    chained (err_if_some q.broken refusals.QueueBroken) _ _ (λ whole.
     chained (check (nat_le (q.open_count + length kinds) limits.depth) (refusals.QueueFull q.open_count (length kinds))) _ _ (λ room. replies-so _ refl)))))
 
 -- a call that posts nothing
-plain-none : (limits : Limits) (me : ℕ) (posts : Posts) (memory : Memory) (call : Call) → IsNoTimeout (plain_finds limits me posts memory call)
+plain-none : (limits : Limits) (me : ℕ) (posts : Posts) (memory : Memory) (call : Call) → IsNoTimeout (plain_result limits me posts memory call)
 plain-none limits me posts memory (calls.Alloc call) = chained (alloc_checks posts.segments.own call.seg call.size) _ _ (λ fits. replies-so _ refl)
 plain-none limits me posts memory (calls.Register call) =
     chained (check (nat_lt call.rank limits.ranks) refusals.BadRank) _ _ (λ ranked.
-    chained (found (extent_in posts.segments.own call.seg) refusals.NoSegment) _ _ (λ mine. replies-so _ refl))
+    chained (ok_or (extent_in posts.segments.own call.seg) refusals.NoSegment) _ _ (λ mine. replies-so _ refl))
 plain-none limits me posts memory (calls.Delete call) =
-    chained (found (extent_in posts.segments.own call.seg) refusals.NoSegment) _ _ (λ mine.
-    chained (absent (user_of posts.queues call.seg) refusals.SegmentBusy) _ _ (λ unused. replies-so _ refl))
+    chained (ok_or (extent_in posts.segments.own call.seg) refusals.NoSegment) _ _ (λ mine.
+    chained (err_if_some (user_of posts.queues call.seg) refusals.SegmentBusy) _ _ (λ unused. replies-so _ refl))
 plain-none limits me posts memory (calls.Store call) = chained (own_range_checks posts.segments.own call.seg call.offset (length call.bytes)) _ _ (λ fits. replies-so _ refl)
 plain-none limits me posts memory (calls.Load call) = chained (own_range_checks posts.segments.own call.seg call.offset call.size) _ _ (λ fits. replies-so _ refl)
 plain-none limits me posts memory (calls.Wait call) =
-    chained (found (slice_get posts.queues call.queue) refusals.BadQueue) _ _ (λ q.
-    chained (absent q.broken refusals.QueueBroken) _ _ (λ whole. done-unless (list_any has_awaited q.lanes)))
-plain-none limits me posts memory (calls.Purge call) = chained (found (slice_get posts.queues call.queue) refusals.BadQueue) _ _ (λ q. replies-so _ refl)
-plain-none limits me posts memory (calls.Qsize call) = chained (found (slice_get posts.queues call.queue) refusals.BadQueue) _ _ (λ q. replies-so _ refl)
+    chained (ok_or (slice_get posts.queues call.queue) refusals.BadQueue) _ _ (λ q.
+    chained (err_if_some q.broken refusals.QueueBroken) _ _ (λ whole. done-unless (list_any has_awaited q.lanes)))
+plain-none limits me posts memory (calls.Purge call) = chained (ok_or (slice_get posts.queues call.queue) refusals.BadQueue) _ _ (λ q. replies-so _ refl)
+plain-none limits me posts memory (calls.Qsize call) = chained (ok_or (slice_get posts.queues call.queue) refusals.BadQueue) _ _ (λ q. replies-so _ refl)
 plain-none limits me posts memory (calls.Waitsome call) =
-    chained (found (extent_in posts.segments.own call.seg) refusals.NoSegment) _ _ (λ mine.
+    chained (ok_or (extent_in posts.segments.own call.seg) refusals.NoSegment) _ _ (λ mine.
     chained (check (is_slot_range call.begin call.num limits.notes) refusals.BadNote) _ _ (λ noted.
     named (λ (n : ℕ). n) (first_set (slots_of memory call.seg) call.begin call.num)))
 plain-none limits me posts memory (calls.Reset call) =
-    chained (found (extent_in posts.segments.own call.seg) refusals.NoSegment) _ _ (λ mine.
+    chained (ok_or (extent_in posts.segments.own call.seg) refusals.NoSegment) _ _ (λ mine.
     chained (check (nat_lt call.note limits.notes) refusals.BadNote) _ _ (λ noted. replies-so _ refl))
 plain-none limits me posts memory (calls.PassiveSend call) =
     chained (check (nat_lt call.rank limits.ranks) refusals.BadRank) _ _ (λ ranked.
@@ -125,22 +125,22 @@ plain-none limits me posts memory (calls.GroupAdd call) =
     chained (building_at posts.groups call.group) _ _ (λ handle.
     chained (idle_checks posts.pending call.group) _ _ (λ idle. replies-so _ refl)))
 plain-none limits me posts memory (calls.GroupDelete call) =
-    chained (drop_checks posts.groups call.group) _ _ (λ there.
+    chained (delete_checks posts.groups call.group) _ _ (λ there.
     chained (idle_checks posts.pending call.group) _ _ (λ idle. replies-so _ refl))
 plain-none limits me posts memory calls.State = replies-so _ refl
 plain-none limits me posts memory call = replies-so replies.Done refl
 
-call-none : (limits : Limits) (me : ℕ) (posts : Posts) (memory : Memory) (call : Call) → IsNoTimeout (call_finds limits me posts memory call)
+call-none : (limits : Limits) (me : ℕ) (posts : Posts) (memory : Memory) (call : Call) → IsNoTimeout (call_result limits me posts memory call)
 call-none limits me posts memory call h = go (row_of call).posting refl
   where
     go : (o : Option Posting) → (row_of call).posting ≡ o → ⊥
     go None posts_none = plain-none limits me posts memory call (rw posts_none at h)
-    go (Some to) posts_to = asked-none limits posts to.rank to.queue (call_asks limits me posts call) (rw posts_to at h)
+    go (Some to) posts_to = asked-none limits posts to.rank to.queue (requested_kinds limits me posts call) (rw posts_to at h)
 
 -- Nor is what a look at it answers.
 
 abbrev IsTimely : Ready → Type 0
-IsTimely found = found ≡ ready.Reply replies.Timeout → ⊥
+IsTimely ok_or = ok_or ≡ ready.Reply replies.Timeout → ⊥
 
 ready-timely : (finds : Result (Option Reply) Refusal) → IsNoTimeout finds → IsTimely (ready_of finds)
 ready-timely (Ok None) none h = (let no : ⊥ = cc in no)
@@ -151,7 +151,7 @@ plain-timely : (limits : Limits) (me : ℕ) (posts : Posts) (memory : Memory) (t
 plain-timely limits me posts memory thread call h = go (is_running (thread_at posts thread)) refl
   where
     go : (b : Bool) → is_running (thread_at posts thread) ≡ b → ⊥
-    go true runs = ready-timely (call_finds limits me posts memory call) (call-none limits me posts memory call) (rw runs at h)
+    go true runs = ready-timely (call_result limits me posts memory call) (call-none limits me posts memory call) (rw runs at h)
     go false ended = (let refused : ready.Reply (replies.Refused refusals.CallerEnded) ≡ ready.Reply replies.Timeout = rw ended at h in let no : ⊥ = cc in no)
 
 -- Nor what a look at a collective answers.
@@ -160,35 +160,35 @@ full-awake : (g : Group) (me : ℕ) (call : Call) → is_idle (full_reply g me c
 full-awake g me (calls.Allreduce call) = refl
 full-awake g me call = refl
 
-resumed-timely : (g : Group) (me : ℕ) (call : Call) → IsTimely (resumed_finds g me call)
-resumed-timely g me call h = go (is_turn_full g me) refl
+resumed-timely : (g : Group) (me : ℕ) (call : Call) → IsTimely (resumed_answer g me call)
+resumed-timely g me call h = go (is_round_full g me) refl
   where
-    go : (b : Bool) → is_turn_full g me ≡ b → ⊥
+    go : (b : Bool) → is_round_full g me ≡ b → ⊥
     go true full = (let replied : ready.Reply (full_reply g me call) ≡ ready.Reply replies.Timeout = rw full at h in awake (full_reply g me call) (full-awake g me call) (let same : full_reply g me call ≡ replies.Timeout = cc in same))
     go false late = (let none : ready.NotReady ≡ ready.Reply replies.Timeout = rw late at h in let no : ⊥ = cc in no)
 
-met-timely : (r : Resume) (posts : Posts) (g : Group) (me members : ℕ) (call : Call) → met_finds r posts g me members call ≡ Ok (ready.Reply replies.Timeout) → ⊥
-met-timely Fresh posts g me members call =
+on_group-timely : (r : Resume) (posts : Posts) (g : Group) (me members : ℕ) (call : Call) → resume_result r posts g me members call ≡ Ok (ready.Reply replies.Timeout) → ⊥
+on_group-timely Fresh posts g me members call =
     chained (segment_checks posts call) _ _ (λ free.
-    chained (found (args_of members call) refusals.BadSize) _ _ (λ args.
-    chained (meeting_checks g me args.coll) _ _ (λ meets h. (let no : ⊥ = cc in no))))
-met-timely Same posts g me members call = λ h. resumed-timely g me call (let same : resumed_finds g me call ≡ ready.Reply replies.Timeout = cc in same)
+    chained (ok_or (args_of members call) refusals.BadSize) _ _ (λ args.
+    chained (agreement_checks g me args.coll) _ _ (λ meets h. (let no : ⊥ = cc in no))))
+on_group-timely Same posts g me members call = λ h. resumed-timely g me call (let same : resumed_answer g me call ≡ ready.Reply replies.Timeout = cc in same)
 
-collective-none : (posts : Posts) (g : Group) (me thread id : ℕ) (call : Call) → collective_finds posts g me thread id call ≡ Ok (ready.Reply replies.Timeout) → ⊥
+collective-none : (posts : Posts) (g : Group) (me thread id : ℕ) (call : Call) → collective_result posts g me thread id call ≡ Ok (ready.Reply replies.Timeout) → ⊥
 collective-none posts g me thread id call =
     chained (element_checks call) _ _ (λ elements.
     chained (staged_at posts.groups me id call) _ _ (λ handle.
-    chained (resume (entry_at posts.pending id) thread (args_of handle.members call)) _ _ (λ resumed. met-timely resumed posts g me handle.members call)))
+    chained (resume (item_at posts.pending id) thread (args_of handle.members call)) _ _ (λ resumed. on_group-timely resumed posts g me handle.members call)))
 
 collective-ready-timely : (finds : Result Ready Refusal) → (finds ≡ Ok (ready.Reply replies.Timeout) → ⊥) → IsTimely (collective_ready finds)
-collective-ready-timely (Ok found) none h = none (ap (λ (r : Ready). Ok r) h)
+collective-ready-timely (Ok ok_or) none h = none (ap (λ (r : Ready). Ok r) h)
 collective-ready-timely (Err refusal) none h = (let no : ⊥ = cc in no)
 
 collective-timely : (posts : Posts) (g : Group) (me thread id : ℕ) (call : Call) → IsTimely (collective_answer posts g me thread id call)
 collective-timely posts g me thread id call h = go (is_running (thread_at posts thread)) refl
   where
     go : (b : Bool) → is_running (thread_at posts thread) ≡ b → ⊥
-    go true runs = collective-ready-timely (collective_finds posts g me thread id call) (collective-none posts g me thread id call) (rw runs at h)
+    go true runs = collective-ready-timely (collective_result posts g me thread id call) (collective-none posts g me thread id call) (rw runs at h)
     go false ended = (let refused : ready.Reply (replies.Refused refusals.CallerEnded) ≡ ready.Reply replies.Timeout = rw ended at h in let no : ⊥ = cc in no)
 
 answer-timely : (s : State) (rank thread : ℕ) (call : Call) (posts : Posts) (group : Option ℕ) → IsTimely (answer_for s rank thread call posts group)

@@ -1,20 +1,20 @@
 -- The commit of a transfer that is the front of its lane.
 use Rattle.std.proofs.Common.{◌≡◌, ℕ, Bool, true, false, eq-eqb, List, [], ◌∷◌, ◌++◌, length, Option, None, Some, IsOk, refl, sym, ap, ◌∙◌, subst, if◌then◌else◌, is_ok}
-use Rattle.gaspi_types.specs.World.{World, IsWorld}
+use Rattle.gaspi_types.specs.World.{ShapeValue, IsShape}
 use Rattle.gaspi_types.specs.declared.events.Event.{Event}
 use Rattle.gaspi_types.specs.declared.events.Outcome.{Outcome}
 use Rattle.gaspi_types.specs.declared.events.Outcome.TheVariants.{Applied}
 use Rattle.gaspi_types.specs.declared.events.Transfer.{Transfer}
 use Rattle.gaspi_types.specs.declared.shapes.Limits.{Limits}
 use Rattle.gaspi_model.specs.Parties.{party_of}
-use Rattle.gaspi_model.specs.Step.{step, is_legal, owner_of, event_reach, event_touch}
+use Rattle.gaspi_model.specs.Step.{step, is_legal, owner_of, event_footprint, declared_footprint}
 use Rattle.gaspi_model.specs.declared.states.State.{State}
 use Rattle.gaspi_model.proofs.Histories.{reached-sound}
 use Rattle.gaspi_model.specs.Sound.{IsSound}
-use Rattle.commit_table.specs.Attempts.{LookedOnly, Recorded}
+use Rattle.commit_table.specs.Attempts.{IsLookedOnly, IsCommittedOnce}
 use Rattle.commit_table.specs.Calls.{MayCommit, Committed}
-use Rattle.commit_table.specs.Views.{mine_after, gave_back}
-use Rattle.commit_table.specs.declared.views.Known.{Known}
+use Rattle.commit_table.specs.Views.{mine_after, after_give_back}
+use Rattle.commit_table.specs.declared.views.PassView.{PassView}
 use Rattle.commit_table.specs.declared.views.LockOp.{LockOp}
 use Rattle.commit_table.proofs.Lists.{prefix_trans, prefix_length}
 use Rattle.rank_node.specs.HeldNodes.{peer_of, group_of, IsSameKind}
@@ -27,18 +27,18 @@ use Rattle.gaspi_world.specs.RankShards.{rank_other}
 use Rattle.gaspi_world.specs.ShardLaws.{arrives, limits-are, goes-on}
 use Rattle.gaspi_world.specs.ShardMachine.{state_after}
 use Rattle.gaspi_world.proofs.HeldShards.{may-commit, added}
-use Rattle.gaspi_world.specs.Holds.{Holds, Added, values_of, left_by}
-use Rattle.gaspi_world.specs.Moves.{is_transfer_of, IsFrontHeld, IsMovedBehind, Moves}
+use Rattle.gaspi_world.specs.HeldShards.{Holds, IsCommitted, values_of, left_by}
+use Rattle.gaspi_world.specs.Transfers.{is_transfer_of, IsFrontHeld, IsMovedBehind, Transfers}
 use Rattle.gaspi_world.specs.Shards.{node_meaning}
 use Rattle.gaspi_world.specs.WorldMachine.{world_machine}
 use Rattle.gaspi_world.specs.declared.holding.HeldShards.{HeldShards}
 use Rattle.gaspi_world.specs.declared.moving.Moving.TheVariants as moves
 use Rattle.gaspi_world.proofs.CommittedNodes.{agrees-self, own-at, lends-at, shards-of, step-on, committed-holds}
-use Rattle.gaspi_world.proofs.HeldNodes.{IsReach, reach-is}
-use Rattle.gaspi_world.proofs.Transferring.{FrontLaws, ok-state, owner-origin, front-reach, event-put, event-take}
+use Rattle.gaspi_world.proofs.HeldNodes.{IsReach, footprint-is}
+use Rattle.gaspi_world.proofs.Transferring.{FrontLaws, ok-state, owner-origin, front-footprint, event-put, event-take}
 
 -- a transfer has no party, and is one of its origin
-no-party : (w : World) (t : Transfer) (outcome : Outcome) → party_of w (event_of t outcome) ≡ None
+no-party : (w : ShapeValue) (t : Transfer) (outcome : Outcome) → party_of w (event_of t outcome) ≡ None
 no-party w t outcome = go t.put
   where
     go : (b : Bool) → party_of w (if b then put_of t outcome else take_of t outcome) ≡ None
@@ -52,7 +52,7 @@ is-transfer t outcome = go t.put
     go true = eq-eqb t.origin t.origin refl
     go false = eq-eqb t.origin t.origin refl
 
-module _ {S : Type 0} (w : World) (world : IsWorld w) (laws : FrontLaws) (h : HeldShards) (v : Known S Event) (holds : Holds w h v) (t : Transfer) (front : IsFrontHeld w t h) where
+module _ {S : Type 0} (w : ShapeValue) (world : IsShape w) (laws : FrontLaws) (h : HeldShards) (v : PassView S Event) (holds : Holds w h v) (t : Transfer) (front : IsFrontHeld w t h) where
   legal : is_legal w v.seen ≡ true
   legal = holds.shards.legal
 
@@ -62,23 +62,23 @@ module _ {S : Type 0} (w : World) (world : IsWorld w) (laws : FrontLaws) (h : He
   own-is : (outcome : Outcome) → h.own ≡ owner_of (event_of t outcome)
   own-is outcome = front.own ∙ sym (owner-origin t outcome)
 
-  reached : (outcome : Outcome) → IsReach w.limits.ranks h.own (event_reach w.limits h.nodes.own.value.posts.posts (event_of t outcome))
+  reached : (outcome : Outcome) → IsReach w.limits.ranks h.own (event_footprint w.limits h.nodes.own.value.posts.posts (event_of t outcome))
   reached outcome =
-      subst (λ (n : ℕ). IsReach w.limits.ranks n (event_reach w.limits h.nodes.own.value.posts.posts (event_of t outcome))) (sym (own-is outcome))
-      (reach-is w.limits.ranks (owner_of (event_of t outcome)) (event_touch h.nodes.own.value.posts.posts (event_of t outcome)))
+      subst (λ (n : ℕ). IsReach w.limits.ranks n (event_footprint w.limits h.nodes.own.value.posts.posts (event_of t outcome))) (sym (own-is outcome))
+      (footprint-is w.limits.ranks (owner_of (event_of t outcome)) (declared_footprint h.nodes.own.value.posts.posts (event_of t outcome)))
 
-  other-is : (outcome : Outcome) → h.other ≡ rank_other w.limits.ranks (event_reach w.limits h.nodes.own.value.posts.posts (event_of t outcome))
+  other-is : (outcome : Outcome) → h.other ≡ rank_other w.limits.ranks (event_footprint w.limits h.nodes.own.value.posts.posts (event_of t outcome))
   other-is outcome =
       let here = (own-at w world h v holds v.seen legal (agrees-self w world h v holds)).posts in
       front.other front.front.entry front.front.next
-      ∙ ap (rank_other w.limits.ranks) (sym (front-reach w world laws v.seen legal h.nodes.own.value.posts t front.front h.own front.front.entry outcome here front.front.next))
+      ∙ ap (rank_other w.limits.ranks) (sym (front-footprint w world laws v.seen legal h.nodes.own.value.posts t front.front h.own front.front.entry outcome here front.front.next))
 
   -- the nodes are lent for it, however it ends
   pub lends-front : LendsForTransfer (state_after w v.seen) t h.nodes.own.value (peer_of h.nodes.other) (group_of h.nodes.other)
   lends-front =
-      let lends = lends-at w world h v holds v.seen (event_reach w.limits h.nodes.own.value.posts.posts (event_of t Applied)) legal (agrees-self w world h v holds) (reached Applied) (other-is Applied) in
-      subst (λ (l : Limits). Lends (state_after w v.seen) t.origin (event_reach l h.nodes.own.value.posts.posts (event_of t Applied)) h.nodes.own.value (peer_of h.nodes.other) (group_of h.nodes.other)) (sym (limits-are w v.seen legal))
-      (subst (λ (n : ℕ). Lends (state_after w v.seen) n (event_reach w.limits h.nodes.own.value.posts.posts (event_of t Applied)) h.nodes.own.value (peer_of h.nodes.other) (group_of h.nodes.other)) front.own lends)
+      let lends = lends-at w world h v holds v.seen (event_footprint w.limits h.nodes.own.value.posts.posts (event_of t Applied)) legal (agrees-self w world h v holds) (reached Applied) (other-is Applied) in
+      subst (λ (l : Limits). Lends (state_after w v.seen) t.origin (event_footprint l h.nodes.own.value.posts.posts (event_of t Applied)) h.nodes.own.value (peer_of h.nodes.other) (group_of h.nodes.other)) (sym (limits-are w v.seen legal))
+      (subst (λ (n : ℕ). Lends (state_after w v.seen) n (event_footprint w.limits h.nodes.own.value.posts.posts (event_of t Applied)) h.nodes.own.value (peer_of h.nodes.other) (group_of h.nodes.other)) front.own lends)
 
   module _ (outcome : Outcome) (is_step : IsOk (step (state_after w v.seen) (event_of t outcome))) where
     may-follow : is_legal w (v.seen ++ event_of t outcome ∷ []) ≡ true
@@ -111,10 +111,10 @@ module _ {S : Type 0} (w : World) (world : IsWorld w) (laws : FrontLaws) (h : He
     )
 
     -- It was committed, and recorded.
-    as-committed : (made : Event) (place : ℕ) (k : List Event) (u : Known S Event) → made ≡ event_of t outcome → Committed (world_machine w) v made place k u → Committed (world_machine w) v (event_of t outcome) place k u
+    as-committed : (made : Event) (place : ℕ) (k : List Event) (u : PassView S Event) → made ≡ event_of t outcome → Committed (world_machine w) v made place k u → Committed (world_machine w) v (event_of t outcome) place k u
     as-committed made place k u is c = subst (λ (e : Event). Committed (world_machine w) v e place k u) is c
 
-    pub committed-front : (made e : Event) (place : ℕ) (k : List Event) (u : Known S Event) (new : HeldNodes) → made ≡ event_of t outcome → event_of t outcome ≡ e → IsSameKind new.other h.nodes.other → Committed (world_machine w) v made place k u
+    pub committed-front : (made e : Event) (place : ℕ) (k : List Event) (u : PassView S Event) (new : HeldNodes) → made ≡ event_of t outcome → event_of t outcome ≡ e → IsSameKind new.other h.nodes.other → Committed (world_machine w) v made place k u
         → ((s after : State) → IsStepOn s after e h.nodes.own.value (peer_of h.nodes.other) (group_of h.nodes.other)
         → IsLeft s after e place h.nodes.own.value new.own.value (peer_of h.nodes.other) (peer_of new.other) (group_of new.other)) → Holds w (record { own = h.own; other = h.other; nodes = new }) u
     committed-front made e place k u new is same kind c left =
@@ -123,13 +123,13 @@ module _ {S : Type 0} (w : World) (world : IsWorld w) (laws : FrontLaws) (h : He
         subst (λ (x : Event). (s after : State) → IsStepOn s after x h.nodes.own.value (peer_of h.nodes.other) (group_of h.nodes.other) → IsLeft s after x place h.nodes.own.value new.own.value (peer_of h.nodes.other) (peer_of new.other) (group_of new.other)) (sym same) left in
         committed-holds w world h v holds (event_of t outcome) place k u new (own-is outcome) (reached outcome) (other-is outcome) kind left_by_event (as-committed made place k u is c)
 
-    pub moved-behind : (made : Event) (place : ℕ) (k : List Event) (u : Known S Event) → made ≡ event_of t outcome → Committed (world_machine w) v made place k u → IsMovedBehind w t.origin v u
+    pub moved-behind : (made : Event) (place : ℕ) (k : List Event) (u : PassView S Event) → made ≡ event_of t outcome → Committed (world_machine w) v made place k u → IsMovedBehind w t.origin v u
     moved-behind made place k u is c = (event_of t outcome, is-transfer t outcome, added (by_ranks w) w (node_meaning w) (party_of w) v u (event_of t outcome) place k (as-committed made place k u is c))
 
 -- A transfer that was committed after one look, whatever others committed between, is recorded.
-module _ {S : Type 0} (w : World) where
-  moved-once : (h : HeldShards) (v u z : Known S Event) (e : Event) (held : List (ℕ × Option (List Event))) (turns : List (ℕ × LockOp)) → LookedOnly (world_machine w) v u → (a : Added w u e z) → Holds w h z
-      → Recorded (world_machine w) v e (length a.before) (record z { held = held; turns = turns })
+module _ {S : Type 0} (w : ShapeValue) where
+  moved-once : (h : HeldShards) (v u z : PassView S Event) (e : Event) (held : List (ℕ × Option (List Event))) (turns : List (ℕ × LockOp)) → IsLookedOnly (world_machine w) v u → (a : IsCommitted w u e z) → Holds w h z
+      → IsCommittedOnce (world_machine w) v e (length a.before) (record z { held = held; turns = turns })
   moved-once h v u z e held turns look a holds = record {
     before = a.before;
     seen = a.seen;
@@ -146,10 +146,10 @@ module _ {S : Type 0} (w : World) where
     start = a.start ∙ look.start;
   }
 
-  pub moved-left : (h : HeldShards) (v u z n : Known S Event) (origin own : ℕ) (other : Option ℕ) → LookedOnly (world_machine w) v u → IsMovedBehind w origin u z → Holds w h z → n ≡ left_by own other z → Moves w origin v moves.Moved n
+  pub moved-left : (h : HeldShards) (v u z n : PassView S Event) (origin own : ℕ) (other : Option ℕ) → IsLookedOnly (world_machine w) v u → IsMovedBehind w origin u z → Holds w h z → n ≡ left_by own other z → Transfers w origin v moves.Moved n
   moved-left h v u z n origin own other look (e, is, a) holds left =
-      (e, length a.before, is, subst (λ (y : Known S Event). Recorded (world_machine w) v e (length a.before) y) (sym left) (go other))
+      (e, length a.before, is, subst (λ (y : PassView S Event). IsCommittedOnce (world_machine w) v e (length a.before) y) (sym left) (go other))
     where
-      go : (other : Option ℕ) → Recorded (world_machine w) v e (length a.before) (left_by own other z)
-      go None = moved-once h v u z e (gave_back z own).held (gave_back z own).turns look a holds
-      go (Some j) = moved-once h v u z e (gave_back (gave_back z j) own).held (gave_back (gave_back z j) own).turns look a holds
+      go : (other : Option ℕ) → IsCommittedOnce (world_machine w) v e (length a.before) (left_by own other z)
+      go None = moved-once h v u z e (after_give_back z own).held (after_give_back z own).lock_records look a holds
+      go (Some j) = moved-once h v u z e (after_give_back (after_give_back z j) own).held (after_give_back (after_give_back z j) own).lock_records look a holds

@@ -1,16 +1,16 @@
 -- A try to make a transfer that took its origin's shard, missed another one, looked, and gave the first back.
 use Rattle.std.proofs.Common.{◌≡◌, ℕ, List, [], ◌∷◌, refl, ap, sym, subst, ◌∙◌}
 use Rattle.commit_table.specs.Machine.{Machine}
-use Rattle.commit_table.specs.Calls.{Looked, Met}
-use Rattle.commit_table.specs.Views.{took, missed, looked, gave_back}
-use Rattle.commit_table.specs.declared.views.Known.{Known}
+use Rattle.commit_table.specs.Calls.{Looked, MissWitness}
+use Rattle.commit_table.specs.Views.{after_take, after_miss, after_look, after_give_back}
+use Rattle.commit_table.specs.declared.views.PassView.{PassView}
 use Rattle.commit_table.specs.declared.views.LockOp.TheVariants as lock_op
-use Rattle.commit_table.specs.declared.views.Turn.{Turn}
-use Rattle.gaspi_world.specs.Moves.{MissedLooking}
+use Rattle.commit_table.specs.declared.views.LockRecord.{LockRecord}
+use Rattle.gaspi_world.specs.Transfers.{MissedLooking}
 
 module _ {S X E : Type 0} (m : Machine X E) (May : List E → ℕ → Type 0) where
-  all-moves : (v : Known S E) (i j number : ℕ) (g h : List E) (turns : List Turn) → Met (took v i g) j turns → Looked m (missed (took v i g) j turns) number h (looked (missed (took v i g) j turns) h)
-      → May h j → MissedLooking m v i May (gave_back (looked (missed (took v i g) j turns) h) i)
+  all-moves : (v : PassView S E) (i j number : ℕ) (g h : List E) (turns : List LockRecord) → MissWitness (after_take v i g) j turns → Looked m (after_miss (after_take v i g) j turns) number h (after_look (after_miss (after_take v i g) j turns) h)
+      → May h j → MissedLooking m v i May (after_give_back (after_look (after_miss (after_take v i g) j turns) h) i)
   all-moves v i j number g h turns met l may = record {
     shard = j;
     may = may;
@@ -34,11 +34,11 @@ module _ {S X E : Type 0} (m : Machine X E) (May : List E → ℕ → Type 0) wh
     start = refl;
   }
 
-  pub missed-looking : (v t u x z : Known S E) (i j number : ℕ) (g h : List E) (turns : List Turn) → t ≡ took v i g → u ≡ missed t j turns → Met t j turns → Looked m u number h x → z ≡ gave_back x i → May h j → MissedLooking m v i May z
+  pub missed-looking : (v t u x z : PassView S E) (i j number : ℕ) (g h : List E) (turns : List LockRecord) → t ≡ after_take v i g → u ≡ after_miss t j turns → MissWitness t j turns → Looked m u number h x → z ≡ after_give_back x i → May h j → MissedLooking m v i May z
   missed-looking v t u x z i j number g h turns took_is missed_is met l last may =
-      let first : u ≡ missed (took v i g) j turns = missed_is ∙ ap (λ (y : Known S E). missed y j turns) took_is in
-      let whole : x ≡ looked (missed (took v i g) j turns) h = l.is ∙ ap (λ (y : Known S E). looked y h) first in
-      let there : Looked m (missed (took v i g) j turns) number h (looked (missed (took v i g) j turns) h) =
-      subst (λ (y : Known S E). Looked m (missed (took v i g) j turns) number h y) whole (subst (λ (y : Known S E). Looked m y number h x) first l) in
-      subst (λ (y : Known S E). MissedLooking m v i May y) (sym (last ∙ ap (λ (y : Known S E). gave_back y i) whole))
-      (all-moves v i j number g h turns (subst (λ (y : Known S E). Met y j turns) took_is met) there may)
+      let first : u ≡ after_miss (after_take v i g) j turns = missed_is ∙ ap (λ (y : PassView S E). after_miss y j turns) took_is in
+      let whole : x ≡ after_look (after_miss (after_take v i g) j turns) h = l.is ∙ ap (λ (y : PassView S E). after_look y h) first in
+      let there : Looked m (after_miss (after_take v i g) j turns) number h (after_look (after_miss (after_take v i g) j turns) h) =
+      subst (λ (y : PassView S E). Looked m (after_miss (after_take v i g) j turns) number h y) whole (subst (λ (y : PassView S E). Looked m y number h x) first l) in
+      subst (λ (y : PassView S E). MissedLooking m v i May y) (sym (last ∙ ap (λ (y : PassView S E). after_give_back y i) whole))
+      (all-moves v i j number g h turns (subst (λ (y : PassView S E). MissWitness y j turns) took_is met) there may)

@@ -1,8 +1,8 @@
 -- The next transfer of a rank, as the node of the rank tells it, is a transfer that may come next in the state.
 use Rattle.std.proofs.Common.{◌≡◌, ℕ, zero, suc, ◌<◌, inr, Bool, true, false, ◌||◌, eqb, List, [], ◌∷◌, Option, None, Some, IsOk, Result, Ok, Err, refl, sym, ap, ◌∙◌, subst, if◌then◌else◌}
 use Rattle.std.specs.List.{list_any, slice_get}
-use Rattle.gaspi_types.specs.Touches.{take_touch, put_touch}
-use Rattle.gaspi_types.specs.World.{World, IsWorld}
+use Rattle.gaspi_types.specs.Footprints.{take_footprint, put_footprint}
+use Rattle.gaspi_types.specs.World.{ShapeValue, IsShape}
 use Rattle.gaspi_types.specs.declared.entries.Entry.{Entry}
 use Rattle.gaspi_types.specs.declared.events.Event.{Event}
 use Rattle.gaspi_types.specs.declared.events.Event.TheVariants.{Take, Put}
@@ -12,7 +12,7 @@ use Rattle.gaspi_types.specs.declared.shapes.Limits.{Limits}
 use Rattle.gaspi_model.specs.Shards.{numbers_of}
 use Rattle.gaspi_model.specs.Sound.{IsSound}
 use Rattle.gaspi_model.specs.State.{thread_at, is_running}
-use Rattle.gaspi_model.specs.Step.{step, is_legal, is_active, owner_of, event_reach, transfer_event, transfer_outcome}
+use Rattle.gaspi_model.specs.Step.{step, is_legal, is_active, owner_of, event_footprint, transfer_event, transfer_outcome}
 use Rattle.gaspi_model.specs.Transfers.{transfers, take_outcome, put_outcome}
 use Rattle.gaspi_model.specs.declared.states.Posts.{Posts}
 use Rattle.gaspi_model.specs.declared.states.State.{State}
@@ -29,14 +29,14 @@ use Rattle.gaspi_world.specs.Numbering.{by_ranks}
 use Rattle.gaspi_world.specs.RankShards.{IsEither, rank_other, either-event}
 use Rattle.gaspi_world.specs.ShardLaws.{arrives, limits-are, state-is}
 use Rattle.gaspi_world.specs.ShardMachine.{state_after}
-use Rattle.gaspi_world.specs.Holds.{IsOtherShard}
-use Rattle.gaspi_world.specs.Moves.{HasNoTransfer, HasActive, HaveEnded}
-use Rattle.gaspi_world.proofs.HeldNodes.{other-shard, IsReach, reach-is}
+use Rattle.gaspi_world.specs.HeldShards.{IsOtherShard}
+use Rattle.gaspi_world.specs.Transfers.{HasNoEnabledTransfer, HasActive, HaveEnded}
+use Rattle.gaspi_world.proofs.HeldNodes.{other-shard, IsReach, footprint-is}
 
 -- What is known of fronts: they are steps, and their entry tells what they reach.
 pub record FrontLaws : Type 0 where
   pub steps : (s : State) (p : PostsValue) (t : Transfer) → IsSound s → IsPostsOf s p.me p → IsFront p t → IsOk (step s (transfer_event s t))
-  pub footprint : (s : State) (p : PostsValue) (t : Transfer) (e : Entry) (outcome : Outcome) → IsSound s → IsPostsOf s p.me p → IsFront p t → front_entry p t ≡ Some e → event_reach s.limits p.posts (event_of t outcome) ≡ transfer_footprint s.limits.ranks t e.kind
+  pub footprint : (s : State) (p : PostsValue) (t : Transfer) (e : Entry) (outcome : Outcome) → IsSound s → IsPostsOf s p.me p → IsFront p t → front_entry p t ≡ Some e → event_footprint s.limits p.posts (event_of t outcome) ≡ transfer_footprint s.limits.ranks t e.kind
 
 -- where no lane may be moved there is no transfer of the rank
 abbrev pub NoneLaw : Type 0
@@ -82,19 +82,19 @@ listed-at s t ok = go t.put ok
     go true ok = (let next = ok-state (step s (Put t.origin t.queue t.target t.number (transfer_outcome s t put_outcome))) ok in put-listed s next.0 t.origin t.queue t.target t.number (transfer_outcome s t put_outcome) next.1)
     go false ok = (let next = ok-state (step s (Take t.origin t.queue t.target t.number (transfer_outcome s t take_outcome))) ok in take-listed s next.0 t.origin t.queue t.target t.number (transfer_outcome s t take_outcome) next.1)
 
-pub front-other : (w : World) (me : ℕ) (t : Transfer) (e : Entry) → me < w.limits.ranks → t.origin ≡ me → IsOtherShard w me (rank_other w.limits.ranks (transfer_footprint w.limits.ranks t e.kind))
+pub front-other : (w : ShapeValue) (me : ℕ) (t : Transfer) (e : Entry) → me < w.limits.ranks → t.origin ≡ me → IsOtherShard w me (rank_other w.limits.ranks (transfer_footprint w.limits.ranks t e.kind))
 front-other w me t e lt mine =
     let reach = transfer_footprint w.limits.ranks t e.kind in
-    other-shard w me reach lt (subst (λ (n : ℕ). IsReach w.limits.ranks n reach) mine (reach-is w.limits.ranks t.origin (if t.put then put_touch t.target e.kind else take_touch t.target e.kind)))
+    other-shard w me reach lt (subst (λ (n : ℕ). IsReach w.limits.ranks n reach) mine (footprint-is w.limits.ranks t.origin (if t.put then put_footprint t.target e.kind else take_footprint t.target e.kind)))
 
-module _ (w : World) (world : IsWorld w) (laws : FrontLaws) (h : List Event) (legal : is_legal w h ≡ true) (p : PostsValue) (t : Transfer) (front : IsFront p t) where
+module _ (w : ShapeValue) (world : IsShape w) (laws : FrontLaws) (h : List Event) (legal : is_legal w h ≡ true) (p : PostsValue) (t : Transfer) (front : IsFront p t) where
   sound : IsSound (state_after w h)
   sound = reached-sound w h (state_after w h) world (arrives w h legal)
 
   -- what the event of a front reaches
-  pub front-reach : (rank : ℕ) (e : Entry) (outcome : Outcome) → IsPostsOf (state_after w h) rank p → front_entry p t ≡ Some e → event_reach w.limits p.posts (event_of t outcome) ≡ transfer_footprint w.limits.ranks t e.kind
-  front-reach rank e outcome is next =
-      subst (λ (l : Limits). event_reach l p.posts (event_of t outcome) ≡ transfer_footprint l.ranks t e.kind) (limits-are w h legal) (laws.footprint (state_after w h) p t e outcome sound (by-me (state_after w h) rank p is) front next)
+  pub front-footprint : (rank : ℕ) (e : Entry) (outcome : Outcome) → IsPostsOf (state_after w h) rank p → front_entry p t ≡ Some e → event_footprint w.limits p.posts (event_of t outcome) ≡ transfer_footprint w.limits.ranks t e.kind
+  front-footprint rank e outcome is next =
+      subst (λ (l : Limits). event_footprint l p.posts (event_of t outcome) ≡ transfer_footprint l.ranks t e.kind) (limits-are w h legal) (laws.footprint (state_after w h) p t e outcome sound (by-me (state_after w h) rank p is) front next)
 
   -- a front is listed
   pub front-listed : (rank : ℕ) → IsPostsOf (state_after w h) rank p → (k : ℕ) × (slice_get (transfers (state_after w h).limits (state_after w h).posts) k ≡ Some t)
@@ -108,8 +108,8 @@ module _ (w : World) (world : IsWorld w) (laws : FrontLaws) (h : List Event) (le
       let o = event.0 in
       let owner : owner_of (event_of t o) ≡ rank = owner-origin t o ∙ (front.mine ∙ is.me) in
       let there : slice_get (state_after w h).posts (owner_of (event_of t o)) ≡ Some p.posts = ap (λ (r : ℕ). slice_get (state_after w h).posts r) owner ∙ is.posts in
-      let reach : rank_other w.limits.ranks (event_reach w.limits p.posts (event_of t o)) ≡ Some j = ap (rank_other w.limits.ranks) (front-reach rank e o is next) ∙ other in
-      let either : IsEither (owner_of (event_of t o)) (rank_other w.limits.ranks (event_reach w.limits p.posts (event_of t o))) j =
+      let reach : rank_other w.limits.ranks (event_footprint w.limits p.posts (event_of t o)) ≡ Some j = ap (rank_other w.limits.ranks) (front-footprint rank e o is next) ∙ other in
+      let either : IsEither (owner_of (event_of t o)) (rank_other w.limits.ranks (event_footprint w.limits p.posts (event_of t o))) j =
       subst (λ (x : Option ℕ). IsEither (owner_of (event_of t o)) x j) (sym reach) (inr refl) in
       subst (λ (y : Event). list_any (eqb j) (numbers_of (by_ranks w).number (state_after w h) y) ≡ true) event.1 (either-event w h (event_of t o) p.posts j legal there either)
 
@@ -146,7 +146,7 @@ none-active posts thread none = go (slice_get posts.threads thread) refl
     go None at = rw at refl
     go (Some t) at = ap is_running (thread-there posts thread t at) ∙ none-running posts.threads thread t none at
 
-module _ (w : World) (h : List Event) (legal : is_legal w h ≡ true) (rank : ℕ) (p : PostsValue) (is : IsPostsOf (state_after w h) rank p) where
+module _ (w : ShapeValue) (h : List Event) (legal : is_legal w h ≡ true) (rank : ℕ) (p : PostsValue) (is : IsPostsOf (state_after w h) rank p) where
   -- a thread of the rank has not ended after the history; all have
   pub has-active : list_any is_running p.posts.threads ≡ true → HasActive w h rank
   has-active any =
@@ -158,6 +158,6 @@ module _ (w : World) (h : List Event) (legal : is_legal w h ≡ true) (rank : �
       subst (λ (x : State). is_active x rank thread ≡ false) (state-is w h s reached_is) (active-in (state_after w h) rank thread p.posts is.posts ∙ none-active p.posts thread none)
 
   -- no transfer of the rank may come next, where no lane may be moved
-  pub no-transfer : NoneLaw → ((queue target : ℕ) → is_movable_lane p.posts.queues queue target ≡ false) → HasNoTransfer w h rank
+  pub no-transfer : NoneLaw → ((queue target : ℕ) → is_movable_lane p.posts.queues queue target ≡ false) → HasNoEnabledTransfer w h rank
   no-transfer law none s reached_is k t at mine =
       law (state_after w h) p t k (by-me (state_after w h) rank p is) none (subst (λ (x : State). slice_get (transfers x.limits x.posts) k ≡ Some t) (sym (state-is w h s reached_is)) at) (mine ∙ sym is.me)

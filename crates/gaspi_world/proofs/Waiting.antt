@@ -6,7 +6,7 @@ use Rattle.std.proofs.lemmas.List.{append_assoc, append-nil, map-append}
 use Rattle.std.proofs.lemmas.List.Elements.{filter-append}
 use mathlib.Core.List.{IsPrefix}
 use Rattle.gaspi_types.specs.CallRows.{row_of, is_collective}
-use Rattle.gaspi_types.specs.World.{World, IsWorld}
+use Rattle.gaspi_types.specs.World.{ShapeValue, IsShape}
 use Rattle.gaspi_types.specs.declared.calls.Call.{Call}
 use Rattle.gaspi_types.specs.declared.calls.Timeout as timeouts
 use Rattle.gaspi_types.specs.declared.events.Event.{Event}
@@ -27,12 +27,12 @@ use Rattle.gaspi_model.proofs.Sound.Steps.{steps}
 use Rattle.timeout_state.specs.Looks.{looks_of, left_after, answer_of, spent, HasLook}
 use Rattle.timeout_state.specs.declared.budget.Look.{Look}
 use Rattle.timeout_state.specs.declared.budget.Look.TheVariants.{More, Final}
-use Rattle.commit_table.specs.declared.views.Known.{Known}
+use Rattle.commit_table.specs.declared.views.PassView.{PassView}
 use Rattle.commit_table.proofs.Lists.{prefix_self, prefix_trans}
-use Rattle.gaspi_world.specs.Attempts.{is_waiting, found_after, is_full_after, is_pending_after, MayHaveJoined, GoesOn, HasCommitted, IsLook, IsBusy, IsNotYet, IsRecorded, IsAtLimit, IsOutOfMemory}
+use Rattle.gaspi_world.specs.Attempts.{is_unready, answer_after, lacks_room_after, is_pending_after, MayHaveJoined, IsExtended, HasCommitted, IsLook, IsBusy, IsNotYet, IsRecorded, IsAtLimit, IsOutOfMemory}
 use Rattle.gaspi_world.specs.RankShards.{IsEither, call_other}
 use Rattle.gaspi_model.specs.CallerEvents.{events_of, is_event_of}
-use Rattle.gaspi_world.specs.Calling.{AreUnready, HadRoom, JoinedFirst, HasMissed, AreLooks, IsCalled, IsStopped, HasWaited}
+use Rattle.gaspi_world.specs.Calling.{AreUnready, HadRoomAtLooks, JoinedFirst, HasMissed, AreLooks, IsCalled, IsStopped, HasWaited}
 use Rattle.gaspi_model.proofs.Recordable.{join-group}
 use Rattle.gaspi_model.proofs.StaysPending.{pending-stays}
 use Rattle.gaspi_world.proofs.Working.{committed-both}
@@ -49,7 +49,7 @@ nothing-more : {A : Type 0} (xs ys : List A) → xs ++ ys ≡ xs → ys ≡ []
 nothing-more xs [] same = refl
 nothing-more xs (y ∷ ys) same = absurd (let lengths : length (xs ++ y ∷ ys) ≡ length xs = ap length same in let all = length-append xs (y ∷ ys) in omega arith)
 
-module _ (w : World) (c : CallerId) (call : Call) where
+module _ (w : ShapeValue) (c : CallerId) (call : Call) where
   -- what is pending of a caller stays so through events of others
   stays : (s t : State) (events : List Event) → IsSound s → after s events ≡ Ok t → events_of c events ≡ [] → is_pending s c.rank c.thread call ≡ true → is_pending t c.rank c.thread call ≡ true
   stays s t [] sound h none is = (let same : s ≡ t = cc in subst (λ (x : State). is_pending x c.rank c.thread call ≡ true) same is)
@@ -62,7 +62,7 @@ module _ (w : World) (c : CallerId) (call : Call) where
       foreign true own h = absurd (let some : ◌≡◌ {A = List Event} (e ∷ events_of c events) [] = rw own at h in let no : ⊥ = cc in no)
       foreign false other h = (rw other refl, rw other at h)
 
-  pending-later : (a h : List Event) → IsWorld w → IsPrefix a h → is_legal w h ≡ true → events_of c a ≡ events_of c h → is_pending_after w c call a ≡ true → is_pending_after w c call h ≡ true
+  pending-later : (a h : List Event) → IsShape w → IsPrefix a h → is_legal w h ≡ true → events_of c a ≡ events_of c h → is_pending_after w c call a ≡ true → is_pending_after w c call h ≡ true
   pending-later a h world more legal same is =
       let t = leads (reached w h) legal in
       let parts : after (opening w) (a ++ more.0) ≡ Ok t.0 = subst (λ (es : List Event). reached w es ≡ Ok t.0) (sym more.1) t.1 in
@@ -86,7 +86,7 @@ module _ (w : World) (c : CallerId) (call : Call) where
           absurd (let never = pending-joins-not s c.rank c.thread call (ready.Join args) is answered in let no : ⊥ = cc in no)
 
   -- a collective that is not ready is pending
-  unready-pends : (h : List Event) → IsWorld w → found_after w c call h ≡ Some ready.NotReady → is_collective call ≡ true → is_pending_after w c call h ≡ true
+  unready-pends : (h : List Event) → IsShape w → answer_after w c call h ≡ Some ready.NotReady → is_collective call ≡ true → is_pending_after w c call h ≡ true
   unready-pends h world found collective = by-group (row_of call).group refl (reached w h) refl
     where
       by-group : (o : Option ℕ) → (row_of call).group ≡ o → (r : Result State Why) → reached w h ≡ r → is_pending_after w c call h ≡ true
@@ -132,7 +132,7 @@ pub left-more : (k : ℕ) (o : Option ℕ) → left_after (suc k) o ≡ spent (l
 left-more zero o = refl
 left-more (suc k) o = left-more k (spent o)
 
-module _ (w : World) (c : CallerId) (call : Call) where
+module _ (w : ShapeValue) (c : CallerId) (call : Call) where
   -- what joined at the first look, or does now
   joined-more : (earlier : List (List Event)) (h joins now : List Event) → JoinedFirst w c call earlier joins → ((k : ℕ) (g : List Event) → slice_get earlier k ≡ Some g → is_collective call ≡ true → is_pending_after w c call h ≡ true)
       → MayHaveJoined w c call h now → JoinedFirst w c call (earlier ++ h ∷ []) (joins ++ now)
@@ -145,26 +145,26 @@ module _ (w : World) (c : CallerId) (call : Call) where
       later k g (inl at) = joined.1 k g at
       later k g (inr same) = λ collective. ap (is_pending_after w c call) same ∙ pending 0 first refl collective
 
-  unready-more : (earlier : List (List Event)) (h : List Event) → AreUnready w c call earlier → is_waiting (found_after w c call h) ≡ true → AreUnready w c call (earlier ++ h ∷ [])
+  unready-more : (earlier : List (List Event)) (h : List Event) → AreUnready w c call earlier → is_unready (answer_after w c call h) ≡ true → AreUnready w c call (earlier ++ h ∷ [])
   unready-more earlier h unready now k g at = go (at-snoc earlier h k g at)
     where
-      go : (slice_get earlier k ≡ Some g) ⊎ (g ≡ h) → is_waiting (found_after w c call g) ≡ true
+      go : (slice_get earlier k ≡ Some g) ⊎ (g ≡ h) → is_unready (answer_after w c call g) ≡ true
       go (inl there) = unready k g there
-      go (inr same) = ap (λ (x : List Event). is_waiting (found_after w c call x)) same ∙ now
+      go (inr same) = ap (λ (x : List Event). is_unready (answer_after w c call x)) same ∙ now
 
-  room-more : (earlier : List (List Event)) (h : List Event) → HadRoom w c call earlier → is_full_after w c call h ≡ false → HadRoom w c call (earlier ++ h ∷ [])
+  room-more : (earlier : List (List Event)) (h : List Event) → HadRoomAtLooks w c call earlier → lacks_room_after w c call h ≡ false → HadRoomAtLooks w c call (earlier ++ h ∷ [])
   room-more earlier h roomy now k g at = go (at-snoc earlier h k g at)
     where
-      go : (slice_get earlier k ≡ Some g) ⊎ (g ≡ h) → is_full_after w c call g ≡ false
+      go : (slice_get earlier k ≡ Some g) ⊎ (g ≡ h) → lacks_room_after w c call g ≡ false
       go (inl there) = roomy k g there
-      go (inr same) = ap (is_full_after w c call) same ∙ now
+      go (inr same) = ap (lacks_room_after w c call) same ∙ now
 
-module _ {S : Type 0} (w : World) (c : CallerId) (call : Call) where
+module _ {S : Type 0} (w : ShapeValue) (c : CallerId) (call : Call) where
   -- the call's own shards were missed: none, one more, and none more
-  missed-none : (v : Known S Event) → HasMissed w c call v v
+  missed-none : (v : PassView S Event) → HasMissed w c call v v
   missed-none v = record { shards = []; missed = sym (append-nil v.missed); own = λ k i at. absurd (none-at k i at) }
 
-  missed-more : (v m n : Known S Event) → HasMissed w c call v m → IsBusy w c call m n → HasMissed w c call v n
+  missed-more : (v m n : PassView S Event) → HasMissed w c call v m → IsBusy w c call m n → HasMissed w c call v n
   missed-more v m n before busy = record {
     shards = before.shards ++ busy.missed.shard ∷ [];
     missed = busy.missed.missed ∙ (ap (λ (is : List ℕ). is ++ busy.missed.shard ∷ []) before.missed ∙ append_assoc v.missed before.shards (busy.missed.shard ∷ []));
@@ -175,17 +175,17 @@ module _ {S : Type 0} (w : World) (c : CallerId) (call : Call) where
       go k i (inl at) = before.own k i at
       go k i (inr same) = subst (IsEither c.rank (call_other w c call)) (sym same) busy.missed.may
 
-  missed-still : (v m n : Known S Event) → HasMissed w c call v m → n.missed ≡ m.missed → HasMissed w c call v n
+  missed-still : (v m n : PassView S Event) → HasMissed w c call v m → n.missed ≡ m.missed → HasMissed w c call v n
   missed-still v m n before same = record { shards = before.shards; missed = same ∙ before.missed; own = before.own }
 
-  pub waited-none : (v : Known S Event) → HasWaited w c call [] v v
+  pub waited-none : (v : PassView S Event) → HasWaited w c call [] v v
   waited-none v = record {
     seen = prefix_self v.seen;
     party = refl;
     start = refl;
     looks = record { looks = sym (append-nil v.looks); between = λ k h at. absurd (none-at k h at) };
     unready = λ k h at. absurd (none-at k h at);
-    roomy = λ k h at. absurd (none-at k h at);
+    had_room = λ k h at. absurd (none-at k h at);
     joins = [];
     joined = refl;
     mine = sym (append-nil v.mine);
@@ -196,13 +196,13 @@ module _ {S : Type 0} (w : World) (c : CallerId) (call : Call) where
   }
 
   -- looks reach on to what is seen later, and one look more
-  looks-on : (v m n : Known S Event) (earlier : List (List Event)) → AreLooks w c v m earlier → IsPrefix m.seen n.seen → n.looks ≡ m.looks → AreLooks w c v n earlier
+  looks-on : (v m n : PassView S Event) (earlier : List (List Event)) → AreLooks w c v m earlier → IsPrefix m.seen n.seen → n.looks ≡ m.looks → AreLooks w c v n earlier
   looks-on v m n earlier looks more same = record {
     looks = same ∙ looks.looks;
     between = λ k h at. ((looks.between k h at).0, prefix_trans h m.seen n.seen (looks.between k h at).1 more);
   }
 
-  looks-more : (v m n : Known S Event) (earlier : List (List Event)) (h : List Event) → IsPrefix v.seen m.seen → AreLooks w c v m earlier → IsLook w c m n h → n.looks ≡ m.looks ++ length h ∷ [] → AreLooks w c v n (earlier ++ h ∷ [])
+  looks-more : (v m n : PassView S Event) (earlier : List (List Event)) (h : List Event) → IsPrefix v.seen m.seen → AreLooks w c v m earlier → IsLook w c m n h → n.looks ≡ m.looks ++ length h ∷ [] → AreLooks w c v n (earlier ++ h ∷ [])
   looks-more v m n earlier h more looks look is = record {
     looks = is ∙ (ap (λ (ks : List ℕ). ks ++ length h ∷ []) looks.looks ∙ (append_assoc v.looks (map length earlier) (length h ∷ []) ∙ ap (λ (ks : List ℕ). v.looks ++ ks) (sym (map-append length earlier (h ∷ [])))));
     between = λ k g at. between k g (at-snoc earlier h k g at);
@@ -213,7 +213,7 @@ module _ {S : Type 0} (w : World) (c : CallerId) (call : Call) where
       between k g (inr same) = (subst (IsPrefix v.seen) (sym same) (prefix_trans v.seen m.seen h more look.later), subst (λ (x : List Event). IsPrefix x n.seen) (sym same) look.earlier)
 
   -- at the next look a collective is pending, where there was one before
-  pending-next : (v m n : Known S Event) (earlier : List (List Event)) (h : List Event) → IsWorld w → HasWaited w c call earlier v m → IsLook w c m n h → is_legal w n.seen ≡ true
+  pending-next : (v m n : PassView S Event) (earlier : List (List Event)) (h : List Event) → IsShape w → HasWaited w c call earlier v m → IsLook w c m n h → is_legal w n.seen ≡ true
       → (k : ℕ) (g : List Event) → slice_get earlier k ≡ Some g → is_collective call ≡ true → is_pending_after w c call h ≡ true
   pending-next v m n earlier h world waited look legal k g at collective =
       pending-later w c call m.seen h world look.later (legal-part n.seen look.earlier legal) (waited.own k g at ∙ sym look.own) (waited.pending k g at collective)
@@ -222,7 +222,7 @@ module _ {S : Type 0} (w : World) (c : CallerId) (call : Call) where
       legal-part s more legal = prefix w h more.0 (subst (λ (es : List Event). is_legal w es ≡ true) (sym more.1) legal)
 
   -- a missed shard is no look
-  pub waited-busy : (v m n : Known S Event) (earlier : List (List Event)) → HasWaited w c call earlier v m → IsBusy w c call m n → HasWaited w c call earlier v n
+  pub waited-busy : (v m n : PassView S Event) (earlier : List (List Event)) → HasWaited w c call earlier v m → IsBusy w c call m n → HasWaited w c call earlier v n
   waited-busy v m n earlier waited busy =
       let seen : m.seen ≡ n.seen = sym busy.missed.seen in
       record {
@@ -231,7 +231,7 @@ module _ {S : Type 0} (w : World) (c : CallerId) (call : Call) where
         start = busy.goes_on.start ∙ waited.start;
         looks = looks-on v m n earlier waited.looks busy.goes_on.seen busy.missed.looks;
         unready = waited.unready;
-        roomy = waited.roomy;
+        had_room = waited.had_room;
         joins = waited.joins;
         joined = waited.joined;
         mine = busy.missed.mine ∙ waited.mine;
@@ -242,7 +242,7 @@ module _ {S : Type 0} (w : World) (c : CallerId) (call : Call) where
       }
 
   -- one look more that was too early
-  pub waited-more : (v m n : Known S Event) (earlier : List (List Event)) (look : Look) → IsWorld w → HasWaited w c call earlier v m → (early : IsNotYet w c call look m n) → HasWaited w c call (earlier ++ early.history ∷ []) v n
+  pub waited-more : (v m n : PassView S Event) (earlier : List (List Event)) (look : Look) → IsShape w → HasWaited w c call earlier v m → (early : IsNotYet w c call look m n) → HasWaited w c call (earlier ++ early.history ∷ []) v n
   waited-more v m n earlier look world waited early =
       let pending = pending-next v m n earlier early.history world waited early.looked.is_look early.goes_on.legal in
       record {
@@ -251,7 +251,7 @@ module _ {S : Type 0} (w : World) (c : CallerId) (call : Call) where
         start = early.goes_on.start ∙ waited.start;
         looks = looks-more v m n earlier early.history waited.seen waited.looks early.looked.is_look early.looked.looks;
         unready = unready-more w c call earlier early.history waited.unready early.unready;
-        roomy = room-more w c call earlier early.history waited.roomy early.room;
+        had_room = room-more w c call earlier early.history waited.had_room early.room;
         joins = waited.joins ++ early.joins;
         joined = joined-more w c call earlier early.history waited.joins early.joins waited.joined pending early.joined;
         mine = early.mine ∙ (ap (λ (es : List Event). es ++ early.joins) waited.mine ∙ append_assoc v.mine waited.joins early.joins);
@@ -261,7 +261,7 @@ module _ {S : Type 0} (w : World) (c : CallerId) (call : Call) where
         pending = λ k h at collective. unready-pends w c call n.seen world early.still collective;
       }
 
-  on-from : (v m n : Known S Event) (earlier : List (List Event)) → HasWaited w c call earlier v m → GoesOn w c m n → GoesOn w c v n
+  on-from : (v m n : PassView S Event) (earlier : List (List Event)) → HasWaited w c call earlier v m → IsExtended w c m n → IsExtended w c v n
   on-from v m n earlier waited on = record {
     seen = prefix_trans v.seen m.seen n.seen waited.seen on.seen;
     legal = on.legal;
@@ -271,7 +271,7 @@ module _ {S : Type 0} (w : World) (c : CallerId) (call : Call) where
   }
 
   -- the last look
-  pub called-now : (v m n : Known S Event) (earlier : List (List Event)) (look : Look) (timeout : timeouts.Timeout) (reply : Reply) → IsWorld w → HasWaited w c call earlier v m → IsRecorded w c call look reply m n
+  pub called-now : (v m n : PassView S Event) (earlier : List (List Event)) (look : Look) (timeout : timeouts.Timeout) (reply : Reply) → IsShape w → HasWaited w c call earlier v m → IsRecorded w c call look reply m n
       → look ≡ answer_of (left_after (length earlier) (looks_of timeout)) → HasLook (left_after (length earlier) (looks_of timeout)) → IsCalled w c call timeout reply v n
   called-now v m n earlier look timeout reply world waited done last left =
       let pending = pending-next v m n earlier done.history world waited done.looked.is_look done.goes_on.legal in
@@ -282,7 +282,7 @@ module _ {S : Type 0} (w : World) (c : CallerId) (call : Call) where
         looks = looks-more v m n earlier done.history waited.seen waited.looks done.looked.is_look done.looked.looks;
         within = few-looks (length earlier) (looks_of timeout) left;
         unready = waited.unready;
-        roomy = waited.roomy;
+        had_room = waited.had_room;
         joins = waited.joins ++ done.joins;
         joined = joined-more w c call earlier done.history waited.joins done.joins waited.joined pending done.joined;
         before = done.before;
@@ -300,7 +300,7 @@ module _ {S : Type 0} (w : World) (c : CallerId) (call : Call) where
       before k h (inl at) = prefix_trans h m.seen done.before (waited.looks.between k h at).1 (prefix_trans m.seen done.history done.before done.looked.is_look.later done.after_look)
       before k h (inr same) = subst (λ (x : List Event). IsPrefix x done.before) (sym same) done.after_look
 
-  pub stopped-full : (v m n : Known S Event) (earlier : List (List Event)) (timeout : timeouts.Timeout) → IsWorld w → HasWaited w c call earlier v m → IsAtLimit w c call m n → HasLook (left_after (length earlier) (looks_of timeout)) → IsStopped w c call timeout true v n
+  pub stopped-full : (v m n : PassView S Event) (earlier : List (List Event)) (timeout : timeouts.Timeout) → IsShape w → HasWaited w c call earlier v m → IsAtLimit w c call m n → HasLook (left_after (length earlier) (looks_of timeout)) → IsStopped w c call timeout true v n
   stopped-full v m n earlier timeout world waited stop left =
       let pending = pending-next v m n earlier n.seen world waited stop.looked.is_look stop.goes_on.legal in
       record {
@@ -310,7 +310,7 @@ module _ {S : Type 0} (w : World) (c : CallerId) (call : Call) where
         looks = looks-more v m n earlier n.seen waited.seen waited.looks stop.looked.is_look stop.looked.looks;
         within = few-looks (length earlier) (looks_of timeout) left;
         unready = waited.unready;
-        roomy = waited.roomy;
+        had_room = waited.had_room;
         joins = waited.joins;
         joined = subst (JoinedFirst w c call (earlier ++ n.seen ∷ [])) (append-nil waited.joins) (joined-more w c call earlier n.seen waited.joins [] waited.joined pending (inl refl));
         mine = stop.mine ∙ waited.mine;
@@ -320,7 +320,7 @@ module _ {S : Type 0} (w : World) (c : CallerId) (call : Call) where
         now = λ full. refl;
       }
 
-  pub stopped-empty : (v m n : Known S Event) (earlier : List (List Event)) (timeout : timeouts.Timeout) → IsWorld w → HasWaited w c call earlier v m → IsOutOfMemory w c call m n → HasLook (left_after (length earlier) (looks_of timeout)) → IsStopped w c call timeout false v n
+  pub stopped-empty : (v m n : PassView S Event) (earlier : List (List Event)) (timeout : timeouts.Timeout) → IsShape w → HasWaited w c call earlier v m → IsOutOfMemory w c call m n → HasLook (left_after (length earlier) (looks_of timeout)) → IsStopped w c call timeout false v n
   stopped-empty v m n earlier timeout world waited stop left =
       let pending = pending-next v m n earlier n.seen world waited stop.looked.is_look stop.goes_on.legal in
       record {
@@ -330,7 +330,7 @@ module _ {S : Type 0} (w : World) (c : CallerId) (call : Call) where
         looks = looks-more v m n earlier n.seen waited.seen waited.looks stop.looked.is_look stop.looked.looks;
         within = few-looks (length earlier) (looks_of timeout) left;
         unready = waited.unready;
-        roomy = waited.roomy;
+        had_room = waited.had_room;
         joins = waited.joins;
         joined = subst (JoinedFirst w c call (earlier ++ n.seen ∷ [])) (append-nil waited.joins) (joined-more w c call earlier n.seen waited.joins [] waited.joined pending (inl refl));
         mine = stop.mine ∙ waited.mine;

@@ -4,7 +4,7 @@ use Rattle.std.specs.List.{slice_get, list_all, list_any, range_with_len}
 use Rattle.std.proofs.lemmas.Bool.{eqb-true, eq-eqb}
 use Rattle.commit_table.specs.Calls.{PassValue}
 use Rattle.commit_table.specs.Machine.{is_party}
-use Rattle.gaspi_model.proofs.Sound.Turns.{each-passes, in-range}
+use Rattle.gaspi_model.proofs.Sound.Rounds.{each-passes, in-range}
 use Rattle.gaspi_world.specs.Passes.{has_number, are_all, AreAll}
 
 any-there : {A : Type 0} (p : A → Bool) (xs : List A) → list_any p xs ≡ true → (place : ℕ) × (x : A) × (slice_get xs place ≡ Some x) × (p x ≡ true)

@@ -1,7 +1,7 @@
 -- What an attempt of a call tells.
 use Rattle.std.specs.Prelude.{◌≡◌, ◌⊎◌, ℕ, Bool, true, false, List, [], ◌∷◌, ◌++◌, length, Option, None, Some, Result, Ok, Err}
 use mathlib.Core.List.{IsPrefix}
-use Rattle.gaspi_types.specs.World.{World}
+use Rattle.gaspi_types.specs.World.{ShapeValue}
 use Rattle.gaspi_types.specs.declared.calls.Call.{Call}
 use Rattle.gaspi_types.specs.declared.events.Event.{Event}
 use Rattle.gaspi_types.specs.declared.events.Event.TheVariants.{Called}
@@ -11,14 +11,14 @@ use Rattle.gaspi_types.specs.declared.replies.Ready.TheVariants as ready
 use Rattle.gaspi_types.specs.declared.replies.Reply.{Reply}
 use Rattle.gaspi_types.specs.declared.replies.Reply.TheVariants.{Timeout}
 use Rattle.gaspi_types.specs.declared.shapes.CallerId.{CallerId}
-use Rattle.gaspi_model.specs.Step.{reached, is_legal, is_pending, is_full_in, answer_in}
+use Rattle.gaspi_model.specs.Step.{reached, is_legal, is_pending, lacks_room_in, answer_in}
 use Rattle.gaspi_model.specs.declared.states.State.{State}
 use Rattle.gaspi_model.specs.declared.states.Why.{Why}
 use Rattle.gaspi_model.specs.CollectiveCalls.{join_event}
 use Rattle.timeout_state.specs.declared.budget.Look.{Look}
 use Rattle.timeout_state.specs.declared.budget.Look.TheVariants.{More, Final}
-use Rattle.commit_table.specs.Attempts.{Missed}
-use Rattle.commit_table.specs.declared.views.Known.{Known}
+use Rattle.commit_table.specs.Attempts.{IsMissed}
+use Rattle.commit_table.specs.declared.views.PassView.{PassView}
 use Rattle.gaspi_model.specs.CallerEvents.{events_of}
 use Rattle.gaspi_world.specs.RankShards.{IsEither, call_other}
 use Rattle.gaspi_world.specs.WorldMachine.{world_machine}
@@ -26,28 +26,28 @@ use Rattle.gaspi_world.specs.declared.attempts.Halt.{Halt}
 use Rattle.gaspi_world.specs.declared.attempts.Halt.TheVariants.{Busy, NotYet, NoMemory, EventLimit}
 
 -- neither refused nor ready: a collective may still join, or it waits
-abbrev pub is_waiting : Option Ready → Bool
-is_waiting None = false
-is_waiting (Some (ready.Reply reply)) = false
-is_waiting (Some (ready.Join args)) = true
-is_waiting (Some ready.NotReady) = true
+abbrev pub is_unready : Option Ready → Bool
+is_unready None = false
+is_unready (Some (ready.Reply reply)) = false
+is_unready (Some (ready.Join args)) = true
+is_unready (Some ready.NotReady) = true
 
-module _ (w : World) (c : CallerId) (call : Call) where
+module _ (w : ShapeValue) (c : CallerId) (call : Call) where
   -- what a look at the call answers after a history
-  abbrev pub found_after : List Event → Option Ready
-  found_after history = found_in (reached w history)
+  abbrev pub answer_after : List Event → Option Ready
+  answer_after history = found_in (reached w history)
     where
       found_in : Result State Why → Option Ready
       found_in (Err why) = None
       found_in (Ok s) = answer_in s c.rank c.thread call
 
   -- the same after a history
-  abbrev pub is_full_after : List Event → Bool
-  is_full_after history = full_in (reached w history)
+  abbrev pub lacks_room_after : List Event → Bool
+  lacks_room_after history = full_in (reached w history)
     where
       full_in : Result State Why → Bool
       full_in (Err why) = false
-      full_in (Ok s) = is_full_in s c call
+      full_in (Ok s) = lacks_room_in s c call
 
   -- a collective is pending for the caller on the group that the call names
   abbrev pub is_pending_after : List Event → Bool
@@ -59,17 +59,17 @@ module _ (w : World) (c : CallerId) (call : Call) where
 
   -- the call may have joined its group after a history where a look at it found that it may, and none was pending then
   abbrev pub MayHaveJoined : List Event → List Event → Type 0
-  MayHaveJoined history joins = (joins ≡ []) ⊎ ((args : Args) × (joins ≡ join_event c call args ∷ []) × (found_after history ≡ Some (ready.Join args)))
+  MayHaveJoined history joins = (joins ≡ []) ⊎ ((args : Args) × (joins ≡ join_event c call args ∷ []) × (answer_after history ≡ Some (ready.Join args)))
 
 -- These events were committed, one after another, and nothing else was.
-pub record HasCommitted {S : Type 0} (events : List Event) (v n : Known S Event) : Type 0 where
+pub record HasCommitted {S : Type 0} (events : List Event) (v n : PassView S Event) : Type 0 where
   pub places : List ℕ
   pub commits : n.commits ≡ v.commits ++ places
   pub many : length places ≡ length events
 
-module _ {S : Type 0} (w : World) (c : CallerId) where
+module _ {S : Type 0} (w : ShapeValue) (c : CallerId) where
   -- What a pass has seen goes on from what it had seen, is a legal history, and has of the caller just what the pass did.
-  pub record GoesOn (v n : Known S Event) : Type 0 where
+  pub record IsExtended (v n : PassView S Event) : Type 0 where
     pub seen : IsPrefix v.seen n.seen
     pub legal : is_legal w n.seen ≡ true
     pub own : events_of c n.seen ≡ n.mine
@@ -78,21 +78,21 @@ module _ {S : Type 0} (w : World) (c : CallerId) where
 
   -- A look was made, after a history that goes on from what had been seen, that what is seen now goes on from, and in which the caller
   -- had done just what it had.
-  pub record IsLook (v n : Known S Event) (history : List Event) : Type 0 where
+  pub record IsLook (v n : PassView S Event) (history : List Event) : Type 0 where
     pub later : IsPrefix v.seen history
     pub earlier : IsPrefix history n.seen
     pub own : events_of c history ≡ v.mine
 
   -- One look was made, and no shard was missed.
-  pub record LookedOnce (v n : Known S Event) (history : List Event) : Type 0 where
+  pub record LookedOnce (v n : PassView S Event) (history : List Event) : Type 0 where
     pub looks : n.looks ≡ v.looks ++ length history ∷ []
     pub is_look : IsLook v n history
     pub missed : n.missed ≡ v.missed
 
   -- The call was recorded with its reply, once, after the one look, and its join before it where it had to join. What is seen ends with
   -- the call. It is a timeout only at the last look, and where the call was neither refused nor ready.
-  pub record IsRecorded (call : Call) (look : Look) (reply : Reply) (v n : Known S Event) : Type 0 where
-    pub goes_on : GoesOn v n
+  pub record IsRecorded (call : Call) (look : Look) (reply : Reply) (v n : PassView S Event) : Type 0 where
+    pub goes_on : IsExtended v n
     pub history : List Event
     pub looked : LookedOnce v n history
     pub before : List Event
@@ -102,46 +102,46 @@ module _ {S : Type 0} (w : World) (c : CallerId) where
     pub joined : MayHaveJoined w c call history joins
     pub mine : n.mine ≡ (v.mine ++ joins) ++ Called c call reply ∷ []
     pub commits : HasCommitted (joins ++ Called c call reply ∷ []) v n
-    pub room : is_full_after w c call history ≡ false
+    pub room : lacks_room_after w c call history ≡ false
     pub last : reply ≡ Timeout → look ≡ Final
-    pub unready : reply ≡ Timeout → is_waiting (found_after w c call history) ≡ true
+    pub unready : reply ≡ Timeout → is_unready (answer_after w c call history) ≡ true
 
   -- The call is not ready, at a look that was not the last. It may have joined; a collective is pending then.
-  pub record IsNotYet (call : Call) (look : Look) (v n : Known S Event) : Type 0 where
-    pub goes_on : GoesOn v n
+  pub record IsNotYet (call : Call) (look : Look) (v n : PassView S Event) : Type 0 where
+    pub goes_on : IsExtended v n
     pub history : List Event
     pub looked : LookedOnce v n history
     pub joins : List Event
     pub joined : MayHaveJoined w c call history joins
     pub mine : n.mine ≡ v.mine ++ joins
     pub commits : HasCommitted joins v n
-    pub room : is_full_after w c call history ≡ false
+    pub room : lacks_room_after w c call history ≡ false
     pub more : look ≡ More
-    pub unready : is_waiting (found_after w c call history) ≡ true
-    pub still : found_after w c call n.seen ≡ Some ready.NotReady
+    pub unready : is_unready (answer_after w c call history) ≡ true
+    pub still : answer_after w c call n.seen ≡ Some ready.NotReady
 
   -- The rank had no room for what the call needs.
-  pub record IsAtLimit (call : Call) (v n : Known S Event) : Type 0 where
-    pub goes_on : GoesOn v n
+  pub record IsAtLimit (call : Call) (v n : PassView S Event) : Type 0 where
+    pub goes_on : IsExtended v n
     pub looked : LookedOnce v n n.seen
     pub mine : n.mine ≡ v.mine
     pub commits : n.commits ≡ v.commits
-    pub full : is_full_after w c call n.seen ≡ true
+    pub full : lacks_room_after w c call n.seen ≡ true
 
   -- There was no memory. Nothing was committed.
-  pub record IsOutOfMemory (call : Call) (v n : Known S Event) : Type 0 where
-    pub goes_on : GoesOn v n
+  pub record IsOutOfMemory (call : Call) (v n : PassView S Event) : Type 0 where
+    pub goes_on : IsExtended v n
     pub looked : LookedOnce v n n.seen
     pub mine : n.mine ≡ v.mine
     pub commits : n.commits ≡ v.commits
-    pub room : is_full_after w c call n.seen ≡ false
+    pub room : lacks_room_after w c call n.seen ≡ false
 
   -- A shard of the call was missed, which another pass held, and no look was made.
-  pub record IsBusy (call : Call) (v n : Known S Event) : Type 0 where
-    pub goes_on : GoesOn v n
-    pub missed : Missed (world_machine w) v (IsEither c.rank (call_other w c call)) n
+  pub record IsBusy (call : Call) (v n : PassView S Event) : Type 0 where
+    pub goes_on : IsExtended v n
+    pub missed : IsMissed (world_machine w) v (IsEither c.rank (call_other w c call)) n
 
-  abbrev pub Attempted : Call → Look → Known S Event → Result Reply Halt → Known S Event → Type 0
+  abbrev pub Attempted : Call → Look → PassView S Event → Result Reply Halt → PassView S Event → Type 0
   Attempted call look v (Ok reply) n = IsRecorded call look reply v n
   Attempted call look v (Err Busy) n = IsBusy call v n
   Attempted call look v (Err NotYet) n = IsNotYet call look v n

@@ -2,7 +2,7 @@
 use Rattle.std.specs.Prelude.{◌≡◌, ℕ, List, [], ◌∷◌, Some, slice_get}
 use Rattle.std.specs.List.{flat_map}
 use mathlib.Core.List.{IsPrefix}
-use Rattle.gaspi_types.specs.World.{World}
+use Rattle.gaspi_types.specs.World.{ShapeValue}
 use Rattle.gaspi_types.specs.declared.events.Event.{Event}
 use Rattle.gaspi_types.specs.declared.events.PlacedEvent.{PlacedEvent}
 use Rattle.gaspi_types.specs.declared.shapes.CallerId.{CallerId}
@@ -27,5 +27,5 @@ module _ {S : Type 0} where
   HaveSeen journal passes = (k : ℕ) (p : PassValue S Event) → slice_get passes k ≡ Some p → IsPrefix p.known.seen journal
 
   -- what the pass of a caller did are the calls and joins of the caller in the journal, in order
-  abbrev pub HaveDone : World → List Event → List (PassValue S Event) → Type 0
+  abbrev pub HaveDone : ShapeValue → List Event → List (PassValue S Event) → Type 0
   HaveDone w journal passes = (c : CallerId) (k : ℕ) (p : PassValue S Event) → slice_get passes k ≡ Some p → IsPassOf w c p.known → events_of c journal ≡ p.known.mine

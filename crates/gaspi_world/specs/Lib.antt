@@ -3,8 +3,8 @@ pub mod Callers
 pub mod Calling
 pub mod Closing
 pub mod Grains
-pub mod Holds
-pub mod Moves
+pub mod HeldShards
+pub mod Transfers
 pub mod Numbering
 pub mod Openings
 pub mod Passes
@@ -15,6 +15,6 @@ pub mod ShardMachine
 pub mod ShardProjections
 pub mod Shards
 pub mod Waits
-pub mod Works
+pub mod HeldAttempts
 pub mod WorldLaws
 pub mod WorldMachine

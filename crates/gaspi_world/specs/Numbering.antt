@@ -1,6 +1,6 @@
 -- How the parts of the state lie in shards.
 use Rattle.std.specs.Prelude.{ℕ, ◌+◌}
-use Rattle.gaspi_types.specs.World.{World}
+use Rattle.gaspi_types.specs.World.{ShapeValue}
 use Rattle.gaspi_model.specs.declared.states.Shard.{Shard}
 use Rattle.gaspi_model.specs.declared.states.Shard.TheVariants as parts
 
@@ -15,5 +15,5 @@ rank_number ranks (parts.Posts rank) = rank
 rank_number ranks (parts.Memory rank) = rank
 rank_number ranks (parts.Group id) = ranks + id
 
-abbrev pub by_ranks : World → Numbering
+abbrev pub by_ranks : ShapeValue → Numbering
 by_ranks w = record { shards = w.limits.ranks + 8; number = rank_number w.limits.ranks }

@@ -5,7 +5,7 @@ use native.Mathlib.Decide.{dec_lt}
 use Rattle.std.specs.List.{slice_get, range_with_len}
 use Rattle.std.proofs.lemmas.List.FromFn.{length-map-range_with_len, get_or-range_with_len}
 use Rattle.std.proofs.lemmas.Option.{slice_get_within, get_or_from_slice_get}
-use Rattle.gaspi_types.specs.World.{World}
+use Rattle.gaspi_types.specs.World.{ShapeValue}
 use Rattle.gaspi_types.proofs.Items.{map-at}
 use Rattle.gaspi_model.specs.State.{opening, opening_posts, opening_memory, opening_group}
 use Rattle.commit_table.specs.Calls.{AreShards}
@@ -21,7 +21,7 @@ made-at f n i x at =
     let is : from.0 ≡ i = sym (get_or_from_slice_get (range_with_len 0 n) i from.0 0 from.1) ∙ (get_or-range_with_len 0 n i 0 less ∙ omega arith) in
     (from.2 ∙ ap f is, less)
 
-module _ {X : Type 0} (m : Meaning X) (w : World) where
+module _ {X : Type 0} (m : Meaning X) (w : ShapeValue) where
   pub rank-opens : (rank : ℕ) (x : X) → rank < w.limits.ranks → m.IsPosts x rank (opening_posts w rank) [] → m.IsMemory x rank (opening_memory w rank) → HasParts (by_ranks w) w m rank x (opening w) (λ r. [])
   rank-opens rank x lt posts memory = record {
     posts = λ r p at there.

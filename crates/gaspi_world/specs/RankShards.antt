@@ -3,8 +3,8 @@ use Rattle.std.proofs.Common.{◌≡◌, ◌⊎◌, inl, inr, ℕ, ◌+◌, Bool
 use Rattle.std.specs.List.{slice_get, list_any}
 use Rattle.std.proofs.lemmas.Bool.{eqb-true}
 use Rattle.gaspi_types.specs.CallRows.{row_of}
-use Rattle.gaspi_types.specs.Touches.{reach_of}
-use Rattle.gaspi_types.specs.World.{World}
+use Rattle.gaspi_types.specs.Footprints.{footprint_of}
+use Rattle.gaspi_types.specs.World.{ShapeValue}
 use Rattle.gaspi_types.specs.declared.calls.Call.{Call}
 use Rattle.gaspi_types.specs.declared.events.Event.{Event}
 use Rattle.gaspi_types.specs.declared.collectives.Coll.{Coll}
@@ -13,10 +13,10 @@ use Rattle.gaspi_types.specs.declared.events.Event.TheVariants.{Called, Joined}
 use Rattle.gaspi_types.specs.declared.groups.Args.{Args}
 use Rattle.gaspi_types.specs.declared.replies.Reply.{Reply}
 use Rattle.gaspi_types.specs.declared.shapes.CallerId.{CallerId}
-use Rattle.gaspi_types.specs.declared.touches.Reach.{Reach}
-use Rattle.gaspi_types.specs.declared.touches.Reach.TheVariants.{Alone, OwnMemory, PeerMemory, BothMemories, PeerPosts, Group, GroupAndMemory}
-use Rattle.gaspi_model.specs.Shards.{reach_shards, numbers_of, without_repeats, footprint}
-use Rattle.gaspi_model.specs.Step.{owner_of, event_reach, join_touch, is_legal}
+use Rattle.gaspi_types.specs.declared.footprints.Footprint.{Footprint}
+use Rattle.gaspi_types.specs.declared.footprints.Footprint.TheVariants.{Alone, OwnMemory, PeerMemory, BothMemories, PeerPosts, Group, GroupAndMemory}
+use Rattle.gaspi_model.specs.Shards.{footprint_shards, numbers_of, without_repeats, event_shards}
+use Rattle.gaspi_model.specs.Step.{owner_of, event_footprint, join_footprint, is_legal}
 use Rattle.gaspi_model.specs.CollectiveCalls.{joining_call}
 use Rattle.gaspi_model.specs.declared.states.Posts.{Posts}
 use Rattle.gaspi_world.specs.Numbering.{rank_number, by_ranks}
@@ -29,7 +29,7 @@ IsEither own None i = i ≡ own
 IsEither own (Some other) i = (i ≡ own) ⊎ (i ≡ other)
 
 -- the number of the other shard that an event of that footprint has
-abbrev pub rank_other : ℕ → Reach → Option ℕ
+abbrev pub rank_other : ℕ → Footprint → Option ℕ
 rank_other ranks Alone = None
 rank_other ranks OwnMemory = None
 rank_other ranks (PeerMemory rank) = Some rank
@@ -39,8 +39,8 @@ rank_other ranks (Group id) = Some (ranks + id)
 rank_other ranks (GroupAndMemory id) = Some (ranks + id)
 
 -- the other shard of a call, which its words alone tell
-abbrev pub call_other : World → CallerId → Call → Option ℕ
-call_other w c call = rank_other w.limits.ranks (reach_of w.limits.ranks c.rank (row_of call).touch)
+abbrev pub call_other : ShapeValue → CallerId → Call → Option ℕ
+call_other w c call = rank_other w.limits.ranks (footprint_of w.limits.ranks c.rank (row_of call).footprint)
 
 -- a number is the first of a list or among the others
 first-or : (n i : ℕ) (rest : Bool) → (eqb i n || rest) ≡ true → (i ≡ n) ⊎ (rest ≡ true)
@@ -99,7 +99,7 @@ own-twice me i h = go (two-of me me i h)
     go (inl is) = is
     go (inr is) = is
 
-reach-either : (ranks me i : ℕ) (reach : Reach) → list_any (eqb i) (map (rank_number ranks) (reach_shards me reach)) ≡ true → IsEither me (rank_other ranks reach) i
+reach-either : (ranks me i : ℕ) (reach : Footprint) → list_any (eqb i) (map (rank_number ranks) (footprint_shards me reach)) ≡ true → IsEither me (rank_other ranks reach) i
 reach-either ranks me i Alone h = one-of me i h
 reach-either ranks me i OwnMemory h = own-twice me i h
 reach-either ranks me i (PeerMemory rank) h = two-of me rank i h
@@ -109,17 +109,17 @@ reach-either ranks me i (Group id) h = two-of me (ranks + id) i h
 reach-either ranks me i (GroupAndMemory id) h = own-again me (ranks + id) i h
 
 -- The shards of an event are its owner's and the other one.
-pub event-either : (w : World) (h : List Event) (e : Event) (posts : Posts) (i : ℕ) → is_legal w h ≡ true → slice_get (state_after w h).posts (owner_of e) ≡ Some posts
-    → list_any (eqb i) (numbers_of (by_ranks w).number (state_after w h) e) ≡ true → IsEither (owner_of e) (rank_other w.limits.ranks (event_reach w.limits posts e)) i
+pub event-either : (w : ShapeValue) (h : List Event) (e : Event) (posts : Posts) (i : ℕ) → is_legal w h ≡ true → slice_get (state_after w h).posts (owner_of e) ≡ Some posts
+    → list_any (eqb i) (numbers_of (by_ranks w).number (state_after w h) e) ≡ true → IsEither (owner_of e) (rank_other w.limits.ranks (event_footprint w.limits posts e)) i
 event-either w h e posts i legal at among =
     let number = rank_number w.limits.ranks in
-    let plain : list_any (eqb i) (map number (footprint (state_after w h) e)) ≡ true = drop-repeats (map number (footprint (state_after w h) e)) i among in
-    let there : list_any (eqb i) (map number (reach_shards (owner_of e) (event_reach (state_after w h).limits posts e))) ≡ true = rw at at plain in
+    let plain : list_any (eqb i) (map number (event_shards (state_after w h) e)) ≡ true = drop-repeats (map number (event_shards (state_after w h) e)) i among in
+    let there : list_any (eqb i) (map number (footprint_shards (owner_of e) (event_footprint (state_after w h).limits posts e))) ≡ true = rw at at plain in
     let limits = limits-are w h legal in
-    reach-either w.limits.ranks (owner_of e) i (event_reach w.limits posts e) (subst (λ (l : _). list_any (eqb i) (map number (reach_shards (owner_of e) (event_reach l posts e))) ≡ true) limits there)
+    reach-either w.limits.ranks (owner_of e) i (event_footprint w.limits posts e) (subst (λ (l : _). list_any (eqb i) (map number (footprint_shards (owner_of e) (event_footprint l posts e))) ≡ true) limits there)
 
 -- Those of a call are told before anything is taken.
-pub call-either : (w : World) (h : List Event) (c : CallerId) (call : Call) (reply : Reply) (posts : Posts) (i : ℕ) → is_legal w h ≡ true → slice_get (state_after w h).posts c.rank ≡ Some posts
+pub call-either : (w : ShapeValue) (h : List Event) (c : CallerId) (call : Call) (reply : Reply) (posts : Posts) (i : ℕ) → is_legal w h ≡ true → slice_get (state_after w h).posts c.rank ≡ Some posts
     → list_any (eqb i) (numbers_of (by_ranks w).number (state_after w h) (Called c call reply)) ≡ true → IsEither c.rank (call_other w c call) i
 call-either w h c call reply posts i legal at among = event-either w h (Called c call reply) posts i legal at among
 
@@ -138,7 +138,7 @@ either-of : (me other i : ℕ) (rest : List ℕ) → list_any (eqb other) rest �
 either-of me other i rest there (inl is) = first-is me i rest is
 either-of me other i rest there (inr is) = later-is me i rest (ap (λ (k : ℕ). list_any (eqb k) rest) is ∙ there)
 
-either-reach : (ranks me i : ℕ) (reach : Reach) → IsEither me (rank_other ranks reach) i → list_any (eqb i) (map (rank_number ranks) (reach_shards me reach)) ≡ true
+either-reach : (ranks me i : ℕ) (reach : Footprint) → IsEither me (rank_other ranks reach) i → list_any (eqb i) (map (rank_number ranks) (footprint_shards me reach)) ≡ true
 either-reach ranks me i Alone is = first-is me i [] is
 either-reach ranks me i OwnMemory is = first-is me i (me ∷ []) is
 either-reach ranks me i (PeerMemory rank) is = either-of me rank i (rank ∷ []) (first-is rank rank [] refl) is
@@ -147,26 +147,26 @@ either-reach ranks me i (PeerPosts rank) is = either-of me rank i (rank ∷ []) 
 either-reach ranks me i (Group id) is = either-of me (ranks + id) i ((ranks + id) ∷ []) (first-is (ranks + id) (ranks + id) [] refl) is
 either-reach ranks me i (GroupAndMemory id) is = either-of me (ranks + id) i (me ∷ (ranks + id) ∷ []) (later-is me (ranks + id) ((ranks + id) ∷ []) (first-is (ranks + id) (ranks + id) [] refl)) is
 
-pub either-event : (w : World) (h : List Event) (e : Event) (posts : Posts) (i : ℕ) → is_legal w h ≡ true → slice_get (state_after w h).posts (owner_of e) ≡ Some posts
-    → IsEither (owner_of e) (rank_other w.limits.ranks (event_reach w.limits posts e)) i → list_any (eqb i) (numbers_of (by_ranks w).number (state_after w h) e) ≡ true
+pub either-event : (w : ShapeValue) (h : List Event) (e : Event) (posts : Posts) (i : ℕ) → is_legal w h ≡ true → slice_get (state_after w h).posts (owner_of e) ≡ Some posts
+    → IsEither (owner_of e) (rank_other w.limits.ranks (event_footprint w.limits posts e)) i → list_any (eqb i) (numbers_of (by_ranks w).number (state_after w h) e) ≡ true
 either-event w h e posts i legal at is =
     let number = rank_number w.limits.ranks in
     let limits = limits-are w h legal in
-    let there : list_any (eqb i) (map number (reach_shards (owner_of e) (event_reach (state_after w h).limits posts e))) ≡ true =
-    subst (λ (l : _). list_any (eqb i) (map number (reach_shards (owner_of e) (event_reach l posts e))) ≡ true) (sym limits) (either-reach w.limits.ranks (owner_of e) i (event_reach w.limits posts e) is) in
-    let plain : list_any (eqb i) (map number (footprint (state_after w h) e)) ≡ true = rw at there in
-    no-repeats (map number (footprint (state_after w h) e)) i ∙ plain
+    let there : list_any (eqb i) (map number (footprint_shards (owner_of e) (event_footprint (state_after w h).limits posts e))) ≡ true =
+    subst (λ (l : _). list_any (eqb i) (map number (footprint_shards (owner_of e) (event_footprint l posts e))) ≡ true) (sym limits) (either-reach w.limits.ranks (owner_of e) i (event_footprint w.limits posts e) is) in
+    let plain : list_any (eqb i) (map number (event_shards (state_after w h) e)) ≡ true = rw at there in
+    no-repeats (map number (event_shards (state_after w h) e)) i ∙ plain
 
 -- A call's join has the call's shards.
-join-touches : (id : ℕ) (args : Args) → (row_of (joining_call id args)).touch ≡ join_touch id args.coll
+join-touches : (id : ℕ) (args : Args) → (row_of (joining_call id args)).footprint ≡ join_footprint id args.coll
 join-touches id args = go args.coll
   where
-    go : (coll : Coll) → (row_of (joining_call id (record { coll = coll; values = args.values }))).touch ≡ join_touch id coll
+    go : (coll : Coll) → (row_of (joining_call id (record { coll = coll; values = args.values }))).footprint ≡ join_footprint id coll
     go colls.Barrier = refl
     go (colls.Allreduce op t k) = refl
     go (colls.Create seg size) = refl
     go (colls.Commit mask) = refl
 
-pub join-other : (w : World) (c : CallerId) (id : ℕ) (args : Args) (call : Call) (posts : Posts) → joining_call id args ≡ call → rank_other w.limits.ranks (event_reach w.limits posts (Joined c id args)) ≡ call_other w c call
+pub join-other : (w : ShapeValue) (c : CallerId) (id : ℕ) (args : Args) (call : Call) (posts : Posts) → joining_call id args ≡ call → rank_other w.limits.ranks (event_footprint w.limits posts (Joined c id args)) ≡ call_other w c call
 join-other w c id args call posts is =
-    ap (λ (t : _). rank_other w.limits.ranks (reach_of w.limits.ranks c.rank t)) (sym (join-touches id args)) ∙ ap (λ (k : Call). call_other w c k) is
+    ap (λ (t : _). rank_other w.limits.ranks (footprint_of w.limits.ranks c.rank t)) (sym (join-touches id args)) ∙ ap (λ (k : Call). call_other w c k) is

@@ -4,15 +4,15 @@ use Rattle.std.specs.List.{slice_get, list_any}
 use Rattle.std.proofs.Math.Bridge.{le_prop}
 use Rattle.std.proofs.Math.Logic.{∥∥₁_elim}
 use Rattle.std.proofs.lemmas.Option.{slice_get_within}
-use Rattle.gaspi_types.specs.World.{World, IsWorld}
+use Rattle.gaspi_types.specs.World.{ShapeValue, IsShape}
 use Rattle.gaspi_types.specs.declared.events.Event.{Event}
 use Rattle.gaspi_types.specs.declared.events.PlacedEvent.{PlacedEvent}
 use Rattle.gaspi_types.specs.declared.shapes.Limits.{Limits}
 use Rattle.gaspi_types.proofs.Chains.{found_then, same_Ok}
 use Rattle.gaspi_model.specs.State.{opening}
-use Rattle.gaspi_model.specs.Shards.{HaveSamePart, AgreeOn, ComeToSame, footprint, numbers_of, without_repeats}
+use Rattle.gaspi_model.specs.Shards.{AgreeOnShard, AgreeOn, HaveSameResult, event_shards, numbers_of, without_repeats}
 use Rattle.gaspi_model.specs.Sound.{IsSound}
-use Rattle.gaspi_model.specs.Step.{step, after, reached, is_legal, owner_of, missing}
+use Rattle.gaspi_model.specs.Step.{step, after, reached, is_legal, owner_of, cause_without_owner}
 use Rattle.gaspi_model.specs.declared.states.Shard.{Shard}
 use Rattle.gaspi_model.specs.declared.states.Shard.TheVariants as parts
 use Rattle.gaspi_model.specs.declared.states.State.{State}
@@ -28,35 +28,35 @@ use Rattle.gaspi_world.specs.RankJournals.{journal_of, noted_by, journal-last, n
 use Rattle.gaspi_world.specs.ShardMachine.{Meaning, state_in, state_after, SameAt, HasParts, StandsFor, AgreeAt, shard_machine}
 
 -- Parts that are the same.
-pub same-self : (s : State) (part : Shard) → HaveSamePart s s part
+pub same-self : (s : State) (part : Shard) → AgreeOnShard s s part
 same-self s (parts.Posts rank) = refl
 same-self s (parts.Memory rank) = refl
 same-self s (parts.Group id) = refl
 
-pub same-back : (s t : State) (part : Shard) → HaveSamePart s t part → HaveSamePart t s part
+pub same-back : (s t : State) (part : Shard) → AgreeOnShard s t part → AgreeOnShard t s part
 same-back s t (parts.Posts rank) h = sym h
 same-back s t (parts.Memory rank) h = sym h
 same-back s t (parts.Group id) h = sym h
 
-pub same-through : (s t u : State) (part : Shard) → HaveSamePart s t part → HaveSamePart t u part → HaveSamePart s u part
+pub same-through : (s t u : State) (part : Shard) → AgreeOnShard s t part → AgreeOnShard t u part → AgreeOnShard s u part
 same-through s t u (parts.Posts rank) h k = h ∙ k
 same-through s t u (parts.Memory rank) h k = h ∙ k
 same-through s t u (parts.Group id) h k = h ∙ k
 
 -- The state after a history.
-pub state-is : (w : World) (h : List Event) (s : State) → reached w h ≡ Ok s → state_after w h ≡ s
+pub state-is : (w : ShapeValue) (h : List Event) (s : State) → reached w h ≡ Ok s → state_after w h ≡ s
 state-is w h s is = ap (λ (r : Result State Why). state_in w r) is
 
-pub arrives : (w : World) (h : List Event) → is_legal w h ≡ true → reached w h ≡ Ok (state_after w h)
+pub arrives : (w : ShapeValue) (h : List Event) → is_legal w h ≡ true → reached w h ≡ Ok (state_after w h)
 arrives w h legal =
     let s = leads (reached w h) legal in
     s.1 ∙ ap (λ (t : State). let r : Result State Why = Ok t in r) (sym (state-is w h s.0 s.1))
 
-pub limits-are : (w : World) (h : List Event) → is_legal w h ≡ true → (state_after w h).limits ≡ w.limits
+pub limits-are : (w : ShapeValue) (h : List Event) → is_legal w h ≡ true → (state_after w h).limits ≡ w.limits
 limits-are w h legal = after-limits (opening w) (state_after w h) h (arrives w h legal)
 
 -- the last event of a legal history is a step
-pub last-step : (w : World) (h : List Event) (e : Event) → is_legal w (h ++ e ∷ []) ≡ true → step (state_after w h) e ≡ Ok (state_after w (h ++ e ∷ []))
+pub last-step : (w : ShapeValue) (h : List Event) (e : Event) → is_legal w (h ++ e ∷ []) ≡ true → step (state_after w h) e ≡ Ok (state_after w (h ++ e ∷ []))
 last-step w h e legal =
     let t = state_after w (h ++ e ∷ []) in
     let both = after-both (opening w) t h (e ∷ []) (arrives w (h ++ e ∷ []) legal) in
@@ -65,13 +65,13 @@ last-step w h e legal =
     subst (λ (s : State). step s e ≡ Ok t) (sym (state-is w h both.0 both.1)) (last.1 ∙ ap (λ (x : State). let r : Result State Why = Ok x in r) same)
 
 -- a step after a legal history makes a legal history
-pub goes-on : (w : World) (h : List Event) (e : Event) (t : State) → is_legal w h ≡ true → step (state_after w h) e ≡ Ok t → reached w (h ++ e ∷ []) ≡ Ok t
+pub goes-on : (w : ShapeValue) (h : List Event) (e : Event) (t : State) → is_legal w h ≡ true → step (state_after w h) e ≡ Ok t → reached w (h ++ e ∷ []) ≡ Ok t
 goes-on w h e t legal made = after-joined (opening w) (state_after w h) h (e ∷ []) (arrives w h legal) ∙ after-step (state_after w h) t e [] made
 
 -- The owner of a step is a rank.
 pub owner-within : (s t : State) (e : Event) → IsSound s → step s e ≡ Ok t → owner_of e < s.limits.ranks
 owner-within s t e sound h =
-    found_then (slice_get s.posts (owner_of e)) (missing e) _ t h (λ posts at rest.
+    found_then (slice_get s.posts (owner_of e)) (cause_without_owner e) _ t h (λ posts at rest.
     subst (λ (n : ℕ). owner_of e < n) sound.ranks (slice_get_within s.posts (owner_of e) posts at))
 
 owners-within : (s t : State) (h : List Event) (ranks : ℕ) → IsSound s → s.limits.ranks ≡ ranks → after s h ≡ Ok t → (k : ℕ) (e : Event) → slice_get h k ≡ Some e → owner_of e < ranks
@@ -85,7 +85,7 @@ owners-within s t (x ∷ h) ranks sound is run (suc k) e at =
     let kept : first.0.limits.ranks ≡ ranks = ap (λ (l : Limits). l.ranks) (limits-stay s first.0 x first.1) ∙ is in
     owners-within first.0 t h ranks (steps s first.0 x sound first.1) kept first.2 k e at
 
-module _ (n : Numbering) (w : World) where
+module _ (n : Numbering) (w : ShapeValue) where
   -- a value that has parts has those of another state that are the same
   pub parts-moved : {X : Type 0} (m : Meaning X) (i : ℕ) (x : X) (s t : State) (a b : ℕ → List PlacedEvent) → SameAt n w i s t → ((rank : ℕ) → n.number (parts.Posts rank) ≡ i → a rank ≡ b rank)
       → HasParts n w m i x s a → HasParts n w m i x t b
@@ -135,9 +135,9 @@ module _ (n : Numbering) (w : World) where
   pub record StepsToo (s s' t : State) (r : Result State Why) : Type 0 where
     pub made : State
     pub is : r ≡ Ok made
-    pub same : (part : Shard) → HaveSamePart s s' part → HaveSamePart t made part
+    pub same : (part : Shard) → AgreeOnShard s s' part → AgreeOnShard t made part
 
-  steps-too : (s s' t : State) (r : Result State Why) → ComeToSame s s' (Ok t) r → StepsToo s s' t r
+  steps-too : (s s' t : State) (r : Result State Why) → HaveSameResult s s' (Ok t) r → StepsToo s s' t r
   steps-too s s' t (Ok made) h = record { made = made; is = refl; same = h.1 }
   steps-too s s' t (Err why) h = absurd h
 
@@ -148,7 +148,7 @@ module _ (n : Numbering) (w : World) where
       let s' = state_after w k in
       let t = state_after w (h ++ e ∷ []) in
       let come = coarse-determined n.number s s' e (agree-on h k e (prefix w h (e ∷ []) legal) also agree) in
-      steps-too s s' t (step s' e) (subst (λ (r : Result State Why). ComeToSame s s' r (step s' e)) (last-step w h e legal) come)
+      steps-too s s' t (step s' e) (subst (λ (r : Result State Why). HaveSameResult s s' r (step s' e)) (last-step w h e legal) come)
 
   -- What an event makes of a shard depends on its shards alone: where two histories agree on them, they have the same parts after it of
   -- each shard of which they had the same, and the same events of its ranks but for the place.
@@ -156,7 +156,7 @@ module _ (n : Numbering) (w : World) where
       → SameAt n w i (state_after w (h ++ e ∷ [])) (state_after w (k ++ e ∷ []))
   shards-determined h k e i legal also agree same part at =
       let too = shards-follow h k e legal also agree in
-      subst (λ (s : State). HaveSamePart (state_after w (h ++ e ∷ [])) s part) (sym (state-is w (k ++ e ∷ []) too.made (goes-on w k e too.made also too.is))) (too.same part (same part at))
+      subst (λ (s : State). AgreeOnShard (state_after w (h ++ e ∷ [])) s part) (sym (state-is w (k ++ e ∷ []) too.made (goes-on w k e too.made also too.is))) (too.same part (same part at))
 
   pub follows-legal : (h k : List Event) (e : Event) → is_legal w (h ++ e ∷ []) ≡ true → is_legal w k ≡ true → ((i : ℕ) → list_any (eqb i) (shards_of h e) ≡ true → AgreeAt n w i h k) → is_legal w (k ++ e ∷ []) ≡ true
   follows-legal h k e legal also agree = let too = shards-follow h k e legal also agree in ap is_ok (goes-on w k e too.made also too.is)
@@ -166,7 +166,7 @@ module _ (n : Numbering) (w : World) where
       ap (λ (l : List Shard). without_repeats (map n.number l))
       (footprint-by-owner (state_after w h) (state_after w k) e (limits-are w h legal ∙ sym (limits-are w k also)) (agree.state (parts.Posts (owner_of e)) refl))
 
-  pub shards-lawful : {X : Type 0} (m : Meaning X) (party : Event → Option ℕ) → ∥ IsWorld w ∥₁ → Laws (shard_machine n w m party)
+  pub shards-lawful : {X : Type 0} (m : Meaning X) (party : Event → Option ℕ) → ∥ IsShape w ∥₁ → Laws (shard_machine n w m party)
   shards-lawful m party valid = record {
     bounded = λ h legal. ∥∥₁_elim {P = length h < 2 ^ 64} valid le_prop (λ world. few-events w h (state_after w h) world (arrives w h legal));
     opening = refl;
@@ -191,6 +191,6 @@ module _ (n : Numbering) (w : World) where
       let there = state-is w (k ++ e ∷ []) too.made (goes-on w k e too.made also too.is) in
       let here = agree i among in
       let same : SameAt n w i (state_after w (h ++ e ∷ [])) (state_after w (k ++ e ∷ [])) = λ part at.
-      subst (λ (s : State). HaveSamePart (state_after w (h ++ e ∷ [])) s part) (sym there) (too.same part (here.state part at)) in
+      subst (λ (s : State). AgreeOnShard (state_after w (h ++ e ∷ [])) s part) (sym there) (too.same part (here.state part at)) in
       parts-moved m i x (state_after w (h ++ e ∷ [])) (state_after w (k ++ e ∷ [])) (λ rank. journal_of rank h ++ noted_by rank (length k) e) (λ rank. journal_of rank (k ++ e ∷ [])) same
       (λ rank at. ap (λ (l : List PlacedEvent). l ++ noted_by rank (length k) e) (here.journals rank at) ∙ sym (journal-last rank k e)) has

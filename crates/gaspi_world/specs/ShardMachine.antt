@@ -1,13 +1,13 @@
 -- The machine whose state lies in shards by a numbering: its histories are the legal ones of the machine from the start of a
 -- world, and a shard has those parts of the state that have its number, and of each rank whose posts are there its rank journal.
 use Rattle.std.specs.Prelude.{◌≡◌, ℕ, true, List, Option, Some, Result, Ok, Err, slice_get}
-use Rattle.gaspi_types.specs.World.{World}
+use Rattle.gaspi_types.specs.World.{ShapeValue}
 use Rattle.gaspi_types.specs.declared.events.Event.{Event}
 use Rattle.gaspi_types.specs.declared.events.PlacedEvent.{PlacedEvent}
 use Rattle.gaspi_types.specs.declared.groups.Group as groups
 use Rattle.gaspi_model.specs.State.{opening}
 use Rattle.gaspi_model.specs.Step.{reached, is_legal, owner_of}
-use Rattle.gaspi_model.specs.Shards.{HaveSamePart, numbers_of}
+use Rattle.gaspi_model.specs.Shards.{AgreeOnShard, numbers_of}
 use Rattle.gaspi_model.specs.declared.states.Memory.{Memory}
 use Rattle.gaspi_model.specs.declared.states.Posts.{Posts}
 use Rattle.gaspi_model.specs.declared.states.Shard.{Shard}
@@ -26,17 +26,17 @@ pub record Meaning (X : Type 0) : Type 1 where
   pub IsGroup : X → ℕ → groups.Group → Type 0
 
 -- the state after a history; after one that is not legal, that of the start
-abbrev pub state_in : World → Result State Why → State
+abbrev pub state_in : ShapeValue → Result State Why → State
 state_in w (Ok s) = s
 state_in w (Err why) = opening w
 
-abbrev pub state_after : World → List Event → State
+abbrev pub state_after : ShapeValue → List Event → State
 state_after w h = state_in w (reached w h)
 
-module _ (n : Numbering) (w : World) where
+module _ (n : Numbering) (w : ShapeValue) where
   -- the parts of a shard are the same in two states
   abbrev pub SameAt : ℕ → State → State → Type 0
-  SameAt i s t = (part : Shard) → n.number part ≡ i → HaveSamePart s t part
+  SameAt i s t = (part : Shard) → n.number part ≡ i → AgreeOnShard s t part
 
   -- a value of a shard has the parts that a state has there, and of the ranks these events
   pub record HasParts {X : Type 0} (m : Meaning X) (i : ℕ) (x : X) (s : State) (journal : ℕ → List PlacedEvent) : Type 0 where

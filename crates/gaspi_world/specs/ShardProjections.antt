@@ -2,7 +2,7 @@
 use Rattle.std.specs.Prelude.{◌≡◌, ◌<◌, ℕ, true, cond, eqb, List, [], ◌∷◌, ◌++◌, length, Option, None, Some, Ok}
 use Rattle.std.specs.List.{list_any}
 use mathlib.Core.List.{IsPrefix}
-use Rattle.gaspi_types.specs.World.{World}
+use Rattle.gaspi_types.specs.World.{ShapeValue}
 use Rattle.gaspi_types.specs.declared.events.Event.{Event}
 use Rattle.gaspi_types.specs.declared.events.PlacedEvent.{PlacedEvent}
 use Rattle.gaspi_model.specs.Shards.{numbers_of}
@@ -10,8 +10,8 @@ use Rattle.gaspi_model.specs.Sound.{IsSound}
 use Rattle.gaspi_model.specs.Step.{is_legal, step}
 use Rattle.gaspi_model.specs.declared.states.State.{State}
 use Rattle.commit_table.specs.Machine.{Machine, IsOwn}
-use Rattle.commit_table.specs.Views.{held_at, took, mine_after}
-use Rattle.commit_table.specs.declared.views.Known.{Known}
+use Rattle.commit_table.specs.Views.{held_at, after_take, mine_after}
+use Rattle.commit_table.specs.declared.views.PassView.{PassView}
 use Rattle.gaspi_world.specs.Numbering.{Numbering}
 use Rattle.gaspi_world.specs.RankJournals.{noted_by}
 use Rattle.gaspi_world.specs.ShardMachine.{Meaning, state_after, HasParts, StandsFor, AgreeAt, shard_machine}
@@ -21,13 +21,13 @@ abbrev pub value_at : {X : Type 0} → List (ℕ × X) → ℕ → Option X
 value_at [] i = None
 value_at (v ∷ values) i = cond (eqb i v.0) (Some v.1) (value_at values i)
 
-module _ {X : Type 0} (n : Numbering) (w : World) where
+module _ {X : Type 0} (n : Numbering) (w : ShapeValue) where
   -- the values are those of the shards of an event after a history, and of no others
   pub record AreShardsOf (e : Event) (h : List Event) (values : List (ℕ × X)) : Type 0 where
     pub has : (i : ℕ) → list_any (eqb i) (numbers_of n.number (state_after w h) e) ≡ true → (x : X) × (value_at values i ≡ Some x)
     pub only : (i : ℕ) (x : X) → value_at values i ≡ Some x → list_any (eqb i) (numbers_of n.number (state_after w h) e) ≡ true
 
-module _ {X : Type 0} (n : Numbering) (w : World) (m : Meaning X) where
+module _ {X : Type 0} (n : Numbering) (w : ShapeValue) (m : Meaning X) where
   -- Values of shards have made the step of an event at a place: in every sound state of which the old ones have the parts, and in which
   -- the event is a step, the new ones have the parts after it, with the event in its owner's rank journal.
   pub record HaveStepped (e : Event) (place : ℕ) (old new : List (ℕ × X)) : Type 0 where
@@ -36,17 +36,17 @@ module _ {X : Type 0} (n : Numbering) (w : World) (m : Meaning X) where
     pub stepped : (s t : State) (journal : ℕ → List PlacedEvent) → IsSound s → s.limits ≡ w.limits → step s e ≡ Ok t → ((j : ℕ) (x : X) → value_at old j ≡ Some x → HasParts n w m j x s journal)
         → (i : ℕ) (y : X) → value_at new i ≡ Some y → HasParts n w m i y t (λ rank. journal rank ++ noted_by rank place e)
 
-module _ {S X : Type 0} (n : Numbering) (w : World) (m : Meaning X) where
+module _ {S X : Type 0} (n : Numbering) (w : ShapeValue) (m : Meaning X) where
   -- a shard is held, with a history that agrees with what the pass has seen there, and its value stands for what it has seen
-  pub record HoldsAt (i : ℕ) (x : X) (v : Known S Event) : Type 0 where
+  pub record HoldsAt (i : ℕ) (x : X) (v : PassView S Event) : Type 0 where
     pub upto : List Event
     pub held : held_at v.held i ≡ Some upto
     pub agrees : AgreeAt n w i upto v.seen
     pub stands : StandsFor n w m i x v.seen
 
-module _ {S X : Type 0} (n : Numbering) (w : World) (m : Meaning X) (party : Event → Option ℕ) where
+module _ {S X : Type 0} (n : Numbering) (w : ShapeValue) (m : Meaning X) (party : Event → Option ℕ) where
   -- the pass holds the shards of these values and no other
-  pub record Holds (values : List (ℕ × X)) (v : Known S Event) : Type 0 where
+  pub record Holds (values : List (ℕ × X)) (v : PassView S Event) : Type 0 where
     pub legal : is_legal w v.seen ≡ true
     pub each : (i : ℕ) (x : X) → value_at values i ≡ Some x → HoldsAt n w m i x v
     pub within : (i : ℕ) (x : X) → value_at values i ≡ Some x → i < n.shards
@@ -55,19 +55,19 @@ module _ {S X : Type 0} (n : Numbering) (w : World) (m : Meaning X) (party : Eve
 
 module _ {S X E : Type 0} (m : Machine X E) where
   -- two shards were taken, one after the other
-  pub record TookBoth (v : Known S E) (low high : ℕ) (x y : X) (u : Known S E) : Type 0 where
+  pub record TookBoth (v : PassView S E) (low high : ℕ) (x y : X) (u : PassView S E) : Type 0 where
     pub first : List E
     pub second : List E
-    pub is : u ≡ took (took v low first) high second
+    pub is : u ≡ after_take (after_take v low first) high second
     pub low_stands : m.Stands low x first
     pub high_stands : m.Stands high y second
     pub low_legal : m.Legal first
     pub high_legal : m.Legal second
     pub seen : IsPrefix v.seen first
 
-module _ {S : Type 0} (n : Numbering) (w : World) (party : Event → Option ℕ) where
+module _ {S : Type 0} (n : Numbering) (w : ShapeValue) (party : Event → Option ℕ) where
   -- an event was committed, behind a history that goes on from what had been seen and agrees with it on the event's shards
-  pub record Added (v : Known S Event) (e : Event) (u : Known S Event) : Type 0 where
+  pub record IsCommitted (v : PassView S Event) (e : Event) (u : PassView S Event) : Type 0 where
     pub before : List Event
     pub seen : u.seen ≡ before ++ e ∷ []
     pub later : IsPrefix v.seen before
@@ -76,6 +76,6 @@ module _ {S : Type 0} (n : Numbering) (w : World) (party : Event → Option ℕ)
     pub commits : u.commits ≡ v.commits ++ length before ∷ []
     pub looks : u.looks ≡ v.looks
     pub missed : u.missed ≡ v.missed
-    pub met : u.met ≡ v.met
+    pub met : u.lock_history ≡ v.lock_history
     pub party_is : u.party ≡ v.party
     pub start : u.start ≡ v.start

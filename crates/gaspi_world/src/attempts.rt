@@ -2,7 +2,7 @@
 
 ghost use Rattle.std.specs.Prelude.{◌≡◌, ◌≢◌, ◌≤◌, ◌<◌, ℕ, false, Some, None, Err, IsSome, IfOk, IfErr};
 ghost use Rattle.gaspi_types.specs.CallRows.{row_of};
-ghost use Rattle.gaspi_types.specs.World.{IsWorld};
+ghost use Rattle.gaspi_types.specs.World.{IsShape};
 ghost use Rattle.gaspi_types.specs.declared.events.Event.TheVariants.{Called};
 ghost use Rattle.gaspi_types.specs.declared.replies.Ready.TheVariants as ready;
 ghost use Rattle.gaspi_model.specs.Calls.{recorded_reply};
@@ -11,12 +11,12 @@ ghost use Rattle.commit_table.specs.Calls.{IsOf, HoldsNone};
 ghost use Rattle.rank_node.specs.Rooms.{IsRecordRoom, IsRoomFor, FitsReserved};
 ghost use Rattle.gaspi_world.specs.Attempts.{Attempted};
 ghost use Rattle.gaspi_world.specs.Callers.{IsPassOf};
-ghost use Rattle.gaspi_world.specs.Holds.{Holds, Added};
-ghost use Rattle.gaspi_world.specs.Works.{is_early, is_full_for, IsHolder, MayRecord, MayJoinAs, FitsMemory, FoundFits, Settled, WorkedOut};
+ghost use Rattle.gaspi_world.specs.HeldShards.{Holds, IsCommitted};
+ghost use Rattle.gaspi_world.specs.HeldAttempts.{waits_for_later_look, is_full_for, IsHolder, MayRecord, MayJoinAs, FitsMemory, FoundFits, IsDecided, AttemptedWhileHeld};
 ghost use Rattle.gaspi_world.specs.declared.attempts.Halt.TheVariants as halts;
 
 use crate::committing::{commit_call, commit_join};
-use crate::holding::{HeldShards, leave, open, reached_shard};
+use crate::holding::{HeldShards, give_back, reached_shard, take_and_look};
 use crate::starts::Start;
 use crate::worlds::Pass;
 use commit_table::CommitTable;
@@ -61,7 +61,7 @@ fn join_args(found: Ready) -> Result<Args, Ready>
 
 /// Whether a call is not ready, and there may be another look.
 fn is_early(found: &Ready, look: Look) -> bool
-    ensures { result ≡ is_early found.now look }
+    ensures { result ≡ waits_for_later_look found.now look }
 {
     match (found, look) {
         (Ready::NotReady, Look::More) => true,
@@ -79,7 +79,7 @@ fn record_with(
     found: Ready,
     room: &mut Room,
 ) -> Reply
-    requires world { IsWorld table.now.start.shape }
+    requires world { IsShape table.now.start.shape }
     requires holder { IsHolder table.now invocation.now.caller call held.old pass.old }
     requires found { MayRecord table.now.start.shape invocation.now.caller call found pass.old.known.seen }
     requires fits { FoundFits table.now.start.shape invocation.now.caller call found room.old }
@@ -88,7 +88,7 @@ fn record_with(
     ensures table { pass.new.table ≡ pass.old.table }
     ensures held { Holds table.now.start.shape held.new pass.new.known }
     ensures reply { result ≡ recorded_reply found }
-    ensures added { Added table.now.start.shape pass.old.known (Called invocation.now.caller call result) pass.new.known }
+    ensures added { IsCommitted table.now.start.shape pass.old.known (Called invocation.now.caller call result) pass.new.known }
 {
     let reply = recorded_reply(found);
     let told = room.again(&reply);
@@ -98,7 +98,7 @@ fn record_with(
 
 /// Records a call as it was found, and commits it; or leaves it for another look, where it is not ready and there may be one. All memory
 /// is taken before anything changes.
-fn settle(
+fn decide(
     table: &CommitTable<Start>,
     pass: &mut Pass,
     alloc: Global,
@@ -107,13 +107,13 @@ fn settle(
     look: Look,
     found: Ready,
 ) -> Result<Reply, Halt>
-    requires world { IsWorld table.now.start.shape }
+    requires world { IsShape table.now.start.shape }
     requires holder { IsHolder table.now invocation.now.caller invocation.now.call.now held.old pass.old }
     requires found { MayRecord table.now.start.shape invocation.now.caller invocation.now.call.now found pass.old.known.seen }
     requires fits { FitsMemory table.now.start.shape invocation.now.caller invocation.now.call.now found held.old }
     ensures table { pass.new.table ≡ pass.old.table }
     ensures held { Holds table.now.start.shape held.new pass.new.known }
-    ensures settled { Settled table.now.start.shape invocation.now.caller invocation.now.call.now found look pass.old.known result pass.new.known }
+    ensures settled { IsDecided table.now.start.shape invocation.now.caller invocation.now.call.now found look pass.old.known result pass.new.known }
     ensures ample { (row_of invocation.now.call.now).takes_memory ≡ false → result ≢ Err halts.NoMemory }
 {
     if is_early(&found, look) {
@@ -149,7 +149,7 @@ fn join(
     args: Args,
     room: &mut Room,
 ) -> Ready
-    requires world { IsWorld table.now.start.shape }
+    requires world { IsShape table.now.start.shape }
     requires holder { IsHolder table.now invocation.now.caller call.now held.old pass.old }
     requires call { call.now ≡ invocation.now.call.now }
     requires joins { MayJoinAs table.now.start.shape invocation.now.caller call.now args held.old pass.old.known }
@@ -157,7 +157,7 @@ fn join(
     requires room { IsRoomFor held.old.nodes.own.value.posts held.old.nodes.own.value.memory call.now room.old }
     ensures table { pass.new.table ≡ pass.old.table }
     ensures holder { IsHolder table.now invocation.now.caller call.now held.new pass.new }
-    ensures added { Added table.now.start.shape pass.old.known (join_event invocation.now.caller call.now args) pass.new.known }
+    ensures added { IsCommitted table.now.start.shape pass.old.known (join_event invocation.now.caller call.now args) pass.new.known }
     ensures found { MayRecord table.now.start.shape invocation.now.caller call.now result pass.new.known.seen }
     ensures fits { FoundFits table.now.start.shape invocation.now.caller call.now result room.new }
     ensures row { room.new.row ≡ room.old.row }
@@ -179,13 +179,13 @@ fn join_first(
     look: Look,
     args: Args,
 ) -> Result<Reply, Halt>
-    requires world { IsWorld table.now.start.shape }
+    requires world { IsShape table.now.start.shape }
     requires holder { IsHolder table.now invocation.now.caller invocation.now.call.now held.old pass.old }
     requires joins { MayJoinAs table.now.start.shape invocation.now.caller invocation.now.call.now args held.old pass.old.known }
     requires fits { FitsMemory table.now.start.shape invocation.now.caller invocation.now.call.now (ready.Join args) held.old }
     ensures table { pass.new.table ≡ pass.old.table }
     ensures held { Holds table.now.start.shape held.new pass.new.known }
-    ensures worked { WorkedOut table.now.start.shape invocation.now.caller invocation.now.call.now look pass.old.known result pass.new.known }
+    ensures worked { AttemptedWhileHeld table.now.start.shape invocation.now.caller invocation.now.call.now look pass.old.known result pass.new.known }
     ensures ample { (row_of invocation.now.call.now).takes_memory ≡ false → result ≢ Err halts.NoMemory }
 {
     let Ok(mut room) = held.nodes.room(alloc, invocation) else {
@@ -209,7 +209,7 @@ fn lacks_room(held: &HeldShards, invocation: &Invocation<'_>) -> bool
 }
 
 /// Makes a call while its shards are held: tests the room, looks, joins where it must, and settles.
-fn work(
+fn attempt_held(
     table: &CommitTable<Start>,
     pass: &mut Pass,
     alloc: Global,
@@ -217,11 +217,11 @@ fn work(
     invocation: &Invocation<'_>,
     look: Look,
 ) -> Result<Reply, Halt>
-    requires world { IsWorld table.now.start.shape }
+    requires world { IsShape table.now.start.shape }
     requires holder { IsHolder table.now invocation.now.caller invocation.now.call.now held.old pass.old }
     ensures table { pass.new.table ≡ pass.old.table }
     ensures held { Holds table.now.start.shape held.new pass.new.known }
-    ensures worked { WorkedOut table.now.start.shape invocation.now.caller invocation.now.call.now look pass.old.known result pass.new.known }
+    ensures worked { AttemptedWhileHeld table.now.start.shape invocation.now.caller invocation.now.call.now look pass.old.known result pass.new.known }
     ensures ample { (row_of invocation.now.call.now).takes_memory ≡ false → result ≢ Err halts.NoMemory }
 {
     if lacks_room(held, invocation) {
@@ -232,7 +232,7 @@ fn work(
     };
     match join_args(found) {
         Ok(args) => join_first(table, pass, alloc, held, invocation, look, args),
-        Err(found) => settle(table, pass, alloc, held, invocation, look, found),
+        Err(found) => decide(table, pass, alloc, held, invocation, look, found),
     }
 }
 
@@ -251,7 +251,7 @@ pub fn attempt(
     invocation: &Invocation<'_>,
     look: Look,
 ) -> Result<Reply, Halt>
-    requires world { IsWorld table.now.start.shape }
+    requires world { IsShape table.now.start.shape }
     requires pass { IsOf table.now pass.old }
     requires free { HoldsNone pass.old.known }
     requires caller { IsPassOf table.now.start.shape invocation.now.caller pass.old.known }
@@ -262,12 +262,12 @@ pub fn attempt(
 {
     let ranks = table.start().shape.ranks();
     let own = invocation.caller.rank;
-    let other = reached_shard(ranks, invocation.row.touch.reach(ranks, own));
-    let Some(mut held) = open(table, pass, own.number(), other) else {
+    let other = reached_shard(ranks, invocation.row.footprint.reach(ranks, own));
+    let Some(mut held) = take_and_look(table, pass, own.number(), other) else {
         return Err(Halt::Busy);
     };
-    let told = work(table, pass, alloc, &mut held, invocation, look);
-    leave(table, pass, held);
+    let told = attempt_held(table, pass, alloc, &mut held, invocation, look);
+    give_back(table, pass, held);
     tell(table.start(), &told, &invocation.row, own.number(), other);
     told
 }

@@ -4,7 +4,7 @@ ghost use Rattle.std.specs.Prelude.{◌≡◌, IfOk};
 ghost use Rattle.gaspi_world.specs.Callers.{numbered, all_numbered};
 ghost use Rattle.gaspi_model.specs.Parties.{comes_before, number_of};
 
-use gaspi_types::{CallerId, NoMemory, Rows};
+use gaspi_types::{CallerId, NoMemory, Sequence};
 use std::alloc::Global;
 
 /// Whether a caller comes before another.
@@ -33,10 +33,13 @@ fn numbered(callers: &[CallerId], number: usize) -> Option<CallerId>
 
 /// The callers by their numbers.
 #[tactic(auto, using(crate::proofs::Numbers::numbered_more))]
-pub fn all_numbered(alloc: Global, callers: &[CallerId]) -> Result<Rows<Option<CallerId>>, NoMemory>
+pub fn all_numbered(
+    alloc: Global,
+    callers: &[CallerId],
+) -> Result<Sequence<Option<CallerId>>, NoMemory>
     ensures { IfOk result (λ rows. rows ≡ all_numbered callers.now) }
 {
-    let mut rows = Rows::with_room(alloc, callers.len())?;
+    let mut rows = Sequence::with_capacity(alloc, callers.len())?;
     for number in 0..callers.len() {
         rows.push(numbered(callers, number))?;
     }

@@ -2,7 +2,7 @@
 
 ghost use Rattle.std.specs.Prelude.{◌≡◌, ◌≢◌, Err, false};
 ghost use Rattle.gaspi_types.specs.CallRows.{row_of};
-ghost use Rattle.gaspi_types.specs.World.{IsWorld};
+ghost use Rattle.gaspi_types.specs.World.{IsShape};
 ghost use Rattle.timeout_state.specs.Looks.{looks_of, HasLook};
 ghost use Rattle.commit_table.specs.Calls.{IsOf, HoldsNone};
 ghost use Rattle.gaspi_world.specs.Callers.{IsPassOf};
@@ -13,7 +13,7 @@ use crate::attempts::{Halt, attempt};
 use crate::holding::reached_shard;
 use crate::starts::Start;
 use crate::worlds::Pass;
-use commit_table::{Change, CommitTable, Pauses};
+use commit_table::{BackOff, Change, CommitTable};
 use gaspi_types::{Invocation, Reply, Timeout};
 use rank_node::Budget;
 use std::alloc::Global;
@@ -38,7 +38,7 @@ pub fn call<R: Wait>(
     invocation: &Invocation<'_>,
     timeout: Timeout,
 ) -> Result<Reply, Stop>
-    requires world { IsWorld table.now.start.shape }
+    requires world { IsShape table.now.start.shape }
     requires pass { IsOf table.now pass.old }
     requires free { HoldsNone pass.old.known }
     requires caller { IsPassOf table.now.start.shape invocation.now.caller pass.old.known }
@@ -51,8 +51,8 @@ pub fn call<R: Wait>(
     let start = table.start();
     let ranks = start.shape.ranks();
     let own = invocation.caller.rank;
-    let other = reached_shard(ranks, invocation.row.touch.reach(ranks, own));
-    let mut pauses = Pauses::new();
+    let other = reached_shard(ranks, invocation.row.footprint.reach(ranks, own));
+    let mut pauses = BackOff::new();
     let mut budget = Budget::new(timeout);
     let mut look = budget.next();
     for _ in rt.forever() {

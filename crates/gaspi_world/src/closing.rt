@@ -3,7 +3,7 @@
 ghost use Rattle.std.specs.Prelude.{◌≡◌, ◌+◌, ◌*◌, ◌≤◌, ◌++◌, true, Some, List, [], map, length, IfOk, IfErr};
 ghost use Rattle.commit_table.specs.Calls.{AreShards, AreWhole};
 ghost use Rattle.gaspi_types.specs.World as shapes;
-ghost use Rattle.gaspi_types.specs.World.{IsWorld};
+ghost use Rattle.gaspi_types.specs.World.{IsShape};
 ghost use Rattle.gaspi_types.specs.declared.events.Event.{Event};
 ghost use Rattle.gaspi_model.specs.Step.{is_legal};
 ghost use Rattle.gaspi_model.specs.ContributionCounts.{ContributesOnce};
@@ -14,7 +14,7 @@ ghost use Rattle.gaspi_world.specs.WorldMachine.{world_machine};
 use crate::shards::WorldShard;
 use crate::starts::Start;
 use crate::worlds::{Passes, World};
-use commit_table::Ended;
+use commit_table::ClosedTable;
 use gaspi_model::{contribution_counts, notification_values};
 use gaspi_texts::{Journal, MergeRoom};
 use std::alloc::Global;
@@ -43,8 +43,8 @@ fn add_journal(room: &mut MergeRoom, shard: WorldShard)
 
 /// The journal of which the rank journals in the shards of ranks are parts.
 fn merged(shards: Vec<WorldShard>, mut room: MergeRoom) -> Journal
-    requires room { (w : shapes.World) × (journal : List Event) × IsWorld w × AreShards (world_machine w) shards.items journal × (is_legal w journal ≡ true) × (room ≡ record { lists = []; ranks = w.limits.ranks; events = w.limits.ranks * w.limits.events }) }
-    ensures { (w : shapes.World) (journal : List Event) → IsWorld w → AreShards (world_machine w) shards.items journal → is_legal w journal ≡ true → result ≡ journal }
+    requires room { (w : shapes.ShapeValue) × (journal : List Event) × IsShape w × AreShards (world_machine w) shards.items journal × (is_legal w journal ≡ true) × (room ≡ record { lists = []; ranks = w.limits.ranks; events = w.limits.ranks * w.limits.events }) }
+    ensures { (w : shapes.ShapeValue) (journal : List Event) → IsShape w → AreShards (world_machine w) shards.items journal → is_legal w journal ≡ true → result ≡ journal }
 {
     for shard in shards {
         add_journal(&mut room, shard);
@@ -67,7 +67,7 @@ fn close_with(world: World, passes: Passes, room: MergeRoom) -> (Journal, Tally)
     contribution_counts();
     notification_values();
     world.shape().limits();
-    let Ended { shards, tally } = world.into_table().close(passes);
+    let ClosedTable { shards, tally } = world.into_table().close(passes);
     (merged(shards, room), tally)
 }
 

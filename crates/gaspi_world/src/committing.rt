@@ -2,7 +2,7 @@
 
 ghost use Rattle.std.specs.Prelude.{◌≡◌, ◌≤◌, ℕ, ◌++◌, ◌∷◌, [], None, Some, true, length};
 ghost use Rattle.gaspi_types.specs.CallRows.{row_of};
-ghost use Rattle.gaspi_types.specs.World.{IsWorld};
+ghost use Rattle.gaspi_types.specs.World.{IsShape};
 ghost use Rattle.gaspi_types.specs.declared.events.Event.TheVariants.{Called, Joined};
 ghost use Rattle.gaspi_model.specs.CollectiveCalls.{joining_call};
 ghost use Rattle.gaspi_model.specs.Step.{is_legal};
@@ -18,7 +18,7 @@ ghost use Rattle.rank_node.specs.Lending.{MayStep, IsStepOn, IsLeft};
 ghost use Rattle.rank_node.specs.Rooms.{IsRecordRoom};
 ghost use Rattle.gaspi_world.specs.RankShards.{call_other};
 ghost use Rattle.gaspi_world.specs.Callers.{IsPassOf};
-ghost use Rattle.gaspi_world.specs.Holds.{Holds, Added};
+ghost use Rattle.gaspi_world.specs.HeldShards.{Holds, IsCommitted};
 
 use crate::holding::HeldShards;
 use crate::starts::Start;
@@ -51,7 +51,7 @@ pub fn commit_call(
     reply: Reply,
     room: &mut Room,
 )
-    requires world { IsWorld table.now.start.shape }
+    requires world { IsShape table.now.start.shape }
     requires pass { IsOf table.now pass.old }
     requires caller { IsPassOf table.now.start.shape caller pass.old.known }
     requires held { Holds table.now.start.shape held.old pass.old.known }
@@ -62,7 +62,7 @@ pub fn commit_call(
     ensures table { pass.new.table ≡ pass.old.table }
     ensures held { Holds table.now.start.shape held.new pass.new.known }
     ensures shards { (held.new.own ≡ held.old.own) × (held.new.other ≡ held.old.other) }
-    ensures added { Added table.now.start.shape pass.old.known (Called caller call reply) pass.new.known }
+    ensures added { IsCommitted table.now.start.shape pass.old.known (Called caller call reply) pass.new.known }
 {
     let event = Event::Called(caller, call, reply);
     let place = table.commit(pass, &event);
@@ -100,7 +100,7 @@ pub fn commit_join(
     args: Args,
     room: &mut Room,
 )
-    requires world { IsWorld table.now.start.shape }
+    requires world { IsShape table.now.start.shape }
     requires pass { IsOf table.now pass.old }
     requires caller { IsPassOf table.now.start.shape caller pass.old.known }
     requires held { Holds table.now.start.shape held.old pass.old.known }
@@ -111,7 +111,7 @@ pub fn commit_join(
     ensures table { pass.new.table ≡ pass.old.table }
     ensures held { Holds table.now.start.shape held.new pass.new.known }
     ensures shards { (held.new.own ≡ held.old.own) × (held.new.other ≡ held.old.other) }
-    ensures added { Added table.now.start.shape pass.old.known (Joined caller group args) pass.new.known }
+    ensures added { IsCommitted table.now.start.shape pass.old.known (Joined caller group args) pass.new.known }
     ensures waits { IsPendingFor held.new.nodes.own.value.posts caller.thread group (joining_call group args) }
     ensures row { room.new.row ≡ room.old.row }
     ensures event { room.new.numbers.event ≡ room.old.numbers.event }

@@ -1,13 +1,13 @@
 //! The shards of an event, taken and given back.
 
 ghost use Rattle.std.specs.Prelude.{◌≡◌, ℕ, ◌<◌, ◌≤◌, ◌+◌, ◌⊎◌, ◌∷◌, [], None, Some, true, false, IfSome, IfNone, IsSomeAnd};
-ghost use Rattle.gaspi_types.specs.World.{IsWorld};
-ghost use Rattle.commit_table.specs.Attempts.{LookedOnly, Missed};
+ghost use Rattle.gaspi_types.specs.World.{IsShape};
+ghost use Rattle.commit_table.specs.Attempts.{IsLookedOnly, IsMissed};
 ghost use Rattle.commit_table.specs.Calls.{IsOf, HoldsNone};
 ghost use Rattle.gaspi_world.specs.ShardProjections.{TookBoth};
 ghost use Rattle.gaspi_world.specs.RankShards.{IsEither, rank_other};
-ghost use Rattle.gaspi_world.specs.Holds.{Holds, values_of, other_value, IsOther, IsOtherShard, left_by};
-ghost use Rattle.gaspi_world.specs.Moves.{HasMoved};
+ghost use Rattle.gaspi_world.specs.HeldShards.{Holds, values_of, other_value, IsOther, IsOtherShard, left_by};
+ghost use Rattle.gaspi_world.specs.Transfers.{HasMoved};
 ghost use Rattle.gaspi_world.specs.Shards.{IsRankShard};
 ghost use Rattle.gaspi_world.specs.WorldMachine.{world_machine};
 ghost use Rattle.gaspi_world.specs.declared.shards.WorldShard.TheVariants as shards;
@@ -16,7 +16,7 @@ use crate::shards::WorldShard;
 use crate::starts::Start;
 use crate::worlds::Pass;
 use commit_table::CommitTable;
-use gaspi_types::Reach;
+use gaspi_types::Footprint;
 use rank_node::{HeldNodes, Node, OtherNode};
 use std::boxed::Box;
 
@@ -30,16 +30,15 @@ pub struct HeldShards {
 }
 
 /// The shard that an event has beside its owner's, by what it reaches.
-pub fn reached_shard(ranks: u32, reach: Reach) -> Option<u32>
+pub fn reached_shard(ranks: u32, reach: Footprint) -> Option<u32>
     requires { ranks ≤ 16 }
     ensures { result ≡ rank_other ranks reach }
 {
     match reach {
-        Reach::Alone | Reach::OwnMemory => None,
-        Reach::PeerMemory(rank) | Reach::BothMemories(rank) | Reach::PeerPosts(rank) => {
-            Some(rank.number())
-        }
-        Reach::Group(id) | Reach::GroupAndMemory(id) => Some(ranks + id.number()),
+        Footprint::Alone | Footprint::OwnMemory => None,
+        Footprint::PeerMemory(rank) | Footprint::BothMemories(rank) | Footprint::PeerPosts(rank) =>
+            { Some(rank.number()) }
+        Footprint::Group(id) | Footprint::GroupAndMemory(id) => Some(ranks + id.number()),
     }
 }
 
@@ -126,7 +125,7 @@ fn take_both(
     ensures table { pass.new.table ≡ pass.old.table }
     ensures start { pass.new.known.start ≡ pass.old.known.start }
     ensures both { IfSome result (λ r. TookBoth (world_machine table.now.start.shape) pass.old.known low high r.0 r.1 pass.new.known) }
-    ensures missed { IfNone result (Missed (world_machine table.now.start.shape) pass.old.known (λ i. (i ≡ low) ⊎ (i ≡ high)) pass.new.known) }
+    ensures missed { IfNone result (IsMissed (world_machine table.now.start.shape) pass.old.known (λ i. (i ≡ low) ⊎ (i ≡ high)) pass.new.known) }
     ensures free { IfNone result (HoldsNone pass.new.known) }
 {
     let Some(first) = table.try_take(pass, low) else {
@@ -146,7 +145,7 @@ fn open_both(
     own: u32,
     other: u32,
 ) -> Option<HeldShards>
-    requires world { IsWorld table.now.start.shape }
+    requires world { IsShape table.now.start.shape }
     requires pass { IsOf table.now pass.old }
     requires free { HoldsNone pass.old.known }
     requires own { own < table.now.start.shape.limits.ranks }
@@ -155,8 +154,8 @@ fn open_both(
     ensures table { pass.new.table ≡ pass.old.table }
     ensures held { IfSome result (λ held. Holds table.now.start.shape held pass.new.known) }
     ensures shards { IfSome result (λ held. (held.own ≡ own) × (held.other ≡ Some other)) }
-    ensures looked { IfSome result (λ held. LookedOnly (world_machine table.now.start.shape) pass.old.known pass.new.known) }
-    ensures missed { IfNone result (Missed (world_machine table.now.start.shape) pass.old.known (IsEither own (Some other)) pass.new.known) }
+    ensures looked { IfSome result (λ held. IsLookedOnly (world_machine table.now.start.shape) pass.old.known pass.new.known) }
+    ensures missed { IfNone result (IsMissed (world_machine table.now.start.shape) pass.old.known (IsEither own (Some other)) pass.new.known) }
     ensures free { IfNone result (HoldsNone pass.new.known) }
 {
     if own < other {
@@ -175,15 +174,15 @@ fn open_both(
 
 /// Takes the shard of a rank, and looks.
 fn open_own(table: &CommitTable<Start>, pass: &mut Pass, own: u32) -> Option<HeldShards>
-    requires world { IsWorld table.now.start.shape }
+    requires world { IsShape table.now.start.shape }
     requires pass { IsOf table.now pass.old }
     requires free { HoldsNone pass.old.known }
     requires own { own < table.now.start.shape.limits.ranks }
     ensures table { pass.new.table ≡ pass.old.table }
     ensures held { IfSome result (λ held. Holds table.now.start.shape held pass.new.known) }
     ensures shards { IfSome result (λ held. (held.own ≡ own) × (held.other ≡ None)) }
-    ensures looked { IfSome result (λ held. LookedOnly (world_machine table.now.start.shape) pass.old.known pass.new.known) }
-    ensures missed { IfNone result (Missed (world_machine table.now.start.shape) pass.old.known (IsEither own None) pass.new.known) }
+    ensures looked { IfSome result (λ held. IsLookedOnly (world_machine table.now.start.shape) pass.old.known pass.new.known) }
+    ensures missed { IfNone result (IsMissed (world_machine table.now.start.shape) pass.old.known (IsEither own None) pass.new.known) }
     ensures free { IfNone result (HoldsNone pass.new.known) }
 {
     let Some(mine) = table.try_take(pass, own) else {
@@ -195,13 +194,13 @@ fn open_own(table: &CommitTable<Start>, pass: &mut Pass, own: u32) -> Option<Hel
 
 /// Takes the shards of an event in rising order, that of a rank and another where it has one, and looks; or misses one of them, and
 /// then holds none.
-pub fn open(
+pub fn take_and_look(
     table: &CommitTable<Start>,
     pass: &mut Pass,
     own: u32,
     other: Option<u32>,
 ) -> Option<HeldShards>
-    requires world { IsWorld table.now.start.shape }
+    requires world { IsShape table.now.start.shape }
     requires pass { IsOf table.now pass.old }
     requires free { HoldsNone pass.old.known }
     requires own { own < table.now.start.shape.limits.ranks }
@@ -209,8 +208,8 @@ pub fn open(
     ensures table { pass.new.table ≡ pass.old.table }
     ensures held { IfSome result (λ held. Holds table.now.start.shape held pass.new.known) }
     ensures shards { IfSome result (λ held. (held.own ≡ own) × (held.other ≡ other)) }
-    ensures looked { IfSome result (λ held. LookedOnly (world_machine table.now.start.shape) pass.old.known pass.new.known) }
-    ensures missed { IfNone result (Missed (world_machine table.now.start.shape) pass.old.known (IsEither own other) pass.new.known) }
+    ensures looked { IfSome result (λ held. IsLookedOnly (world_machine table.now.start.shape) pass.old.known pass.new.known) }
+    ensures missed { IfNone result (IsMissed (world_machine table.now.start.shape) pass.old.known (IsEither own other) pass.new.known) }
     ensures free { IfNone result (HoldsNone pass.new.known) }
 {
     match other {
@@ -334,7 +333,7 @@ fn leave_own(table: &CommitTable<Start>, pass: &mut Pass, own: u32, nodes: HeldN
 }
 
 /// Gives the shards of an event back.
-pub fn leave(table: &CommitTable<Start>, pass: &mut Pass, held: HeldShards)
+pub fn give_back(table: &CommitTable<Start>, pass: &mut Pass, held: HeldShards)
     requires pass { IsOf table.now pass.old }
     requires held { Holds table.now.start.shape held pass.old.known }
     ensures left { pass.new ≡ record pass.old { known = left_by held.own held.other pass.old.known } }

@@ -1,16 +1,16 @@
 //! What the histories of a world are.
 
 ghost use Rattle.std.specs.Prelude.{◌≡◌, ◌↔◌, ℕ, Bool, List, [], ◌∷◌, ◌++◌, Some, true};
-ghost use Rattle.gaspi_types.specs.World.{World};
+ghost use Rattle.gaspi_types.specs.World.{ShapeValue};
 ghost use Rattle.gaspi_types.specs.declared.calls.Call.{Call};
 ghost use Rattle.gaspi_types.specs.declared.calls.Timeout as timeouts;
 ghost use Rattle.gaspi_types.specs.declared.events.Event.{Event};
 ghost use Rattle.gaspi_types.specs.declared.replies.Reply.{Reply};
 ghost use Rattle.gaspi_types.specs.declared.replies.Reply.TheVariants.{Timeout};
 ghost use Rattle.gaspi_types.specs.declared.shapes.CallerId.{CallerId};
-ghost use Rattle.gaspi_model.specs.Step.{is_legal, own_calls};
+ghost use Rattle.gaspi_model.specs.Step.{is_legal, recorded_calls};
 ghost use Rattle.timeout_state.specs.Looks.{looks_of};
-ghost use Rattle.commit_table.specs.declared.views.Known.{Known};
+ghost use Rattle.commit_table.specs.declared.views.PassView.{PassView};
 ghost use Rattle.gaspi_world.specs.Calling.{IsCalled, IsStopped};
 ghost use Rattle.gaspi_world.specs.Waits.{Waited, HaveWaited};
 ghost use Rattle.gaspi_world.specs.declared.starts.Start.{Start};
@@ -18,20 +18,20 @@ ghost use Rattle.gaspi_world.specs.WorldMachine.{world_machine};
 
 /// A history may be committed in a world exactly where it is a legal history of the machine from the world's start.
 pub fn world_histories()
-    ensures { (w : World) (history : List Event) → (world_machine w).Legal history ↔ (is_legal w history ≡ true) }
+    ensures { (w : ShapeValue) (history : List Event) → (world_machine w).Legal history ↔ (is_legal w history ≡ true) }
 {}
 
 /// Timeouts that came only when their looks were spent stay so in every history that goes on from what was seen and has of the
 /// caller no other calls.
 pub fn waits_last()
-    ensures { (w : World) (c : CallerId) (history later : List Event) (looks ns : List ℕ) → Waited w c history looks ns → own_calls c.rank c.thread (history ++ later) ≡ own_calls c.rank c.thread history → Waited w c (history ++ later) looks ns }
+    ensures { (w : ShapeValue) (c : CallerId) (history later : List Event) (looks ns : List ℕ) → Waited w c history looks ns → recorded_calls c.rank c.thread (history ++ later) ≡ recorded_calls c.rank c.thread history → Waited w c (history ++ later) looks ns }
 {}
 
 /// A pass that calls keeps the looks of its timeouts: at first it has none; a call that is recorded has the looks that its timeout
 /// allows; one that is not recorded adds no timeout. (GASPI: timeouts)
 pub fn waits_on()
-    ensures fresh { (w : World) (c : CallerId) (v : Known Start Event) → v.mine ≡ [] → HaveWaited w c [] v }
-    ensures called { (w : World) (c : CallerId) (call : Call) (timeout : timeouts.Timeout) (reply : Reply) (v n : Known Start Event) (ns : List ℕ) (k : ℕ) → HaveWaited w c ns v
+    ensures fresh { (w : ShapeValue) (c : CallerId) (v : PassView Start Event) → v.mine ≡ [] → HaveWaited w c [] v }
+    ensures called { (w : ShapeValue) (c : CallerId) (call : Call) (timeout : timeouts.Timeout) (reply : Reply) (v n : PassView Start Event) (ns : List ℕ) (k : ℕ) → HaveWaited w c ns v
         → IsCalled w c call timeout reply v n → (reply ≡ Timeout → looks_of timeout ≡ Some k) → HaveWaited w c (ns ++ k ∷ []) n }
-    ensures stopped { (w : World) (c : CallerId) (call : Call) (timeout : timeouts.Timeout) (full : Bool) (v n : Known Start Event) (ns : List ℕ) → HaveWaited w c ns v → IsStopped w c call timeout full v n → HaveWaited w c ns n }
+    ensures stopped { (w : ShapeValue) (c : CallerId) (call : Call) (timeout : timeouts.Timeout) (full : Bool) (v n : PassView Start Event) (ns : List ℕ) → HaveWaited w c ns v → IsStopped w c call timeout full v n → HaveWaited w c ns n }
 {}

@@ -2,13 +2,13 @@
 
 ghost use Rattle.std.specs.Prelude.{◌≡◌, ◌≢◌, ◌<◌, Err, false};
 ghost use mathlib.Core.List.{IsPrefix};
-ghost use Rattle.commit_table.specs.Attempts.{LookedOnly};
+ghost use Rattle.commit_table.specs.Attempts.{IsLookedOnly};
 ghost use Rattle.gaspi_types.specs.CallRows.{row_of};
 ghost use Rattle.gaspi_types.specs.declared.shapes.CallerId.{CallerId};
 ghost use Rattle.timeout_state.specs.Looks.{looks_of, HasLook};
 ghost use Rattle.commit_table.specs.Calls.{IsOf, HoldsNone, misses_in};
 ghost use Rattle.commit_table.specs.Views.{noted};
-ghost use Rattle.gaspi_world.specs.Attempts.{Attempted, GoesOn};
+ghost use Rattle.gaspi_world.specs.Attempts.{Attempted, IsExtended};
 ghost use Rattle.gaspi_world.specs.Callers.{IsPassOf};
 ghost use Rattle.gaspi_world.specs.Calling.{MayCall, CallsBy};
 ghost use Rattle.gaspi_world.specs.WorldMachine.{world_machine};
@@ -94,10 +94,10 @@ impl<'a> Rank<'a> {
         requires note { note.table ≡ self.old.world.now.table }
         ensures same { (self.new.world.now ≡ self.old.world.now) × (self.new.pass.ghost_name ≡ self.old.pass.ghost_name) }
         ensures table { self.new.pass.now.table ≡ self.old.pass.now.table }
-        ensures looked { LookedOnly (world_machine self.old.world.now.start.shape) self.old.pass.now.known self.new.pass.now.known }
+        ensures looked { IsLookedOnly (world_machine self.old.world.now.start.shape) self.old.pass.now.known self.new.pass.now.known }
         ensures held { self.new.pass.now.known.held ≡ self.old.pass.now.known.held }
         ensures goes_on { (c : CallerId) → IsPassOf self.old.world.now.start.shape c self.old.pass.now.known
-            → GoesOn self.old.world.now.start.shape c self.old.pass.now.known self.new.pass.now.known × (self.new.pass.now.known.mine ≡ self.old.pass.now.known.mine) }
+            → IsExtended self.old.world.now.start.shape c self.old.pass.now.known self.new.pass.now.known × (self.new.pass.now.known.mine ≡ self.old.pass.now.known.mine) }
         ensures learned { IsPrefix note.known.seen self.new.pass.now.known.seen }
     {
         self.world.shape().limits();

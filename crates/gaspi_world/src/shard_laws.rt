@@ -2,7 +2,7 @@
 
 ghost use Rattle.std.specs.Prelude.{◌≡◌, ℕ, ◌<◌, ◌++◌, ◌∷◌, [], List, eqb, true, false, length, Ok, Some, slice_get};
 ghost use Rattle.std.specs.List.{list_any};
-ghost use Rattle.gaspi_types.specs.World.{World, IsWorld};
+ghost use Rattle.gaspi_types.specs.World.{ShapeValue, IsShape};
 ghost use Rattle.gaspi_types.specs.declared.events.Event.{Event};
 ghost use Rattle.gaspi_model.specs.Shards.{numbers_of};
 ghost use Rattle.gaspi_model.specs.Step.{is_legal, owner_of, reached};
@@ -17,24 +17,24 @@ ghost use Rattle.gaspi_world.specs.ShardMachine.{state_after, SameAt, AgreeAt};
 /// An event leaves each shard as it is but its own; whether it may follow depends on its shards alone; its owner's is one of them;
 /// and which they are depends on the owner's shard.
 pub fn shard_histories()
-    ensures frame { (n : Numbering) (w : World) (h : List Event) (e : Event) (i : ℕ) → is_legal w (h ++ e ∷ []) ≡ true → list_any (eqb i) (numbers_of n.number (state_after w h) e) ≡ false → AgreeAt n w i h (h ++ e ∷ []) }
-    ensures follows { (n : Numbering) (w : World) (h k : List Event) (e : Event) → is_legal w (h ++ e ∷ []) ≡ true → is_legal w k ≡ true
+    ensures frame { (n : Numbering) (w : ShapeValue) (h : List Event) (e : Event) (i : ℕ) → is_legal w (h ++ e ∷ []) ≡ true → list_any (eqb i) (numbers_of n.number (state_after w h) e) ≡ false → AgreeAt n w i h (h ++ e ∷ []) }
+    ensures follows { (n : Numbering) (w : ShapeValue) (h k : List Event) (e : Event) → is_legal w (h ++ e ∷ []) ≡ true → is_legal w k ≡ true
         → ((i : ℕ) → list_any (eqb i) (numbers_of n.number (state_after w h) e) ≡ true → AgreeAt n w i h k) → is_legal w (k ++ e ∷ []) ≡ true }
-    ensures determined { (n : Numbering) (w : World) (h k : List Event) (e : Event) (i : ℕ) → is_legal w (h ++ e ∷ []) ≡ true → is_legal w k ≡ true
+    ensures determined { (n : Numbering) (w : ShapeValue) (h k : List Event) (e : Event) (i : ℕ) → is_legal w (h ++ e ∷ []) ≡ true → is_legal w k ≡ true
         → ((j : ℕ) → list_any (eqb j) (numbers_of n.number (state_after w h) e) ≡ true → AgreeAt n w j h k) → SameAt n w i (state_after w h) (state_after w k) → SameAt n w i (state_after w (h ++ e ∷ [])) (state_after w (k ++ e ∷ [])) }
-    ensures owned { (n : Numbering) (w : World) (h : List Event) (e : Event) → list_any (eqb (n.number (parts.Posts (owner_of e)))) (numbers_of n.number (state_after w h) e) ≡ true }
-    ensures same { (n : Numbering) (w : World) (h k : List Event) (e : Event) → is_legal w h ≡ true → is_legal w k ≡ true → AgreeAt n w (n.number (parts.Posts (owner_of e))) h k
+    ensures owned { (n : Numbering) (w : ShapeValue) (h : List Event) (e : Event) → list_any (eqb (n.number (parts.Posts (owner_of e)))) (numbers_of n.number (state_after w h) e) ≡ true }
+    ensures same { (n : Numbering) (w : ShapeValue) (h k : List Event) (e : Event) → is_legal w h ≡ true → is_legal w k ≡ true → AgreeAt n w (n.number (parts.Posts (owner_of e))) h k
         → numbers_of n.number (state_after w h) e ≡ numbers_of n.number (state_after w k) e }
 {}
 
 /// The shards of an event of a rank are shards that there are, where the numbering has one for each part.
 pub fn shard_numbers()
-    ensures within { (w : World) (n : Numbering) (h : List Event) (e : Event) (i : ℕ) → Numbers w.limits.ranks n → is_legal w h ≡ true → owner_of e < w.limits.ranks
+    ensures within { (w : ShapeValue) (n : Numbering) (h : List Event) (e : Event) (i : ℕ) → Numbers w.limits.ranks n → is_legal w h ≡ true → owner_of e < w.limits.ranks
         → list_any (eqb i) (numbers_of n.number (state_after w h) e) ≡ true → i < n.shards }
-    ensures ranks { (w : World) → Numbers w.limits.ranks (by_ranks w) }
+    ensures ranks { (w : ShapeValue) → Numbers w.limits.ranks (by_ranks w) }
 {}
 
 /// A rank's part of the journal has as many events as its rank has recorded.
 pub fn journal_lengths()
-    ensures { (w : World) (h : List Event) (s : State) (rank : ℕ) (posts : Posts) → IsWorld w → reached w h ≡ Ok s → slice_get s.posts rank ≡ Some posts → length (journal_of rank h) ≡ posts.events }
+    ensures { (w : ShapeValue) (h : List Event) (s : State) (rank : ℕ) (posts : Posts) → IsShape w → reached w h ≡ Ok s → slice_get s.posts rank ≡ Some posts → length (journal_of rank h) ≡ posts.events }
 {}

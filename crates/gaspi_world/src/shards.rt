@@ -1,7 +1,7 @@
 //! What lies in the shards of a world.
 
 ghost use Rattle.std.specs.Prelude.{◌≡◌, ◌<◌, ◌≤◌, ◌+◌, [], IfOk};
-ghost use Rattle.gaspi_types.specs.World.{World, IsWorld};
+ghost use Rattle.gaspi_types.specs.World.{ShapeValue, IsShape};
 ghost use Rattle.commit_table.specs.Calls.{AreShards};
 ghost use Rattle.gaspi_world.specs.Shards.{IsOpeningShard};
 ghost use Rattle.gaspi_world.specs.WorldMachine.{world_machine};
@@ -33,7 +33,7 @@ fn rank_shard(alloc: Global, shape: &Shape, rank: u32) -> Result<WorldShard, NoM
 fn group_shard(alloc: Global, ranks: u32, id: u32) -> Result<WorldShard, NoMemory>
     requires ranks { ranks ≤ 16 }
     requires id { id < 8 }
-    ensures { (w : World) → w.limits.ranks ≡ ranks → IfOk result (λ shard. IsOpeningShard w (ranks + id) shard) }
+    ensures { (w : ShapeValue) → w.limits.ranks ≡ ranks → IfOk result (λ shard. IsOpeningShard w (ranks + id) shard) }
 {
     let node = GroupNode::new(alloc, GroupId::of(id), ranks)?;
     Ok(WorldShard::Group(Box::new(alloc, node)?))
@@ -42,7 +42,7 @@ fn group_shard(alloc: Global, ranks: u32, id: u32) -> Result<WorldShard, NoMemor
 /// What lies in the shards at the start: of each rank, and then of each group. All memory that is wanted for what the ranks record is
 /// taken here.
 pub fn opening_shards(alloc: Global, shape: &Shape) -> Result<Vec<WorldShard>, NoMemory>
-    requires { IsWorld shape.now }
+    requires { IsShape shape.now }
     ensures { IfOk result (λ shards. AreShards (world_machine shape.now) shards.items []) }
 {
     let ranks = shape.ranks();

@@ -1,6 +1,6 @@
 //! The start of a world.
 
-ghost use Rattle.gaspi_types.specs.World.{IsWorld};
+ghost use Rattle.gaspi_types.specs.World.{IsShape};
 
 use crate::shards::WorldShard;
 use commit_table::{Changes, Sharded};
@@ -16,7 +16,7 @@ pub struct Start {
     /// Of each rank, whether one of its calls has posted, or one of its threads has ended.
     pub(crate) posts: Changes,
     sealed: (),
-    pub ghost valid: { ∥ IsWorld shape ∥₁ },
+    pub ghost valid: { ∥ IsShape shape ∥₁ },
 }
 
 impl Start {

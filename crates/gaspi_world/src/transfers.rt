@@ -1,7 +1,7 @@
 //! The transfers of a rank in a world, made one at a time.
 
 ghost use Rattle.std.specs.Prelude.{◌≡◌, ℕ, ◌<◌, ◌≤◌, IfSome, IfNone, None, Some, false};
-ghost use Rattle.gaspi_types.specs.World.{IsWorld};
+ghost use Rattle.gaspi_types.specs.World.{IsShape};
 ghost use Rattle.gaspi_types.specs.declared.entries.Entry.{Entry};
 ghost use Rattle.gaspi_model.specs.Sound.{IsSound};
 ghost use Rattle.gaspi_model.specs.declared.states.State.{State};
@@ -12,11 +12,11 @@ ghost use Rattle.rank_node.specs.Lending.{IsPostsOf};
 ghost use Rattle.rank_node.specs.Transfers.{event_of};
 ghost use Rattle.gaspi_world.specs.RankShards.{rank_other};
 ghost use Rattle.gaspi_world.specs.Callers.{IsWorkers};
-ghost use Rattle.gaspi_world.specs.Holds.{Holds};
-ghost use Rattle.gaspi_world.specs.Moves.{Moves, MovesOn, HasMoved, HasMovedOne, Tries, IsMovedBehind, IsFrontHeld};
+ghost use Rattle.gaspi_world.specs.HeldShards.{Holds};
+ghost use Rattle.gaspi_world.specs.Transfers.{Transfers, MovesOn, HasMoved, HasMovedOne, Tries, IsMovedBehind, IsFrontHeld};
 
 use crate::holding::{
-    HeldShards, both_held, into_rank, leave, leave_other, one_held, open_other, reached_shard,
+    HeldShards, both_held, give_back, into_rank, leave_other, one_held, open_other, reached_shard,
 };
 use crate::moving::Moving;
 use crate::shards::WorldShard;
@@ -83,7 +83,7 @@ enum Tried {
 /// Takes the shards of the next transfer of a rank, and looks once, after the last of them was taken or missed: the origin's node alone
 /// tells the transfer.
 fn try_front(table: &CommitTable<Start>, pass: &mut Pass, origin: RankId) -> Tried
-    requires world { IsWorld table.now.start.shape }
+    requires world { IsShape table.now.start.shape }
     requires pass { IsOf table.now pass.old }
     requires free { HoldsNone pass.old.known }
     requires rank { origin < table.now.start.shape.limits.ranks }
@@ -119,7 +119,7 @@ fn try_front(table: &CommitTable<Start>, pass: &mut Pass, origin: RankId) -> Tri
 
 /// Commits a transfer that is the front of its lane, and records it in the nodes that are held.
 fn commit_front(table: &CommitTable<Start>, pass: &mut Pass, held: &mut HeldShards, t: Transfer)
-    requires world { IsWorld table.now.start.shape }
+    requires world { IsShape table.now.start.shape }
     requires pass { IsOf table.now pass.old }
     requires held { Holds table.now.start.shape held.old pass.old.known }
     requires front { IsFrontHeld table.now.start.shape t held.old }
@@ -140,14 +140,14 @@ fn commit_front(table: &CommitTable<Start>, pass: &mut Pass, held: &mut HeldShar
 }
 
 /// Makes the next transfer of a rank, where there is one and its shards are free.
-fn move_one(table: &CommitTable<Start>, pass: &mut Pass, origin: RankId) -> Moving
-    requires world { IsWorld table.now.start.shape }
+fn transfer_once(table: &CommitTable<Start>, pass: &mut Pass, origin: RankId) -> Moving
+    requires world { IsShape table.now.start.shape }
     requires pass { IsOf table.now pass.old }
     requires free { HoldsNone pass.old.known }
     requires rank { origin < table.now.start.shape.limits.ranks }
     ensures table { pass.new.table ≡ pass.old.table }
     ensures free { HoldsNone pass.new.known }
-    ensures moves { Moves table.now.start.shape origin pass.old.known result pass.new.known }
+    ensures moves { Transfers table.now.start.shape origin pass.old.known result pass.new.known }
 {
     match try_front(table, pass, origin) {
         Tried::Busy => Moving::Busy,
@@ -156,7 +156,7 @@ fn move_one(table: &CommitTable<Start>, pass: &mut Pass, origin: RankId) -> Movi
         Tried::Ready(t, mut held) => {
             commit_front(table, pass, &mut held, t);
             let other = held.other;
-            leave(table, pass, held);
+            give_back(table, pass, held);
             table.start().tell_transfer(origin.number(), other);
             Moving::Moved
         }
@@ -174,7 +174,7 @@ fn follow(
     queue: QueueId,
     target: RankId,
 ) -> bool
-    requires world { IsWorld table.now.start.shape }
+    requires world { IsShape table.now.start.shape }
     requires pass { IsOf table.now pass.old }
     requires held { Holds table.now.start.shape held.old pass.old.known }
     requires alone { held.old.other ≡ None }
@@ -198,7 +198,7 @@ fn follow(
 
 /// Makes a transfer that is the front of its lane, and gives back the other shard that it has.
 fn move_front(table: &CommitTable<Start>, pass: &mut Pass, held: &mut HeldShards, t: Transfer)
-    requires world { IsWorld table.now.start.shape }
+    requires world { IsShape table.now.start.shape }
     requires pass { IsOf table.now pass.old }
     requires held { Holds table.now.start.shape held.old pass.old.known }
     requires front { IsFrontHeld table.now.start.shape t held.old }
@@ -220,7 +220,7 @@ fn go_on(
     queue: QueueId,
     target: RankId,
 )
-    requires world { IsWorld table.now.start.shape }
+    requires world { IsShape table.now.start.shape }
     requires pass { IsOf table.now pass.old }
     requires held { Holds table.now.start.shape held.old pass.old.known }
     requires alone { held.old.other ≡ None }
@@ -239,7 +239,7 @@ fn go_on(
 
 /// Makes the next transfer of a rank, where there is one and its shards are free, and those that follow it in its lane.
 fn move_lane(table: &CommitTable<Start>, pass: &mut Pass, origin: RankId) -> Moving
-    requires world { IsWorld table.now.start.shape }
+    requires world { IsShape table.now.start.shape }
     requires pass { IsOf table.now pass.old }
     requires free { HoldsNone pass.old.known }
     requires rank { origin < table.now.start.shape.limits.ranks }
@@ -255,7 +255,7 @@ fn move_lane(table: &CommitTable<Start>, pass: &mut Pass, origin: RankId) -> Mov
             let (queue, target) = (t.queue, t.target);
             move_front(table, pass, &mut held, t);
             go_on(table, pass, &mut held, queue, target);
-            leave(table, pass, held);
+            give_back(table, pass, held);
             table
                 .start()
                 .tell_transfer(origin.number(), Some(target.number()));
@@ -274,10 +274,10 @@ impl World {
         requires rank { origin < self.now.start.shape.limits.ranks }
         ensures table { pass.new.table ≡ pass.old.table }
         ensures free { HoldsNone pass.new.known }
-        ensures moves { Moves self.now.start.shape origin pass.old.known result pass.new.known }
+        ensures moves { Transfers self.now.start.shape origin pass.old.known result pass.new.known }
     {
         self.shape().limits();
-        move_one(self.table(), pass, origin)
+        transfer_once(self.table(), pass, origin)
     }
 
     /// Makes transfers of a rank in one hold of its shard: the next of a lane, where one may come next and no other pass holds its shards,

@@ -2,7 +2,7 @@
 
 ghost use Rattle.std.specs.Prelude.{◌≡◌, ℕ, ◌+◌, ◌<◌, ◌≤◌, IfOk, IsTrue, ◌↔◌, Some, [], length, slice_get};
 ghost use Rattle.commit_table.specs.Views.{new_pass};
-ghost use Rattle.gaspi_types.specs.World.{IsWorld};
+ghost use Rattle.gaspi_types.specs.World.{IsShape};
 ghost use Rattle.gaspi_types.specs.declared.events.Event.{Event};
 ghost use Rattle.gaspi_types.specs.declared.shapes.CallerId.{CallerId};
 ghost use Rattle.gaspi_world.specs.Callers.{IsPassOf};
@@ -13,7 +13,7 @@ use crate::callers::all_numbered;
 use crate::shards::opening_shards;
 use crate::starts::Start;
 use commit_table::{Changes, CommitTable};
-use gaspi_types::{CallerId, NoMemory, Rows, Shape};
+use gaspi_types::{CallerId, NoMemory, Sequence, Shape};
 use std::alloc::Global;
 use std::marker::Model;
 
@@ -29,7 +29,7 @@ pub struct World {
     table: CommitTable<Start>,
     passes: u32,
     /// By their numbers.
-    callers: Rows<Option<CallerId>>,
+    callers: Sequence<Option<CallerId>>,
 }
 
 impl Model for World {
@@ -73,7 +73,7 @@ impl World {
     /// The world of a shape, with so many workers. All memory that is wanted for what the ranks record is taken here.
     pub fn start(alloc: Global, shape: &Shape, workers: u32) -> Result<Started, NoMemory>
         requires { workers ≤ 4 }
-        ensures world { IsWorld shape.now }
+        ensures world { IsShape shape.now }
         ensures start { IfOk result (λ started. started.world.start.shape ≡ shape.now) }
         ensures all { IfOk result (λ started. started.world.passes ≡ length shape.now.callers + workers) }
         ensures count { IfOk result (λ started. length started.passes.items ≡ length shape.now.callers + workers) }

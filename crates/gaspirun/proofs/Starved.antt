@@ -3,7 +3,7 @@ use Rattle.std.proofs.Common.{ℕ, List, [], Option, None, Some, refl, inr, arit
 use Rattle.gaspi_io.specs.Source.{TakesAtMost}
 use Rattle.command_line.specs.declared.words.Command.{Command}
 use Rattle.command_line.specs.declared.words.Command.TheVariants.{Run, Step, Check, Why, Bench}
-use Rattle.gaspi_run.specs.Command.{Refuses, Answers, LacksMemory}
+use Rattle.gaspi_run.specs.Command.{Refuses, Answers, RanOutOfMemory}
 use Rattle.gaspi_run.specs.declared.commands.Answer.{Answer}
 
 -- no memory, and nothing told
@@ -17,7 +17,7 @@ nothing-taken most (Some bytes) = record { count = 0; within = omega arith; rest
 pub starved-refuses : (held : Option (List ℕ)) (faults : ℕ) → Refuses held held faults faults starved
 starved-refuses held faults = record { says = inr (inr (refl, refl, refl)); empty = (refl, refl) }
 
-starved-input : (left held : Option (List ℕ)) (faults sink_faults : ℕ) → LacksMemory left left held held faults faults sink_faults sink_faults starved
+starved-input : (left held : Option (List ℕ)) (faults sink_faults : ℕ) → RanOutOfMemory left left held held faults faults sink_faults sink_faults starved
 starved-input left held faults sink_faults = record {
   taken = nothing-taken _ left;
   kept = refl;

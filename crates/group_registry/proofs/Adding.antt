@@ -6,7 +6,7 @@ use Rattle.std.specs.Int.{bit_at}
 use Rattle.std.proofs.lemmas.Nat.Bits.{bit_at_or, bit_at-pow_same, bit_at-pow_other, bit_at-lt}
 use Rattle.gaspi_types.specs.Groups.{is_building, handle_at, building_at}
 use Rattle.gaspi_types.specs.Masks.{is_member, with_member}
-use Rattle.gaspi_types.specs.Tables.{entry_at}
+use Rattle.gaspi_types.specs.Tables.{item_at}
 use Rattle.gaspi_types.specs.declared.groups.Handle.{Handle}
 use Rattle.gaspi_types.specs.declared.groups.Handles.{Handles}
 use Rattle.gaspi_types.specs.declared.replies.Refusal.{Refusal}
@@ -25,10 +25,10 @@ other-member mask rank other apart = ap (λ (n : ℕ). n == 1) (let bit : bit_at
 
 -- Tables.
 
-entry-set_same : {A : Type 0} (table : List (Option A)) (place : ℕ) (x : A) (y : Option A) → entry_at table place ≡ Some x → entry_at (slice_set table place y) place ≡ y
+entry-set_same : {A : Type 0} (table : List (Option A)) (place : ℕ) (x : A) (y : Option A) → item_at table place ≡ Some x → item_at (slice_set table place y) place ≡ y
 entry-set_same {A} table place x y at = ap (option_and_then (λ (z : Option A). z)) (slice_get-set_same table place (Some x) y (joined table place x at))
 
-entry-set_other : {A : Type 0} (table : List (Option A)) (place other : ℕ) (y : Option A) → other ≢ place → entry_at (slice_set table place y) other ≡ entry_at table other
+entry-set_other : {A : Type 0} (table : List (Option A)) (place other : ℕ) (y : Option A) → other ≢ place → item_at (slice_set table place y) other ≡ item_at table other
 entry-set_other {A} table place other y apart = ap (option_and_then (λ (z : Option A). z)) (slice_get-set_other table place other y (λ e. apart (sym e)))
 
 -- a group that is built is there

@@ -21,9 +21,9 @@ with_groups registry groups = record registry { groups = groups }
 -- There is room for eight groups; group 0 is there, committed; the others have the numbers from 1 to the last that was given.
 pub record IsRegistry (groups : Handles) : Type 0 where
   pub room : length groups.table ≡ 8
-  pub made : groups.made ≤ 7
+  pub made : groups.last_id ≤ 7
   pub all : stage_of groups 0 ≡ Ok Committed
-  pub given : (id : ℕ) → groups.made < id → handle_at groups id ≡ None
+  pub given : (id : ℕ) → groups.last_id < id → handle_at groups id ≡ None
 
 -- why a rank may not be added to a group: it is not there, or not built any more (group_add)
 abbrev pub add_checks : Handles → ℕ → Result (Unit {0}) Refusal
@@ -42,4 +42,4 @@ pub record AddsRank (old new : Handles) (id rank : ℕ) : Type 0 where
   pub others : (other : ℕ) → other ≢ rank → has_rank new id other ≡ has_rank old id other
   pub stage : stage_of new id ≡ stage_of old id
   pub groups : (other : ℕ) → other ≢ id → handle_at new other ≡ handle_at old other
-  pub made : new.made ≡ old.made
+  pub made : new.last_id ≡ old.last_id

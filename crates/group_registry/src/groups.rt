@@ -1,7 +1,7 @@
 //! The groups of one rank. (GASPI: groups)
 
 ghost use Rattle.std.specs.Prelude.{◌≡◌, ◌≤◌, ◌<◌, None, IfOk, OnOk, OnErr, IsOk};
-ghost use Rattle.gaspi_types.specs.Groups.{opening_handles, handle_at, next_group, with_group, stage_of, building_at, with_added, drop_checks, without_group, commit_list, with_committed};
+ghost use Rattle.gaspi_types.specs.Groups.{opening_handles, handle_at, next_group, with_group, stage_of, building_at, with_added, delete_checks, without_group, commit_list, with_committed};
 
 use gaspi_types::{
     GroupId, Handle, Handles, NoMemory, RankId, Refusal, Stage, is_member, with_member,
@@ -59,10 +59,10 @@ impl Groups {
         ensures answer { result ≡ next_group self.now.groups }
         ensures registry { IsRegistry self.now.groups }
     {
-        if self.handles.made >= 7 {
+        if self.handles.last_id >= 7 {
             return Err(Refusal::GroupsFull);
         }
-        Ok(GroupId::of(self.handles.made + 1))
+        Ok(GroupId::of(self.handles.last_id + 1))
     }
 
     /// Makes a group without ranks, to be built. It has the next number: these rise from 1 to 7, and none is given again.
@@ -79,7 +79,7 @@ impl Groups {
             members: 0,
         };
         self.handles.set(u64::from(id.number()), Some(handle));
-        self.handles.made = id.number();
+        self.handles.last_id = id.number();
         Ok(id)
     }
 
@@ -99,7 +99,7 @@ impl Groups {
 
     /// Drops a group. `NoGroup`, or `GroupStage` for group 0, which stays. (GASPI: group_delete)
     pub fn delete(&mut self, group: u64) -> Result<(), Refusal>
-        ensures answer { result ≡ drop_checks self.old.groups group }
+        ensures answer { result ≡ delete_checks self.old.groups group }
         ensures dropped { OnOk result (self.new ≡ with_groups self.old (without_group self.old.groups group)) }
         ensures refused { OnErr result (self.new ≡ self.old) }
     {

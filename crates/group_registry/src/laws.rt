@@ -10,5 +10,5 @@ ghost use Rattle.group_registry.specs.Changes.{Change, changed_by};
 pub fn no_id_is_given_again()
     ensures above { (groups : Handles) (changes : List Change) (earlier later : ℕ) → next_group groups ≡ Ok earlier
         → next_group (changed_by (with_group groups) changes) ≡ Ok later → earlier < later }
-    ensures rising { (groups : Handles) (changes : List Change) → groups.made ≤ (changed_by groups changes).made }
+    ensures rising { (groups : Handles) (changes : List Change) → groups.last_id ≤ (changed_by groups changes).last_id }
 {}

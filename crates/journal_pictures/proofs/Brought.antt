@@ -6,10 +6,10 @@ use Rattle.std.specs.List.{slice_get, slice_set, range_with_len}
 use Rattle.std.proofs.lemmas.Bool.{eq-eqb}
 use Rattle.std.proofs.lemmas.List.{append-nil, length-append, length-map}
 use Rattle.std.proofs.lemmas.Option.{slice_get-map, slice_get_within}
-use Rattle.gaspi_types.proofs.Items.{append-parts, behind-of-joined, front-of-joined, map-at, slice_get-set, slice_get-set_same, there-within}
+use Rattle.gaspi_types.proofs.Items.{append-parts, behind-of-joined, prefix-of-joined, map-at, slice_get-set, slice_get-set_same, there-within}
 use Rattle.gaspi_types.specs.CallRows.{row_of}
 use Rattle.gaspi_types.specs.Lanes.{posted_entries}
-use Rattle.gaspi_types.specs.World.{World, IsWorld}
+use Rattle.gaspi_types.specs.World.{ShapeValue, IsShape}
 use Rattle.gaspi_types.specs.declared.call_rows.Posting.{Posting}
 use Rattle.gaspi_types.specs.declared.calls.Call.{Call}
 use Rattle.gaspi_types.specs.declared.entries.Entry.{Entry}
@@ -140,7 +140,7 @@ post-brings before list q lane kinds to_queue to_target was q_there lane_there =
   next = (let many = length-append list (map delivery_of kinds) in let each : length (map delivery_of kinds) ≡ length kinds = length-map kinds delivery_of in let first = was.next in omega arith);
   each = λ queue target m kind i.
       after-post before.queues q lane before.next kinds (q.open_count + length kinds) to_queue to_target q_there lane_there queue target m kind i
-      (λ old. let at = was.each queue target m kind old in front-of-joined list (map delivery_of kinds) m (slice_get_within list m _ at) ∙ at)
+      (λ old. let at = was.each queue target m kind old in prefix-of-joined list (map delivery_of kinds) m (slice_get_within list m _ at) ∙ at)
       (λ new. behind-of-joined list (map delivery_of kinds) new.place m (new.numbered ∙ ap (λ (n : ℕ). n + new.place) was.next)
       ∙ (slice_get-map delivery_of kinds new.place ∙ ap (option_map delivery_of) new.there));
 }
@@ -183,7 +183,7 @@ brought-more s t e origin list sound h known posts there = go (post_of origin e)
 shifted : (n : ℕ) → n + 1 ≡ suc n
 shifted n = omega arith
 
-module _ (w : World) (world : IsWorld w) (journal : List Event) (legal : is_legal w journal ≡ true) (origin : ℕ) where
+module _ (w : ShapeValue) (world : IsShape w) (journal : List Event) (legal : is_legal w journal ≡ true) (origin : ℕ) where
   -- what it has posted up to a place
   pub brought-at : (place : ℕ) → place ≤ length journal → (s : State) → reached w (take place journal) ≡ Ok s → (posts : Posts) → slice_get s.posts origin ≡ Some posts
       → AreBrought posts (posted origin (take place journal))

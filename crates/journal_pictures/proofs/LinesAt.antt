@@ -7,13 +7,13 @@ use Rattle.std.proofs.lemmas.Option.{get_or_from_slice_get, slice_get_within}
 use Rattle.gaspi_types.proofs.Chains.{both}
 use Rattle.gaspi_types.proofs.Items.{there-within}
 use Rattle.gaspi_types.specs.Ranges.{is_between}
-use Rattle.gaspi_types.specs.World.{World, IsWorld, are_limits}
+use Rattle.gaspi_types.specs.World.{ShapeValue, IsShape, are_limits}
 use Rattle.gaspi_types.specs.declared.shapes.Limits.{Limits}
 use Rattle.gaspi_types.specs.declared.events.Event.{Event}
 use Rattle.gaspi_types.specs.declared.events.Event.TheVariants.{Called, Joined, Take, Put}
-use Rattle.gaspi_model.specs.Shards.{standing}
+use Rattle.gaspi_model.specs.Shards.{entry_after}
 use Rattle.gaspi_model.specs.Step.{step, reached, is_legal}
-use Rattle.gaspi_model.specs.Transfers.{Found}
+use Rattle.gaspi_model.specs.Transfers.{EntryPosition}
 use Rattle.gaspi_model.specs.declared.states.Posts.{Posts}
 use Rattle.gaspi_model.specs.declared.states.State.{State}
 use Rattle.gaspi_model.specs.declared.states.Why.TheVariants as whys
@@ -37,13 +37,13 @@ item-there {A} xs place x within is =
 few-ranks : (limits : Limits) → are_limits limits ≡ true → limits.ranks ≤ 16
 few-ranks limits h = leb-true limits.ranks 16 (both (nat_le 1 limits.ranks) (nat_le limits.ranks 16) (both (is_between 1 16 limits.ranks) _ h).0).1
 
-module _ (w : World) (world : IsWorld w) (journal : List Event) (legal : is_legal w journal ≡ true) (place : ℕ) (e : Event) (there : slice_get journal place ≡ Some e) (table : List (List Delivery)) (is : IsDeliveryTable table (take place journal)) where
+module _ (w : ShapeValue) (world : IsShape w) (journal : List Event) (legal : is_legal w journal ≡ true) (place : ℕ) (e : Event) (there : slice_get journal place ≡ Some e) (table : List (List Delivery)) (is : IsDeliveryTable table (take place journal)) where
   -- of an entry that was found
-  found-brought : (s : State) (origin queue target number : ℕ) (posts : Posts) (at : Found) → reached w (take place journal) ≡ Ok s → slice_get s.posts origin ≡ Some posts → IsFound posts queue target number at
-      → entry_delivery (slice_get table origin) number ≡ entry_brings (standing s origin queue target number)
+  found-brought : (s : State) (origin queue target number : ℕ) (posts : Posts) (at : EntryPosition) → reached w (take place journal) ≡ Ok s → slice_get s.posts origin ≡ Some posts → IsFound posts queue target number at
+      → entry_delivery (slice_get table origin) number ≡ entry_brings (entry_after s origin queue target number)
   found-brought s origin queue target number posts at before posts_there found =
       let found' = found-again posts queue target number at whys.Put found in
-      let stands : standing s origin queue target number ≡ Some at.entry = rw (posts_there, found') refl in
+      let stands : entry_after s origin queue target number ≡ Some at.entry = rw (posts_there, found') refl in
       let i = stands-in s origin queue target number at.entry stands in
       let brings = (brought-at w world journal legal origin place (let within = slice_get_within journal place e there in omega arith) s before i.posts i.there).each queue target number at.entry.kind i.in_queues in
       let sound = reached-sound w (take place journal) s world before in

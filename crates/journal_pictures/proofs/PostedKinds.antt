@@ -2,14 +2,14 @@
 use Rattle.std.proofs.Common.{◌≡◌, ℕ, List, [], ◌∷◌, ◌++◌, map, Option, None, Some, Ok, refl, ap, ap₂, ◌∙◌}
 use Rattle.std.proofs.lemmas.List.{map-append}
 use Rattle.gaspi_types.specs.CallRows.{row_of}
-use Rattle.gaspi_types.specs.Posts.{slot_in, write_item, read_item, write_notify_item, read_notify_item, transfer_kind, transfers_alone, noted_writes, noted_reads, call_kinds}
+use Rattle.gaspi_types.specs.Posts.{slot_in, write_item, read_item, write_notify_item, read_notify_item, transfer_kind, transfers_alone, writes_with_notification, reads_with_notification, call_kinds}
 use Rattle.gaspi_types.specs.declared.call_rows.Posting.{Posting}
 use Rattle.gaspi_types.specs.declared.calls.Call.{Call}
 use Rattle.gaspi_types.specs.declared.calls.Call.TheVariants.{Write, Read, Notify, WriteNotify, ReadNotify, WriteList, WriteListNotify, ReadList, ReadListNotify}
 use Rattle.gaspi_types.specs.declared.calls.posts.Item.{Item}
 use Rattle.gaspi_types.specs.declared.entries.Direction.{Direction}
 use Rattle.gaspi_types.specs.declared.entries.Direction.TheVariants.{Outward, Inward}
-use Rattle.gaspi_types.specs.declared.entries.Ends.{Ends}
+use Rattle.gaspi_types.specs.declared.entries.Endpoints.{Endpoints}
 use Rattle.gaspi_types.specs.declared.entries.Kind.{Kind}
 use Rattle.gaspi_types.specs.declared.entries.Kind.TheVariants as kinds_of
 use Rattle.gaspi_types.specs.declared.segments.Extent.{Extent}
@@ -19,8 +19,8 @@ use Rattle.journal_pictures.specs.Deliveries.{delivery_of, item_delivery, delive
 use Rattle.journal_pictures.specs.declared.deliveries.Delivery.{Delivery}
 
 item-brings : (direction : Direction) (near far : ℕ → Option Extent) (item : Item) (kind : Kind) → IsTransfer direction near far item kind → delivery_of kind ≡ item_delivery direction item
-item-brings Outward near far item kind is = ap delivery_of is.is ∙ ap (λ (e : Ends). delivery_of (transfer_kind Outward e)) is.are.are
-item-brings Inward near far item kind is = ap delivery_of is.is ∙ ap (λ (e : Ends). delivery_of (transfer_kind Inward e)) is.are.are
+item-brings Outward near far item kind is = ap delivery_of is.is ∙ ap (λ (e : Endpoints). delivery_of (transfer_kind Outward e)) is.are.are
+item-brings Inward near far item kind is = ap delivery_of is.is ∙ ap (λ (e : Endpoints). delivery_of (transfer_kind Inward e)) is.are.are
 
 items-bring : (direction : Direction) (near far : ℕ → Option Extent) (items : List Item) (kinds : List Kind) → AreTransfers direction near far items kinds
     → map delivery_of kinds ≡ map (item_delivery direction) items
@@ -60,11 +60,11 @@ call-brings notes me table (ReadList call) to kinds is h =
     let l = listed-ok call.items (transfers_alone Inward me table call.rank call.items) kinds h in
     items-bring Inward (near_in table) (far_in me table call.rank) call.items kinds (alone-ok Inward me table call.rank call.items kinds l.1)
 call-brings notes me table (WriteListNotify call) to kinds is h =
-    let l = listed-ok call.items (noted_writes notes me table call.rank call.items call.nseg call.note call.value) kinds h in
+    let l = listed-ok call.items (writes_with_notification notes me table call.rank call.items call.nseg call.note call.value) kinds h in
     let k = noted_writes-ok notes me table call.rank call.items call.nseg call.note call.value kinds l.1 in
     noted-bring Outward (near_in table) (far_in me table call.rank) call.items k.transfers kinds (kinds_of.Notify (slot_in k.theirs call.nseg call.note) call.value) k.are k.is
 call-brings notes me table (ReadListNotify call) to kinds is h =
-    let l = listed-ok call.items (noted_reads notes me table call.rank call.items call.nseg call.note) kinds h in
+    let l = listed-ok call.items (reads_with_notification notes me table call.rank call.items call.nseg call.note) kinds h in
     let k = noted_reads-ok notes me table call.rank call.items call.nseg call.note kinds l.1 in
     noted-bring Inward (near_in table) (far_in me table call.rank) call.items k.transfers kinds (kinds_of.ReadNote (slot_in k.mine call.nseg call.note)) k.are k.is
 call-brings notes me table other to kinds is h = absurd (let no : ⊥ = cc in no)

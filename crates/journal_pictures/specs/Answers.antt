@@ -1,6 +1,6 @@
 -- What is answered where a picture of a journal is asked for: its sequence diagram or its trace. (own choice)
 use Rattle.std.specs.Prelude.{◌≡◌, ℕ, ◌<◌, ◌≤◌, true, List, length}
-use Rattle.gaspi_types.specs.World.{World}
+use Rattle.gaspi_types.specs.World.{ShapeValue}
 use Rattle.gaspi_types.specs.declared.events.Event.{Event}
 use Rattle.gaspi_model.specs.Step.{is_legal}
 use Rattle.call_journal.specs.Verdicts.{IsIllegalAt}
@@ -15,11 +15,11 @@ use Rattle.journal_pictures.specs.declared.tracing.TraceAnswer.TheVariants.{Trac
 abbrev pub most_events : ℕ
 most_events = 400
 
-abbrev pub IsSequenceAnswer : World → List Event → SequenceAnswer → Type 0
+abbrev pub IsSequenceAnswer : ShapeValue → List Event → SequenceAnswer → Type 0
 IsSequenceAnswer w journal (Drawn text) = (is_legal w journal ≡ true) × (length journal ≤ most_events) × (text ≡ sequence_text w journal)
 IsSequenceAnswer w journal (Long events) = (is_legal w journal ≡ true) × (most_events < length journal) × (events ≡ length journal)
 IsSequenceAnswer w journal (Illegal place why) = IsIllegalAt w journal place why
 
-abbrev pub IsTraceAnswer : World → List Event → TraceAnswer → Type 0
+abbrev pub IsTraceAnswer : ShapeValue → List Event → TraceAnswer → Type 0
 IsTraceAnswer w journal (Traced text) = (is_legal w journal ≡ true) × (text ≡ trace_text w journal)
 IsTraceAnswer w journal (Refuted place why) = IsIllegalAt w journal place why

@@ -4,7 +4,7 @@ use Rattle.std.specs.Prelude.{ℕ, nat_lt, length, take, List, [], ◌++◌, Opt
 use Rattle.std.specs.Fmt.{decimal}
 use Rattle.std.specs.List.{flat_map, range_with_len}
 use Rattle.std.specs.Option.{option_map}
-use Rattle.gaspi_types.specs.World.{World}
+use Rattle.gaspi_types.specs.World.{ShapeValue}
 use Rattle.gaspi_types.specs.declared.calls.Call.{Call}
 use Rattle.gaspi_types.specs.declared.entries.Direction.{Direction}
 use Rattle.gaspi_types.specs.declared.entries.Direction.TheVariants.{Outward, Inward}
@@ -18,7 +18,7 @@ use Rattle.gaspi_types.specs.declared.shapes.CallerId.{CallerId}
 use Rattle.call_texts.specs.CallText.{call_text}
 use Rattle.gaspi_texts.specs.EventText.{caller_word, event_text}
 use Rattle.gaspi_texts.specs.ReplyText.{reply_text}
-use Rattle.gaspi_model.specs.Shards.{standing}
+use Rattle.gaspi_model.specs.Shards.{entry_after}
 use Rattle.gaspi_model.specs.Step.{reached}
 use Rattle.gaspi_model.specs.declared.states.State.{State}
 use Rattle.gaspi_model.specs.declared.states.Why.{Why}
@@ -118,8 +118,8 @@ abbrev pub entry_brings : Option Entry → Option Delivery
 entry_brings e = option_map (λ x. delivery_of x.kind) e
 
 abbrev pub brought : State → Event → Option Delivery
-brought s (Take origin queue target number outcome) = entry_brings (standing s origin queue target number)
-brought s (Put origin queue target number outcome) = entry_brings (standing s origin queue target number)
+brought s (Take origin queue target number outcome) = entry_brings (entry_after s origin queue target number)
+brought s (Put origin queue target number outcome) = entry_brings (entry_after s origin queue target number)
 brought s e = None
 
 -- the line of an event, by the state before it
@@ -128,10 +128,10 @@ line_before place None r = []
 line_before place (Some e) (Err why) = []
 line_before place (Some e) (Ok s) = event_line place e (brought s e)
 
-abbrev pub line_at : World → List Event → ℕ → List ℕ
+abbrev pub line_at : ShapeValue → List Event → ℕ → List ℕ
 line_at w journal place = line_before place (slice_get journal place) (reached w (take place journal))
 
 -- the diagram
-abbrev pub sequence_text : World → List Event → List ℕ
+abbrev pub sequence_text : ShapeValue → List Event → List ℕ
 sequence_text w journal =
     codes "sequenceDiagram\n" ++ flat_map participant_line (range_with_len 0 w.limits.ranks) ++ flat_map (line_at w journal) (range_with_len 0 (length journal))

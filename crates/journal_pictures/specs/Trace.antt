@@ -4,7 +4,7 @@ use Rattle.std.specs.Prelude.{ℕ, ◌+◌, ◌-◌, ◌==◌, List, [], ◌∷�
 use Rattle.std.specs.Fmt.{decimal}
 use Rattle.std.specs.List.{flat_map, range_with_len}
 use Rattle.std.specs.Str.Lossy.{utf8_lossy}
-use Rattle.gaspi_types.specs.World.{World}
+use Rattle.gaspi_types.specs.World.{ShapeValue}
 use Rattle.gaspi_types.specs.declared.calls.Call.{Call}
 use Rattle.gaspi_types.specs.declared.calls.Call.TheVariants.{Purge, Reset, Waitsome}
 use Rattle.gaspi_types.specs.declared.collectives.Coll.{Coll}
@@ -226,11 +226,11 @@ abbrev pub nothing_open : List RankEntries
 nothing_open = replicate 16 (record { next = 0; entries = [] })
 
 -- the names of the tracks, and before them of the ranks but the first
-abbrev pub names : World → List Data
+abbrev pub names : ShapeValue → List Data
 names w =
     map rank_name (range_with_len 1 (w.limits.ranks - 1)) ++ (map caller_name w.callers ++ flat_map (queue_names w.limits.queues) (range_with_len 0 w.limits.ranks))
 
 -- the trace
-abbrev pub trace_text : World → List Event → List ℕ
+abbrev pub trace_text : ShapeValue → List Event → List ℕ
 trace_text w journal =
     codes "[\n" ++ compact_text (rank_name 0) ++ lines (names w) ++ lines (objects_from nothing_open [] 0 journal) ++ codes "\n]\n"

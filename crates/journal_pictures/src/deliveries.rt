@@ -5,7 +5,7 @@ ghost use Rattle.gaspi_types.specs.declared.entries.Direction.TheVariants.{Outwa
 ghost use Rattle.journal_pictures.specs.declared.deliveries.Delivery.TheVariants.{Notification};
 ghost use Rattle.journal_pictures.specs.Deliveries.{deliveries_of, item_delivery};
 
-use gaspi_types::{Call, Direction, Item, NoMemory, Rows};
+use gaspi_types::{Call, Direction, Item, NoMemory, Sequence};
 
 /// What the put of an entry brings. Outward it comes to the target of the entry, inward to its origin. Segment, offset and
 /// notification id are of the rank to which it comes.
@@ -45,7 +45,7 @@ fn item_delivery(direction: Direction, item: &Item) -> Delivery
 
 /// Adds what the transfers of a list bring.
 fn append_items(
-    list: &mut Rows<Delivery>,
+    list: &mut Sequence<Delivery>,
     direction: Direction,
     items: &[Item],
 ) -> Result<(), NoMemory>
@@ -59,7 +59,7 @@ fn append_items(
 
 /// Adds what the transfers of a list bring, and behind them a notification.
 fn append_noted(
-    list: &mut Rows<Delivery>,
+    list: &mut Sequence<Delivery>,
     direction: Direction,
     items: &[Item],
     note: Delivery,
@@ -71,7 +71,7 @@ fn append_noted(
 }
 
 /// Adds what the entries bring that a call posts, in their order.
-pub(crate) fn append_deliveries(list: &mut Rows<Delivery>, call: &Call) -> Result<(), NoMemory>
+pub(crate) fn append_deliveries(list: &mut Sequence<Delivery>, call: &Call) -> Result<(), NoMemory>
     ensures { OnOk result (list.new ≡ list.old ++ deliveries_of call.now) }
 {
     match call {

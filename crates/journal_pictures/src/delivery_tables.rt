@@ -4,19 +4,19 @@ ghost use Rattle.std.specs.Prelude.{◌≡◌, [], replicate, length, slice_get,
 ghost use Rattle.journal_pictures.specs.Deliveries.{table_after, entry_delivery, delivery_for};
 
 use crate::deliveries::{Delivery, append_deliveries};
-use gaspi_types::{Event, NoMemory, RankId, Reply, Rows};
+use gaspi_types::{Event, NoMemory, RankId, Reply, Sequence};
 use std::alloc::Global;
 
 /// What entries bring, by their origin and number.
-pub type DeliveryTable = Rows<Rows<Delivery>>;
+pub type DeliveryTable = Sequence<Sequence<Delivery>>;
 
 /// No entry of any rank.
 pub fn empty_table(alloc: Global) -> Result<DeliveryTable, NoMemory>
     ensures { IfOk result (λ table. table ≡ replicate 16 []) }
 {
-    let mut table = Rows::new(alloc);
+    let mut table = Sequence::new(alloc);
     for _rank in 0..16u32 {
-        table.push(Rows::new(alloc))?;
+        table.push(Sequence::new(alloc))?;
     }
     Ok(table)
 }

@@ -5,7 +5,7 @@ ghost use Rattle.gaspi_model.specs.Step.{owner_of};
 ghost use Rattle.journal_pictures.specs.OpenEntries.{after_call, entries_after, entry_of, in_queue, is_numbered, new_entries, not_in_queue, numbered, put_entry, rank_after, without_number};
 
 use crate::deliveries::{Delivery, append_deliveries};
-use gaspi_types::{Call, Event, NoMemory, Outcome, QueueId, RankId, Reply, Rows};
+use gaspi_types::{Call, Event, NoMemory, Outcome, QueueId, RankId, Reply, Sequence};
 use std::alloc::Global;
 
 /// An entry that is posted and has not ended: its queue, target and number, and what it brings.
@@ -21,21 +21,21 @@ pub struct OpenEntry {
 #[derive(Debug, Drop)]
 pub struct RankEntries {
     pub next: u64,
-    pub entries: Rows<OpenEntry>,
+    pub entries: Sequence<OpenEntry>,
 }
 
 /// The entries of all ranks.
-pub type EntryTable = Rows<RankEntries>;
+pub type EntryTable = Sequence<RankEntries>;
 
 /// No entry of any rank.
 pub fn no_entries(alloc: Global) -> Result<EntryTable, NoMemory>
     ensures { IfOk result (λ ranks. ranks ≡ replicate 16 (record { next = 0; entries = [] })) }
 {
-    let mut ranks = Rows::new(alloc);
+    let mut ranks = Sequence::new(alloc);
     for _rank in 0..16u32 {
         ranks.push(RankEntries {
             next: 0,
-            entries: Rows::new(alloc),
+            entries: Sequence::new(alloc),
         })?;
     }
     Ok(ranks)
@@ -48,11 +48,11 @@ fn numbered(
     target: u64,
     next: u64,
     deliveries: &[Delivery],
-) -> Result<Rows<OpenEntry>, NoMemory>
+) -> Result<Sequence<OpenEntry>, NoMemory>
     requires { next < 2 ^ 63 }
     ensures { IfOk result (λ list. list ≡ numbered queue target next deliveries.now) }
 {
-    let mut list = Rows::new(alloc);
+    let mut list = Sequence::new(alloc);
     for (index, delivery) in deliveries.iter().enumerate() {
         list.push(OpenEntry {
             queue,
@@ -65,18 +65,18 @@ fn numbered(
 }
 
 /// The entries that a call posts, where the rank's next number is that. A queue's number is below 8.
-pub fn new_entries(alloc: Global, next: u64, call: &Call) -> Result<Rows<OpenEntry>, NoMemory>
+pub fn new_entries(alloc: Global, next: u64, call: &Call) -> Result<Sequence<OpenEntry>, NoMemory>
     requires { next < 2 ^ 63 }
     ensures { IfOk result (λ list. list ≡ new_entries next call.now) }
 {
     match call.row().posting {
         Some(to) if to.queue < 8 => {
             let queue = QueueId::of(to.queue as u32);
-            let mut deliveries = Rows::new(alloc);
+            let mut deliveries = Sequence::new(alloc);
             append_deliveries(&mut deliveries, call)?;
             numbered(alloc, queue, to.rank, next, deliveries.as_slice())
         }
-        _ => Ok(Rows::new(alloc)),
+        _ => Ok(Sequence::new(alloc)),
     }
 }
 
@@ -85,7 +85,7 @@ pub fn in_queue(
     alloc: Global,
     queue: u64,
     entries: &[OpenEntry],
-) -> Result<Rows<OpenEntry>, NoMemory>
+) -> Result<Sequence<OpenEntry>, NoMemory>
     ensures { IfOk result (λ list. list ≡ in_queue queue entries.now) }
 {
     let kept = entries
@@ -93,7 +93,7 @@ pub fn in_queue(
         .copied()
         .filter(|entry| u64::from(entry.queue.number()) == queue)
         .collect(alloc)?;
-    Ok(Rows::from_vec(kept))
+    Ok(Sequence::from_vec(kept))
 }
 
 /// The entries that stay where a queue is purged.
@@ -101,7 +101,7 @@ fn not_in_queue(
     alloc: Global,
     queue: u64,
     entries: &[OpenEntry],
-) -> Result<Rows<OpenEntry>, NoMemory>
+) -> Result<Sequence<OpenEntry>, NoMemory>
     ensures { IfOk result (λ list. list ≡ not_in_queue queue entries.now) }
 {
     let kept = entries
@@ -109,7 +109,7 @@ fn not_in_queue(
         .copied()
         .filter(|entry| u64::from(entry.queue.number()) != queue)
         .collect(alloc)?;
-    Ok(Rows::from_vec(kept))
+    Ok(Sequence::from_vec(kept))
 }
 
 /// The entries without the one of that number.
@@ -117,7 +117,7 @@ fn without_number(
     alloc: Global,
     number: u64,
     entries: &[OpenEntry],
-) -> Result<Rows<OpenEntry>, NoMemory>
+) -> Result<Sequence<OpenEntry>, NoMemory>
     ensures { IfOk result (λ list. list ≡ without_number number entries.now) }
 {
     let kept = entries
@@ -125,7 +125,7 @@ fn without_number(
         .copied()
         .filter(|entry| entry.number != number)
         .collect(alloc)?;
-    Ok(Rows::from_vec(kept))
+    Ok(Sequence::from_vec(kept))
 }
 
 /// Passes a call that is done.

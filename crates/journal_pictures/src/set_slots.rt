@@ -6,7 +6,7 @@ ghost use Rattle.journal_pictures.specs.OpenEntries.{is_slot, slots_after, slots
 
 use crate::deliveries::Delivery;
 use crate::open_entries::OpenEntry;
-use gaspi_types::{Call, Direction, Event, NoMemory, Outcome, QueueId, RankId, Reply, Rows};
+use gaspi_types::{Call, Direction, Event, NoMemory, Outcome, QueueId, RankId, Reply, Sequence};
 use std::alloc::Global;
 
 /// A notification slot of a rank that is set, and the put that has set it: of which rank and queue, and at which place.
@@ -44,7 +44,7 @@ fn without_slot(
     rank: RankId,
     segment: u64,
     note: u64,
-) -> Result<Rows<SetSlot>, NoMemory>
+) -> Result<Sequence<SetSlot>, NoMemory>
     ensures { IfOk result (λ list. list ≡ without_slot rank segment note slots.now) }
 {
     let kept = slots
@@ -52,12 +52,12 @@ fn without_slot(
         .copied()
         .filter(|slot| !is_slot(slot, rank, segment, note))
         .collect(alloc)?;
-    Ok(Rows::from_vec(kept))
+    Ok(Sequence::from_vec(kept))
 }
 
 /// Frees a slot.
 fn free_slot(
-    slots: &mut Rows<SetSlot>,
+    slots: &mut Sequence<SetSlot>,
     rank: RankId,
     segment: u64,
     note: u64,
@@ -70,7 +70,7 @@ fn free_slot(
 }
 
 /// Sets a slot.
-fn set_slot(slots: &mut Rows<SetSlot>, slot: SetSlot) -> Result<(), NoMemory>
+fn set_slot(slots: &mut Sequence<SetSlot>, slot: SetSlot) -> Result<(), NoMemory>
     ensures { OnOk result (slots.new ≡ with_slot slot slots.old) }
 {
     free_slot(slots, slot.rank, slot.segment, slot.note)?;
@@ -89,7 +89,7 @@ fn receiver(direction: Direction, origin: RankId, target: RankId) -> RankId
 
 /// Passes a put at a place, of an entry that brings that.
 fn pass_put(
-    slots: &mut Rows<SetSlot>,
+    slots: &mut Sequence<SetSlot>,
     place: u64,
     origin: RankId,
     queue: QueueId,
@@ -126,7 +126,7 @@ fn pass_put(
 
 /// Passes an event.
 pub fn pass_slots(
-    slots: &mut Rows<SetSlot>,
+    slots: &mut Sequence<SetSlot>,
     place: u64,
     event: &Event,
     entry: Option<OpenEntry>,

@@ -14,7 +14,7 @@ use crate::trace_lines::{append_rank, write_caller, write_objects, write_queue, 
 use call_journal::{Verdict, check};
 use gaspi_model::{Why, history_lengths};
 use gaspi_texts::Journal;
-use gaspi_types::{Bytes, CallerId, NoMemory, Rows, Shape};
+use gaspi_types::{Bytes, CallerId, NoMemory, Sequence, Shape};
 use std::alloc::Global;
 
 /// What is answered where the trace of a journal is asked for.
@@ -90,7 +90,7 @@ fn traced(alloc: Global, shape: &Shape, journal: &Journal) -> Result<Bytes, NoMe
     shape.limits();
     let mut text = trace_head(alloc, shape)?;
     let mut ranks = no_entries(alloc)?;
-    let mut slots = Rows::new(alloc);
+    let mut slots = Sequence::new(alloc);
     for (place, event) in journal.as_slice().iter().enumerate() {
         let put = put_entry(&ranks, event);
         write_objects(

@@ -4,7 +4,7 @@ use Rattle.std.specs.Prelude.{◌≡◌, ◌⊎◌, ◌≤◌, ◌<◌, ℕ, ◌
 use Rattle.std.specs.Option.{ForSome}
 use Rattle.std.specs.Fmt.{decimal}
 use Rattle.gaspi_io.specs.Faults.{HasCause}
-use Rattle.gaspi_io.specs.Sink.{with_more, AddsFront}
+use Rattle.gaspi_io.specs.Sink.{with_more, AddsPrefix}
 use Rattle.gaspi_io.specs.Source.{without, TakesAtMost}
 use Rattle.gaspi_io.specs.declared.read.ReadStop.{ReadStop}
 use Rattle.gaspi_io.specs.declared.read.ReadStop.TheVariants as stops
@@ -30,7 +30,7 @@ module _ (held held' : Option (List ℕ)) (faults faults' status : ℕ) where
   abbrev pub IsWritten : ℕ → List ℕ → Type 0
   IsWritten meant text =
       ((status ≡ meant) × (held' ≡ with_more held text) × (faults' ≡ faults))
-      ⊎ ((status ≡ 6) × AddsFront text held held' × HasCause faults faults')
+      ⊎ ((status ≡ 6) × AddsPrefix text held held' × HasCause faults faults')
 
   -- nothing was written
   abbrev pub IsSilent : ℕ → Type 0
@@ -102,7 +102,7 @@ pub record CouldNotRead (before after held held' : Option (List ℕ)) (faults fa
 pub record CouldNotWrite (asked : Picture) (before after held held' : Option (List ℕ)) (faults faults' sink_faults sink_faults' status : ℕ) : Type 0 where
   pub text : List ℕ
   pub of : ((would_be : ℕ) × TellsInput asked before after would_be text) ⊎ TellsFault before after text
-  pub front : AddsFront text held held'
+  pub front : AddsPrefix text held held'
   pub cause : HasCause sink_faults sink_faults'
   pub still : faults' ≡ faults
   pub status_is : status ≡ 6

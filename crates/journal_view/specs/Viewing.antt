@@ -1,7 +1,7 @@
 -- What is told of an input: the picture of its journal that is asked for, or why it has none. (own choice)
 use Rattle.std.specs.Prelude.{◌≡◌, ◌⊎◌, ℕ, ◌+◌, ◌-◌, length, drop, List, ◌++◌, Option, Some, None, Ok, codes}
 use Rattle.std.specs.Fmt.{decimal}
-use Rattle.gaspi_types.specs.World.{World}
+use Rattle.gaspi_types.specs.World.{ShapeValue}
 use Rattle.gaspi_types.specs.declared.events.Event.{Event}
 use Rattle.call_texts.specs.Lines.{fed_lines}
 use Rattle.gaspi_model.specs.declared.states.Why.{Why}
@@ -12,7 +12,7 @@ use Rattle.journal_pictures.specs.declared.drawing.SequenceAnswer.{SequenceAnswe
 use Rattle.journal_pictures.specs.declared.drawing.SequenceAnswer.TheVariants.{Drawn, Long, Illegal}
 use Rattle.journal_pictures.specs.declared.tracing.TraceAnswer.{TraceAnswer}
 use Rattle.journal_pictures.specs.declared.tracing.TraceAnswer.TheVariants.{Traced, Refuted}
-use Rattle.rank_script.specs.WorldText.{journal_place, checked_world}
+use Rattle.rank_script.specs.WorldText.{journal_offset, checked_world}
 use Rattle.rank_script.specs.declared.scripts.Script.{Script}
 use Rattle.journal_view.specs.declared.words.Picture.{Picture}
 use Rattle.journal_view.specs.declared.words.Picture.TheVariants.{Sequence, Trace}
@@ -62,21 +62,21 @@ pub record IsNoJournal (line status : ℕ) (text : List ℕ) : Type 0 where
   pub text_is : text ≡ no_journal_text line
 
 -- the diagram of a journal, or why it has none
-pub record HasSequence (world : World) (journal : List Event) (status : ℕ) (text : List ℕ) : Type 0 where
+pub record HasSequence (world : ShapeValue) (journal : List Event) (status : ℕ) (text : List ℕ) : Type 0 where
   pub answer : SequenceAnswer
   pub is : IsSequenceAnswer world journal answer
   pub status_is : status ≡ answer_status answer
   pub text_is : text ≡ answer_text answer
 
 -- the trace of a journal, or why it has none
-pub record HasTrace (world : World) (journal : List Event) (status : ℕ) (text : List ℕ) : Type 0 where
+pub record HasTrace (world : ShapeValue) (journal : List Event) (status : ℕ) (text : List ℕ) : Type 0 where
   pub answer : TraceAnswer
   pub is : IsTraceAnswer world journal answer
   pub status_is : status ≡ trace_answer_status answer
   pub text_is : text ≡ trace_answer_text answer
 
 -- the picture that is asked for
-abbrev pub HasPicture : Picture → World → List Event → ℕ → List ℕ → Type 0
+abbrev pub HasPicture : Picture → ShapeValue → List Event → ℕ → List ℕ → Type 0
 HasPicture Sequence world journal status text = HasSequence world journal status text
 HasPicture Trace world journal status text = HasTrace world journal status text
 
@@ -87,24 +87,24 @@ pub record IsUnread (text : List ℕ) (number status : ℕ) (told : List ℕ) : 
   pub none : IsNoJournal (number - 1 + line) status told
 
 -- a journal, and its picture
-pub record IsPictured (asked : Picture) (world : World) (text : List ℕ) (status : ℕ) (told : List ℕ) : Type 0 where
+pub record IsPictured (asked : Picture) (world : ShapeValue) (text : List ℕ) (status : ℕ) (told : List ℕ) : Type 0 where
   pub journal : List Event
   pub journal_is : text ≡ journal_text journal
   pub ranges : AreInRange journal
   pub picture : HasPicture asked world journal status told
 
 -- what is told of the text of a journal, the first line of which has that number
-abbrev pub IsRead : Picture → World → List ℕ → ℕ → ℕ → List ℕ → Type 0
+abbrev pub IsRead : Picture → ShapeValue → List ℕ → ℕ → ℕ → List ℕ → Type 0
 IsRead asked world text number status told = IsUnread text number status told ⊎ IsPictured asked world text status told
 
 -- What is told of an input with a world: where no line begins with `journal`, the line after the last is named.
-abbrev pub IsViewedIn : Picture → World → List ℕ → Option (ℕ × ℕ) → ℕ → List ℕ → Type 0
+abbrev pub IsViewedIn : Picture → ShapeValue → List ℕ → Option (ℕ × ℕ) → ℕ → List ℕ → Type 0
 IsViewedIn asked world input None status text = IsNoJournal (length (fed_lines input) + 1) status text
 IsViewedIn asked world input (Some place) status text = IsRead asked world (drop place.0 input) place.1 status text
 
 -- an input has a world text, and from the first line that begins with `journal` on a journal
 pub record IsViewed (asked : Picture) (input : List ℕ) (status : ℕ) (text : List ℕ) : Type 0 where
-  pub world : World
+  pub world : ShapeValue
   pub scripts : List Script
   pub read : checked_world input ≡ Ok (record { world = Some world; scripts = scripts })
-  pub result : IsViewedIn asked world input (journal_place input) status text
+  pub result : IsViewedIn asked world input (journal_offset input) status text

@@ -2,7 +2,7 @@
 
 ghost use Rattle.std.specs.Prelude.{◌≡◌, ◌⊎◌, map, None, Some, IfOk};
 ghost use Rattle.gaspi_io.specs.Faults.{HasCause};
-ghost use Rattle.gaspi_io.specs.Sink.{with_more, AddsFront};
+ghost use Rattle.gaspi_io.specs.Sink.{with_more, AddsPrefix};
 ghost use Rattle.journal_view.specs.Answers.{Answers, Refuses, Says, SaysFault, SaysStop, fault_text};
 ghost use Rattle.journal_view.specs.Words.{picture_of};
 ghost use Rattle.journal_view.specs.declared.words.Picture.{Picture};
@@ -31,7 +31,7 @@ fn fault_line(alloc: Global, number: u32, line: u64) -> Result<Bytes, NoMemory>
 /// Writes a text, and gives the status: 6 where it could not be written whole.
 fn status_of<K: Sink>(sink: &mut K, text: &[u8], status: u8) -> u8
     ensures { ((result ≡ status) × (K.held sink.new ≡ with_more (K.held sink.old) text.now) × (K.faults sink.new ≡ K.faults sink.old))
-        ⊎ ((result ≡ 6) × AddsFront text.now (K.held sink.old) (K.held sink.new) × HasCause (K.faults sink.old) (K.faults sink.new)) }
+        ⊎ ((result ≡ 6) × AddsPrefix text.now (K.held sink.old) (K.held sink.new) × HasCause (K.faults sink.old) (K.faults sink.new)) }
 {
     match write_all(sink, text) {
         Ok(()) => status,

@@ -8,7 +8,7 @@ ghost use Rattle.std.specs.Prelude.{◌≡◌, ◌<◌, ◌≤◌, true, IfSome,
 ghost use Rattle.two_nodes.specs.Worlds.{HasTwoCallers, has_two_callers, is_driven};
 
 use gaspi_types::{
-    Barrier, Call, CallerId, Load, NoMemory, RankId, Reset, Rows, Shape, ShapeFault, Store,
+    Barrier, Call, CallerId, Load, NoMemory, RankId, Reset, Sequence, Shape, ShapeFault, Store,
     ThreadId, Wait, Waitsome, WriteNotify,
 };
 use std::alloc::{AllocError, Global};
@@ -72,7 +72,7 @@ fn store(alloc: Global) -> Result<Call, NoMemory>
     Ok(Call::Store(Store {
         seg: 0,
         offset: 0,
-        bytes: Rows::copied_from(alloc, &[1, 2, 3, 4, 5, 6, 7, 8])?,
+        bytes: Sequence::copied_from(alloc, &[1, 2, 3, 4, 5, 6, 7, 8])?,
     }))
 }
 

@@ -1,6 +1,6 @@
 -- What a completion and a join do to what is counted of a rank: nothing but one event more.
 use Rattle.std.proofs.Common.{◌≡◌, ℕ, ◌+◌, Some, true, false, Bool, List, [], ◌∷◌, count_by, sum_by, refl, ap, ◌∙◌, arith}
-use Rattle.gaspi_types.specs.Collectives.{turn_made}
+use Rattle.gaspi_types.specs.Collectives.{round_segments}
 use Rattle.gaspi_types.specs.Queues.{queue_owed}
 use Rattle.gaspi_types.specs.Replies.{is_idle}
 use Rattle.gaspi_types.specs.declared.calls.Call.{Call}
@@ -10,14 +10,14 @@ use Rattle.gaspi_types.specs.declared.collectives.Coll.TheVariants as colls
 use Rattle.gaspi_types.specs.declared.entries.Queue.{Queue}
 use Rattle.gaspi_types.specs.declared.groups.Args.{Args}
 use Rattle.gaspi_types.specs.declared.groups.Group.{Group}
-use Rattle.gaspi_types.specs.declared.groups.Made.{Made}
+use Rattle.gaspi_types.specs.declared.groups.MemberSegment.{MemberSegment}
 use Rattle.gaspi_types.specs.declared.replies.Reply.{Reply}
-use Rattle.gaspi_model.specs.CollectiveCalls.{with_made_known, made_posts, joined_posts, told_posts, completed_posts}
+use Rattle.gaspi_model.specs.CollectiveCalls.{with_made_known, made_posts, joined_posts, posts_at_completion, completed_posts}
 use Rattle.gaspi_model.specs.State.{owed, is_running}
 use Rattle.gaspi_model.specs.declared.states.Posts.{Posts}
 use Rattle.gaspi_model.specs.declared.states.ThreadState.{ThreadState}
 use Rattle.gaspi_model.specs.SegmentCalls.{with_known}
-use Rattle.plain_calls.specs.Turns.{posts_met}
+use Rattle.plain_calls.specs.Rounds.{posts_after_collective}
 
 -- posts that differ in nothing that owes events, nor in their count
 pub record AreEven (old new : Posts) : Type 0 where
@@ -30,7 +30,7 @@ owed-even old new even =
     ap (λ (qs : List Queue). sum_by queue_owed qs + count_by is_running new.threads) even.queues
     ∙ ap (λ (ts : List ThreadState). sum_by queue_owed old.queues + count_by is_running ts) even.threads
 
-known-even : (seg size : ℕ) (made : List Made) (posts : Posts) → AreEven posts (with_made_known seg size made posts)
+known-even : (seg size : ℕ) (made : List MemberSegment) (posts : Posts) → AreEven posts (with_made_known seg size made posts)
 known-even seg size [] posts = record { queues = refl; threads = refl; events = refl }
 known-even seg size (m ∷ made) posts =
     let rest = known-even seg size made (with_known m.rank seg (Some (record { generation = m.generation; size = size })) posts) in record {
@@ -39,20 +39,20 @@ known-even seg size (m ∷ made) posts =
       events = rest.events;
     }
 
-told-even : (g : Group) (me id : ℕ) (call : Call) (posts : Posts) → AreEven posts (told_posts g me id call posts)
-told-even g me id (Commit call) posts = record { queues = refl; threads = refl; events = refl }
-told-even g me id (Create call) posts = known-even call.seg call.size (turn_made g me) posts
-told-even g me id call posts = record { queues = refl; threads = refl; events = refl }
+completion-even : (g : Group) (me id : ℕ) (call : Call) (posts : Posts) → AreEven posts (posts_at_completion g me id call posts)
+completion-even g me id (Commit call) posts = record { queues = refl; threads = refl; events = refl }
+completion-even g me id (Create call) posts = known-even call.seg call.size (round_segments g me) posts
+completion-even g me id call posts = record { queues = refl; threads = refl; events = refl }
 
 pub completed-even : (posts : Posts) (g : Group) (me id : ℕ) (call : Call) → AreEven posts (completed_posts posts g me id call)
 completed-even posts g me id call =
-    let told = told-even g me id call posts in record { queues = told.queues; threads = told.threads; events = told.events }
+    let told = completion-even g me id call posts in record { queues = told.queues; threads = told.threads; events = told.events }
 
 -- what a rank has taken grows by one
-pub met-taken : (posts : Posts) (g : Group) (me id : ℕ) (call : Call) (reply : Reply) → (posts_met posts g me id call reply).events + owed (posts_met posts g me id call reply) ≡ posts.events + owed posts + 1
-met-taken posts g me id call reply = by_idle (is_idle reply) refl
+pub on_group-used : (posts : Posts) (g : Group) (me id : ℕ) (call : Call) (reply : Reply) → (posts_after_collective posts g me id call reply).events + owed (posts_after_collective posts g me id call reply) ≡ posts.events + owed posts + 1
+on_group-used posts g me id call reply = by_idle (is_idle reply) refl
   where
-    by_idle : (idle : Bool) → is_idle reply ≡ idle → (posts_met posts g me id call reply).events + owed (posts_met posts g me id call reply) ≡ posts.events + owed posts + 1
+    by_idle : (idle : Bool) → is_idle reply ≡ idle → (posts_after_collective posts g me id call reply).events + owed (posts_after_collective posts g me id call reply) ≡ posts.events + owed posts + 1
     by_idle true idle = rw idle (omega arith)
     by_idle false busy =
         let even = completed-even posts g me id call in

@@ -1,5 +1,5 @@
 pub mod Answered
-pub mod CallRoom
+pub mod CallBounds
 pub mod Completed
 pub mod Emptied
 pub mod PostedEntries
@@ -7,4 +7,4 @@ pub mod Looked
 pub mod Owed
 pub mod Postings
 pub mod Queues
-pub mod Turns
+pub mod Rounds

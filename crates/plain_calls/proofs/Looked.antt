@@ -10,24 +10,24 @@ use Rattle.gaspi_types.specs.declared.entries.Kind.{Kind}
 use Rattle.gaspi_types.specs.declared.shapes.Limits.{Limits}
 use Rattle.gaspi_types.specs.declared.replies.Ready.{Ready}
 use Rattle.gaspi_model.specs.State.{thread_at, owed}
-use Rattle.gaspi_model.specs.Calls.{call_asks, answer, recorded_reply, posts_done, posts_after, memory_done, memory_after, charge}
+use Rattle.gaspi_model.specs.Calls.{requested_kinds, answer, recorded_reply, posts_effect, posts_after, memory_effect, memory_after, charge}
 use Rattle.gaspi_model.specs.Posting.{with_post, counted}
 use Rattle.gaspi_model.specs.Sound.{IsSoundPosts}
 use Rattle.gaspi_model.specs.Step.{called, is_there}
 use Rattle.gaspi_types.specs.declared.inboxes.Message.{Message}
-use Rattle.gaspi_model.specs.PassiveCalls.{brought_by}
+use Rattle.gaspi_model.specs.PassiveCalls.{sent_message}
 use Rattle.gaspi_model.specs.declared.states.Posts.{Posts}
 use Rattle.gaspi_model.specs.declared.states.Memory.{Memory}
 use Rattle.gaspi_model.specs.declared.states.Why.TheVariants as whys
 use Rattle.gaspi_model.proofs.Listed.Enabled.{same_reply-refl}
 use Rattle.segment_store.specs.PostKinds.{kinds_of}
-use Rattle.plain_calls.specs.Looks.{IsFinding, found_done, found_after, BringsMessage}
-use Rattle.plain_calls.specs.Room.{HasCallRoom, freed}
-use Rattle.plain_calls.specs.declared.looks.Finding.{Finding}
-use Rattle.plain_calls.proofs.CallRoom.{found_by, room_by, taken_by}
+use Rattle.plain_calls.specs.Looks.{IsEvaluation, posts_effect_with, posts_after_evaluation, HasMessage}
+use Rattle.plain_calls.specs.NumberBounds.{CallIsBounded, released}
+use Rattle.plain_calls.specs.declared.looks.Evaluation.{Evaluation}
+use Rattle.plain_calls.proofs.CallBounds.{found_by, room_by, used_by}
 
 -- a call that posts nothing asks for nothing
-pub plain_asks : (limits : Limits) (me : ℕ) (posts : Posts) (call : Call) → (row_of call).posting ≡ None → call_asks limits me posts call ≡ Ok []
+pub plain_asks : (limits : Limits) (me : ℕ) (posts : Posts) (call : Call) → (row_of call).posting ≡ None → requested_kinds limits me posts call ≡ Ok []
 plain_asks limits me posts (Write call) is = absurd (let no : ⊥ = cc in no)
 plain_asks limits me posts (Read call) is = absurd (let no : ⊥ = cc in no)
 plain_asks limits me posts (Notify call) is = absurd (let no : ⊥ = cc in no)
@@ -40,12 +40,12 @@ plain_asks limits me posts (ReadListNotify call) is = absurd (let no : ⊥ = cc 
 plain_asks limits me posts call is = refl
 
 -- and brings no message
-pub posting_brings : (me : ℕ) (own : Memory) (call : Call) (to : Posting) → (row_of call).posting ≡ Some to → brought_by me own call ≡ None
+pub posting_brings : (me : ℕ) (own : Memory) (call : Call) (to : Posting) → (row_of call).posting ≡ Some to → sent_message me own call ≡ None
 posting_brings me own (PassiveSend call) to is = absurd (let no : ⊥ = cc in no)
 posting_brings me own call to is = refl
 
 -- what a look brought, or nothing, is the same to a call that is idle
-pub brought_same : (look : Finding) (brought : Option Message) (limits : Limits) (me : ℕ) (posts : Posts) (memory : Memory) (thread : ℕ) (call : Call) → BringsMessage look brought
+pub brought_same : (look : Evaluation) (brought : Option Message) (limits : Limits) (me : ℕ) (posts : Posts) (memory : Memory) (thread : ℕ) (call : Call) → HasMessage look brought
     → called limits me posts look.message memory thread call (recorded_reply look.ready) ≡ called limits me posts brought memory thread call (recorded_reply look.ready)
 brought_same look brought limits me posts memory thread call brings = by_idle (is_idle (recorded_reply look.ready)) refl
   where
@@ -55,7 +55,7 @@ brought_same look brought limits me posts memory thread call brings = by_idle (i
     by_idle false busy = ap (λ (m : Option Message). called limits me posts m memory thread call (recorded_reply look.ready)) (brings busy)
 
 -- a call that posts changes no memory
-pub posting_memory : (limits : Limits) (posts : Posts) (brought : Option Message) (memory : Memory) (call : Call) (to : Posting) → (row_of call).posting ≡ Some to → memory_done limits posts brought memory call ≡ memory
+pub posting_memory : (limits : Limits) (posts : Posts) (brought : Option Message) (memory : Memory) (call : Call) (to : Posting) → (row_of call).posting ≡ Some to → memory_effect limits posts brought memory call ≡ memory
 posting_memory limits posts brought memory (Write call) to is = refl
 posting_memory limits posts brought memory (Read call) to is = refl
 posting_memory limits posts brought memory (Notify call) to is = refl
@@ -69,62 +69,62 @@ posting_memory limits posts brought memory call to is = absurd (let no : ⊥ = c
 
 -- what was found is what the call asks for
 found_done-same : (limits : Limits) (me : ℕ) (posts : Posts) (thread : ℕ) (call : Call) (kinds : List Kind)
-    → call_asks limits me posts call ≡ Ok kinds → found_done posts thread call kinds ≡ posts_done limits me posts thread call
+    → requested_kinds limits me posts call ≡ Ok kinds → posts_effect_with posts thread call kinds ≡ posts_effect limits me posts thread call
 found_done-same limits me posts thread call kinds asks = by_posting (row_of call).posting refl
   where
-    by_posting : (posting : Option Posting) → (row_of call).posting ≡ posting → found_done posts thread call kinds ≡ posts_done limits me posts thread call
+    by_posting : (posting : Option Posting) → (row_of call).posting ≡ posting → posts_effect_with posts thread call kinds ≡ posts_effect limits me posts thread call
     by_posting None is = rw is refl
     by_posting (Some to) is = rw is (ap (with_post posts to.queue to.rank) (sym asks))
 
-pub found_after-same : (look : Finding) (limits : Limits) (me : ℕ) (posts : Posts) (memory : Memory) (thread : ℕ) (call : Call)
-    → IsFinding look limits me posts memory thread call → found_after posts thread call look ≡ posts_after limits me posts thread call (recorded_reply look.ready)
+pub found_after-same : (look : Evaluation) (limits : Limits) (me : ℕ) (posts : Posts) (memory : Memory) (thread : ℕ) (call : Call)
+    → IsEvaluation look limits me posts memory thread call → posts_after_evaluation posts thread call look ≡ posts_after limits me posts thread call (recorded_reply look.ready)
 found_after-same look limits me posts memory thread call l = by_idle (is_idle (recorded_reply look.ready)) refl
   where
-    by_idle : (idle : Bool) → is_idle (recorded_reply look.ready) ≡ idle → found_after posts thread call look ≡ posts_after limits me posts thread call (recorded_reply look.ready)
+    by_idle : (idle : Bool) → is_idle (recorded_reply look.ready) ≡ idle → posts_after_evaluation posts thread call look ≡ posts_after limits me posts thread call (recorded_reply look.ready)
     by_idle true idle = rw idle refl
     by_idle false busy = rw busy (ap counted (found_done-same limits me posts thread call (kinds_of look.kinds) (l.kinds busy)))
 
 -- the reply is the one that may be recorded
-pub look_same : (look : Finding) (limits : Limits) (me : ℕ) (posts : Posts) (memory : Memory) (thread : ℕ) (call : Call)
-    → IsFinding look limits me posts memory thread call → same_reply (recorded_reply look.ready) (recorded_reply (answer limits me posts memory thread call)) ≡ true
+pub look_same : (look : Evaluation) (limits : Limits) (me : ℕ) (posts : Posts) (memory : Memory) (thread : ℕ) (call : Call)
+    → IsEvaluation look limits me posts memory thread call → same_reply (recorded_reply look.ready) (recorded_reply (answer limits me posts memory thread call)) ≡ true
 look_same look limits me posts memory thread call l =
     ap (λ (r : Ready). same_reply (recorded_reply look.ready) (recorded_reply r)) (sym l.ready) ∙ same_reply-refl (recorded_reply look.ready)
 
-pub look_room : (look : Finding) (limits : Limits) (me : ℕ) (posts : Posts) (memory : Memory) (thread : ℕ) (call : Call)
-    → are_limits limits ≡ true → IsSoundPosts limits posts → IsFinding look limits me posts memory thread call
-    → is_idle (recorded_reply look.ready) ≡ false → HasCallRoom posts call (length (kinds_of look.kinds))
+pub look_room : (look : Evaluation) (limits : Limits) (me : ℕ) (posts : Posts) (memory : Memory) (thread : ℕ) (call : Call)
+    → are_limits limits ≡ true → IsSoundPosts limits posts → IsEvaluation look limits me posts memory thread call
+    → is_idle (recorded_reply look.ready) ≡ false → CallIsBounded posts call (length (kinds_of look.kinds))
 look_room look limits me posts memory thread call limited sound l busy =
     room_by limits me posts memory thread call (recorded_reply look.ready) (kinds_of look.kinds) (l.kinds busy) limited sound
     (found_by limits me posts memory thread call (recorded_reply look.ready) (look_same look limits me posts memory thread call l) busy)
 
 -- the step, where the rank has room and where it has none
-pub look_steps : (look : Finding) (limits : Limits) (me : ℕ) (posts : Posts) (memory : Memory) (thread : ℕ) (call : Call)
-    → IsFinding look limits me posts memory thread call → is_there (thread_at posts thread) ≡ true
+pub look_steps : (look : Evaluation) (limits : Limits) (me : ℕ) (posts : Posts) (memory : Memory) (thread : ℕ) (call : Call)
+    → IsEvaluation look limits me posts memory thread call → is_there (thread_at posts thread) ≡ true
     → nat_le (posts.events + owed posts + charge (thread_at posts thread) call (recorded_reply look.ready)) limits.events ≡ true
     → called limits me posts look.message memory thread call (recorded_reply look.ready)
-    ≡ Ok (record { posts = found_after posts thread call look; memory = memory_after limits posts look.message memory call (recorded_reply look.ready) })
+    ≡ Ok (record { posts = posts_after_evaluation posts thread call look; memory = memory_after limits posts look.message memory call (recorded_reply look.ready) })
 look_steps look limits me posts memory thread call l there room =
     rw (there, look_same look limits me posts memory thread call l, room)
     (ap (λ (p : Posts). Ok (record { posts = p; memory = memory_after limits posts look.message memory call (recorded_reply look.ready) })) (sym (found_after-same look limits me posts memory thread call l)))
 
-pub look_limit : (look : Finding) (limits : Limits) (me : ℕ) (posts : Posts) (memory : Memory) (thread : ℕ) (call : Call)
-    → IsFinding look limits me posts memory thread call → is_there (thread_at posts thread) ≡ true
+pub look_limit : (look : Evaluation) (limits : Limits) (me : ℕ) (posts : Posts) (memory : Memory) (thread : ℕ) (call : Call)
+    → IsEvaluation look limits me posts memory thread call → is_there (thread_at posts thread) ≡ true
     → nat_le (posts.events + owed posts + charge (thread_at posts thread) call (recorded_reply look.ready)) limits.events ≡ false
     → called limits me posts look.message memory thread call (recorded_reply look.ready) ≡ Err whys.Limit
 look_limit look limits me posts memory thread call l there full = rw (there, look_same look limits me posts memory thread call l, full) refl
 
 -- what the rank has taken grows by the charge
-pub look_taken : (look : Finding) (limits : Limits) (me : ℕ) (posts : Posts) (memory : Memory) (thread : ℕ) (call : Call)
-    → IsSoundPosts limits posts → IsFinding look limits me posts memory thread call
-    → (found_after posts thread call look).events + owed (found_after posts thread call look) + freed posts call (recorded_reply look.ready)
+pub look_used : (look : Evaluation) (limits : Limits) (me : ℕ) (posts : Posts) (memory : Memory) (thread : ℕ) (call : Call)
+    → IsSoundPosts limits posts → IsEvaluation look limits me posts memory thread call
+    → (posts_after_evaluation posts thread call look).events + owed (posts_after_evaluation posts thread call look) + released posts call (recorded_reply look.ready)
     ≡ posts.events + owed posts + charge (thread_at posts thread) call (recorded_reply look.ready)
-look_taken look limits me posts memory thread call sound l =
-    ap (λ (p : Posts). p.events + owed p + freed posts call (recorded_reply look.ready)) (found_after-same look limits me posts memory thread call l)
-    ∙ taken_by limits me posts memory thread call (recorded_reply look.ready) sound (look_same look limits me posts memory thread call l)
+look_used look limits me posts memory thread call sound l =
+    ap (λ (p : Posts). p.events + owed p + released posts call (recorded_reply look.ready)) (found_after-same look limits me posts memory thread call l)
+    ∙ used_by limits me posts memory thread call (recorded_reply look.ready) sound (look_same look limits me posts memory thread call l)
 
 -- what is left of a total without what is freed
-pub less-freed : (after freed total result : ℕ) → after + freed ≡ total → result ≡ freed → total - result ≡ after
-less-freed after freed total result all is = omega (arith, all, is)
+pub less-released : (after released total result : ℕ) → after + released ≡ total → result ≡ released → total - result ≡ after
+less-released after released total result all is = omega (arith, all, is)
 
-pub freed-within : (after freed total result : ℕ) → after + freed ≡ total → result ≡ freed → result ≤ total
-freed-within after freed total result all is = omega (arith, all, is)
+pub released-within : (after released total result : ℕ) → after + released ≡ total → result ≡ released → result ≤ total
+released-within after released total result all is = omega (arith, all, is)

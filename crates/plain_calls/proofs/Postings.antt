@@ -1,7 +1,7 @@
 -- A call that posts: what it asks for, what it finds and what it leaves, as its row says.
 use Rattle.std.proofs.Common.{◌≡◌, ℕ, ◌+◌, ◌*◌, ◌≤◌, true, nat_le, nat_lt, List, Option, Some, Result, Ok, if◌then◌else◌, length, slice_get, refl, sym, ap, arith}
 use Rattle.gaspi_types.specs.CallRows.{row_of, entries_of}
-use Rattle.gaspi_types.specs.Checks.{check, found, absent}
+use Rattle.gaspi_types.specs.Checks.{check, ok_or, err_if_some}
 use Rattle.gaspi_types.specs.Replies.{is_done}
 use Rattle.gaspi_types.specs.declared.call_rows.Posting.{Posting}
 use Rattle.gaspi_types.specs.declared.calls.Call.{Call}
@@ -10,8 +10,8 @@ use Rattle.gaspi_types.specs.declared.shapes.Limits.{Limits}
 use Rattle.gaspi_types.specs.declared.replies.Refusal.{Refusal}
 use Rattle.gaspi_types.specs.declared.replies.Reply.{Reply}
 use Rattle.gaspi_types.specs.declared.replies.Reply.TheVariants as replies
-use Rattle.gaspi_model.specs.Calls.{call_asks, call_finds, posts_done, charge}
-use Rattle.gaspi_model.specs.PostCalls.{asked_finds}
+use Rattle.gaspi_model.specs.Calls.{requested_kinds, call_result, posts_effect, charge}
+use Rattle.gaspi_model.specs.PostCalls.{post_request_result}
 use Rattle.gaspi_model.specs.Posting.{with_post}
 use Rattle.gaspi_types.specs.declared.entries.Queue.{Queue}
 use Rattle.gaspi_model.specs.declared.states.Posts.{Posts}
@@ -31,12 +31,12 @@ pub record IsPost (limits : Limits) (posts : Posts) (rank queue : ℕ) (finds : 
   pub room : nat_le (q.open_count + length kinds) limits.depth ≡ true
 
 pub post_by : (limits : Limits) (posts : Posts) (rank queue : ℕ) (asked : Result (List Kind) Refusal) (reply : Reply)
-    → asked_finds limits posts rank queue asked ≡ Ok (Some reply) → IsPost limits posts rank queue asked reply
+    → post_request_result limits posts rank queue asked ≡ Ok (Some reply) → IsPost limits posts rank queue asked reply
 post_by limits posts rank queue asked reply is =
     bind_then (check (nat_lt rank limits.ranks) _) _ _ is (λ u ranked more.
-    bind_then (found (slice_get posts.queues queue) _) _ _ more (λ q there more.
+    bind_then (ok_or (slice_get posts.queues queue) _) _ _ more (λ q there more.
     bind_then asked _ _ more (λ kinds made more.
-    bind_then (absent q.broken _) _ _ more (λ v whole more.
+    bind_then (err_if_some q.broken _) _ _ more (λ v whole more.
     bind_then (check (nat_le (q.open_count + length kinds) limits.depth) _) _ _ more (λ w room more.
     record { replied = done_reply reply more; ranked = check_holds _ _ _ ranked; q = q; there = found_there _ _ _ there; kinds = kinds; made = made; room = check_holds _ _ _ room })))))
   where
@@ -53,9 +53,9 @@ IsFilled asked entries = (kinds : List Kind) → asked ≡ Ok kinds → 1 ≤ en
 
 -- a call that posts asks for as many entries as its row says, and owes as many where it is done
 record IsCounted (limits : Limits) (me : ℕ) (posts : Posts) (call : Call) (entries : ℕ) : Type 0 where
-  long : HasLength (call_asks limits me posts call) entries
+  long : HasLength (requested_kinds limits me posts call) entries
   few : entries ≤ 257
-  some : IsFilled (call_asks limits me posts call) entries
+  some : IsFilled (requested_kinds limits me posts call) entries
   charged : (t : ThreadState) (reply : Reply) → charge t call reply ≡ (if is_done reply then 1 + 2 * entries else 1)
 
 counted_of : (limits : Limits) (me : ℕ) (posts : Posts) (call : Call) (to : Posting) → (row_of call).posting ≡ Some to → IsCounted limits me posts call to.entries
@@ -68,11 +68,11 @@ counted_of limits me posts call to is = record {
 
 -- a call that posts does what its row says
 pub record IsPosting (limits : Limits) (me : ℕ) (posts : Posts) (call : Call) (posting : Posting) : Type 0 where
-  pub long : HasLength (call_asks limits me posts call) posting.entries
+  pub long : HasLength (requested_kinds limits me posts call) posting.entries
   pub few : posting.entries ≤ 257
-  pub some : IsFilled (call_asks limits me posts call) posting.entries
-  pub finds : (memory : Memory) → call_finds limits me posts memory call ≡ asked_finds limits posts posting.rank posting.queue (call_asks limits me posts call)
-  pub leaves : (thread : ℕ) → posts_done limits me posts thread call ≡ with_post posts posting.queue posting.rank (call_asks limits me posts call)
+  pub some : IsFilled (requested_kinds limits me posts call) posting.entries
+  pub finds : (memory : Memory) → call_result limits me posts memory call ≡ post_request_result limits posts posting.rank posting.queue (requested_kinds limits me posts call)
+  pub leaves : (thread : ℕ) → posts_effect limits me posts thread call ≡ with_post posts posting.queue posting.rank (requested_kinds limits me posts call)
   pub charged : (t : ThreadState) (reply : Reply) → charge t call reply ≡ (if is_done reply then 1 + 2 * posting.entries else 1)
 
 pub posting_of : (limits : Limits) (me : ℕ) (posts : Posts) (call : Call) (posting : Posting) → (row_of call).posting ≡ Some posting → IsPosting limits me posts call posting

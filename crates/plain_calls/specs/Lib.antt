@@ -1,6 +1,6 @@
 pub mod Looks
 pub mod Memory
-pub mod Room
+pub mod NumberBounds
 pub mod Segments
-pub mod Telling
-pub mod Turns
+pub mod Registrations
+pub mod Rounds

@@ -12,7 +12,7 @@ use Rattle.gaspi_types.specs.declared.replies.Reply.TheVariants as replies
 use Rattle.gaspi_types.specs.declared.replies.Ready.{Ready}
 use Rattle.gaspi_types.specs.declared.replies.Ready.TheVariants as ready
 use Rattle.gaspi_types.specs.declared.shapes.Limits.{Limits}
-use Rattle.gaspi_model.specs.Calls.{call_asks, answer, ready_of, recorded_reply, plain_done}
+use Rattle.gaspi_model.specs.Calls.{requested_kinds, answer, ready_of, recorded_reply, plain_effect}
 use Rattle.gaspi_model.specs.Posting.{with_post, counted}
 use Rattle.gaspi_model.specs.declared.states.Posts.{Posts}
 use Rattle.gaspi_model.specs.declared.states.Memory.{Memory}
@@ -20,8 +20,8 @@ use Rattle.gaspi_model.specs.declared.states.StepFault.{StepFault}
 use Rattle.gaspi_model.specs.declared.states.StepFault.TheVariants as faults
 use Rattle.gaspi_types.specs.declared.memory.NoMemory.{NoMemory}
 use Rattle.segment_store.specs.PostKinds.{kinds_of}
-use Rattle.segment_store.specs.declared.kinds.Kinds.{Kinds}
-use Rattle.plain_calls.specs.declared.looks.Finding.{Finding}
+use Rattle.segment_store.specs.declared.kinds.EntryKinds.{EntryKinds}
+use Rattle.plain_calls.specs.declared.looks.Evaluation.{Evaluation}
 
 -- a check that a call finds itself done by, or its refusal
 abbrev pub Grants : Result (Unit {0}) Refusal → Result (Option Reply) Refusal → Type 0
@@ -29,26 +29,26 @@ Grants (Ok granted) finds = finds ≡ Ok (Some replies.Done)
 Grants (Err refusal) finds = finds ≡ Err refusal
 
 -- a call that posts finds itself done with what it asks for, or its refusal
-abbrev pub Accepts : Result Kinds Refusal → Result (List Kind) Refusal → Result (Option Reply) Refusal → Type 0
+abbrev pub Accepts : Result EntryKinds Refusal → Result (List Kind) Refusal → Result (Option Reply) Refusal → Type 0
 Accepts (Ok kinds) asked finds = (asked ≡ Ok (kinds_of kinds)) × (finds ≡ Ok (Some replies.Done))
 Accepts (Err refusal) asked finds = finds ≡ Err refusal
 
 -- the look at a call that posts: what it answers, and what it asks for where it is no refusal, else nothing
-pub record IsPostFinding (look : Finding) (asked : Result (List Kind) Refusal) (finds : Result (Option Reply) Refusal) : Type 0 where
+pub record IsPostEvaluation (look : Evaluation) (asked : Result (List Kind) Refusal) (finds : Result (Option Reply) Refusal) : Type 0 where
   pub ready : look.ready ≡ ready_of finds
   pub kinds : is_idle (recorded_reply look.ready) ≡ false → asked ≡ Ok (kinds_of look.kinds)
   pub nothing : is_idle (recorded_reply look.ready) ≡ true → kinds_of look.kinds ≡ []
 
 -- This is what a look at this call of this caller finds on these posts and this memory: what it answers, and, where it is
 -- recorded neither as a refusal nor as a timeout, what it asks to be appended; else nothing is to be.
-pub record IsFinding (look : Finding) (limits : Limits) (me : ℕ) (posts : Posts) (memory : Memory) (thread : ℕ) (call : Call) : Type 0 where
+pub record IsEvaluation (look : Evaluation) (limits : Limits) (me : ℕ) (posts : Posts) (memory : Memory) (thread : ℕ) (call : Call) : Type 0 where
   pub ready : look.ready ≡ answer limits me posts memory thread call
-  pub kinds : is_idle (recorded_reply look.ready) ≡ false → call_asks limits me posts call ≡ Ok (kinds_of look.kinds)
+  pub kinds : is_idle (recorded_reply look.ready) ≡ false → requested_kinds limits me posts call ≡ Ok (kinds_of look.kinds)
   pub nothing : is_idle (recorded_reply look.ready) ≡ true → kinds_of look.kinds ≡ []
 
 -- and its message is the one that the call brings, where it is recorded neither as a refusal nor as a timeout
-abbrev pub BringsMessage : Finding → Option Message → Type 0
-BringsMessage look brought = is_idle (recorded_reply look.ready) ≡ false → look.message ≡ brought
+abbrev pub HasMessage : Evaluation → Option Message → Type 0
+HasMessage look brought = is_idle (recorded_reply look.ready) ≡ false → look.message ≡ brought
 
 -- the messages of an inbox are no longer than messages may be
 abbrev pub AreShort : List Message → Type 0
@@ -60,17 +60,17 @@ front_of [] = None
 front_of (message ∷ messages) = Some (message.sender, length message.bytes)
 
 -- What a call that found these kinds leaves in the posts of its rank: an accepted post appends them.
-abbrev pub found_done : Posts → ℕ → Call → List Kind → Posts
-found_done posts thread call kinds = done_by (row_of call).posting
+abbrev pub posts_effect_with : Posts → ℕ → Call → List Kind → Posts
+posts_effect_with posts thread call kinds = done_by (row_of call).posting
   where
     done_by : Option Posting → Posts
-    done_by None = plain_done posts thread call
+    done_by None = plain_effect posts thread call
     done_by (Some to) = with_post posts to.queue to.rank (Ok kinds)
 
 -- a refusal or a timeout changes nothing but the count of events
-abbrev pub found_after : Posts → ℕ → Call → Finding → Posts
-found_after posts thread call look =
-    counted (if is_idle (recorded_reply look.ready) then posts else found_done posts thread call (kinds_of look.kinds))
+abbrev pub posts_after_evaluation : Posts → ℕ → Call → Evaluation → Posts
+posts_after_evaluation posts thread call look =
+    counted (if is_idle (recorded_reply look.ready) then posts else posts_effect_with posts thread call (kinds_of look.kinds))
 
 -- whether a step that gives something was made, or why not
 abbrev pub made_of : {A : Type 0} → Result A StepFault → Result (Unit {0}) StepFault

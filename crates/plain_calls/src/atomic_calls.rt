@@ -3,7 +3,7 @@
 
 ghost use Rattle.std.specs.Prelude.{◌≡◌};
 ghost use Rattle.gaspi_types.specs.declared.shapes.Limits.{Limits};
-ghost use Rattle.gaspi_model.specs.AtomicCalls.{word_finds, fetch_add_leaves, compare_swap_leaves};
+ghost use Rattle.gaspi_model.specs.AtomicCalls.{word_result, fetch_add_leaves, compare_swap_leaves};
 ghost use Rattle.gaspi_model.specs.declared.states.Memory.{Memory};
 ghost use Rattle.gaspi_model.specs.declared.states.Posts.{Posts};
 
@@ -25,7 +25,7 @@ pub fn word_finds(
     offset: u64,
     rank: u64,
 ) -> Result<Option<Reply>, Refusal>
-    ensures { (limits : Limits) (posts : Posts) (memory : Memory) → limits.ranks ≡ ranks → posts.segments ≡ table.now → memory.segments ≡ segments.now → result ≡ word_finds limits me posts memory seg offset rank }
+    ensures { (limits : Limits) (posts : Posts) (memory : Memory) → limits.ranks ≡ ranks → posts.segments ≡ table.now → memory.segments ≡ segments.now → result ≡ word_result limits me posts memory seg offset rank }
 {
     if rank >= u64::from(ranks) {
         return Err(Refusal::BadRank);
@@ -39,14 +39,14 @@ pub fn word_finds(
 }
 
 /// Adds to the word. (GASPI: atomic_fetch_add)
-pub fn fetch_add_leaves(memory: &mut Memory, call: &FetchAdd)
+pub fn fetch_add_effect(memory: &mut Memory, call: &FetchAdd)
     ensures { memory.new ≡ fetch_add_leaves memory.old call.now }
 {
     add_to_segment(&mut memory.segments, call.seg, call.offset, call.value);
 }
 
 /// Writes over the word, where it is the comparator. (GASPI: atomic_compare_swap)
-pub fn compare_swap_leaves(memory: &mut Memory, call: &CompareSwap)
+pub fn compare_swap_effect(memory: &mut Memory, call: &CompareSwap)
     ensures { memory.new ≡ compare_swap_leaves memory.old call.now }
 {
     swap_in_segment(

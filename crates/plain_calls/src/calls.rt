@@ -4,34 +4,34 @@ ghost use Rattle.std.specs.Prelude.{◌≡◌, ◌≤◌, List, Option, Result, 
 ghost use Rattle.gaspi_types.specs.declared.entries.Kind.{Kind};
 ghost use Rattle.gaspi_types.specs.declared.replies.Refusal.{Refusal};
 ghost use Rattle.gaspi_types.specs.declared.replies.Reply.{Reply};
-ghost use Rattle.gaspi_model.specs.Calls.{plain_finds, answer, plain_done, memory_done, peer_after, recorded_reply};
+ghost use Rattle.gaspi_model.specs.Calls.{plain_result, answer, plain_effect, memory_effect, peer_after, recorded_reply};
 ghost use Rattle.gaspi_model.specs.declared.states.Posts.{Posts};
-ghost use Rattle.plain_calls.specs.Looks.{AreShort, Accepts, BringsMessage, IsPostFinding, IsFinding, found_done};
-ghost use Rattle.gaspi_model.specs.PassiveCalls.{brought_by};
+ghost use Rattle.plain_calls.specs.Looks.{AreShort, Accepts, HasMessage, IsPostEvaluation, IsEvaluation, posts_effect_with};
+ghost use Rattle.gaspi_model.specs.PassiveCalls.{sent_message};
 ghost use Rattle.gaspi_types.specs.Replies.{is_idle};
 ghost use Rattle.plain_calls.specs.Memory.{is_load, is_send, fills_memory, looks_with_memory, keeps_memory};
-ghost use Rattle.plain_calls.specs.Room.{HasPlainRoom, HasCallRoom};
-ghost use Rattle.plain_calls.specs.Telling.{told};
+ghost use Rattle.plain_calls.specs.NumberBounds.{PlainCallIsBounded, CallIsBounded};
+ghost use Rattle.plain_calls.specs.Registrations.{with_registration};
 
-use crate::atomic_calls::{compare_swap_leaves, fetch_add_leaves, word_finds};
+use crate::atomic_calls::{compare_swap_effect, fetch_add_effect, word_finds};
 use crate::group_calls::{
     group_add_finds, group_add_leaves, group_create_finds, group_create_leaves, group_delete_finds,
     group_delete_leaves, pending_on,
 };
-use crate::looks::Finding;
+use crate::looks::Evaluation;
 use crate::memories::slots_of;
-use crate::memory_calls::{load_finds, store_finds, store_leaves};
-use crate::notification_calls::{reset_finds, reset_leaves, waitsome_finds};
+use crate::memory_calls::{load_finds, store_effect, store_finds};
+use crate::notification_calls::{reset_effect, reset_finds, waitsome_finds};
 use crate::passive_calls::{
     front_of, message_of, receive_finds, receive_leaves, send_finds, send_leaves,
 };
-use crate::post_calls::posting_finds;
+use crate::post_calls::posting_result;
 use crate::posting::post;
 use crate::queue_calls::{closed, purge_finds, purged, qsize_finds, state_finds, wait_finds};
 use crate::replies::{is_idle_ready, ready_of};
 use crate::segment_calls::{
-    News, alloc_finds, alloc_leaves, delete_finds, delete_leaves, register_finds, register_news,
-    tell_known,
+    Registration, alloc_leaves, alloc_result, delete_leaves, delete_result, register_result,
+    registration_of, set_known_extent,
 };
 use crate::threads::{end_thread, is_running, thread_at};
 use gaspi_model::{Memory, Posts};
@@ -39,7 +39,7 @@ use gaspi_types::{
     Call, CompareSwap, FetchAdd, Invocation, Kind, Limits, Message, NoMemory, RankId, Ready,
     Refusal, Reply, ThreadId,
 };
-use segment_store::Kinds;
+use segment_store::EntryKinds;
 use std::alloc::Global;
 
 /// What a call finds that posts nothing. Only a load takes memory.
@@ -54,13 +54,13 @@ fn plain_finds(
     requires queues { length posts.now.queues ≤ 8 }
     requires corrupt { length posts.now.corrupt ≤ 32 }
     requires inbox { AreShort memory.now.inbox }
-    ensures finds { IfOk result (λ finds. finds ≡ plain_finds limits.now me posts.now memory.now call.now) }
+    ensures finds { IfOk result (λ finds. finds ≡ plain_result limits.now me posts.now memory.now call.now) }
     ensures ample { is_load call.now ≡ false → IsOk result }
 {
     Ok(match call {
-        Call::Alloc(call) => alloc_finds(&posts.segments.own, call),
-        Call::Register(call) => register_finds(limits.ranks, &posts.segments.own, call),
-        Call::Delete(call) => delete_finds(posts, call),
+        Call::Alloc(call) => alloc_result(&posts.segments.own, call),
+        Call::Register(call) => register_result(limits.ranks, &posts.segments.own, call),
+        Call::Delete(call) => delete_result(posts, call),
         Call::Store(call) => store_finds(&posts.segments.own, call),
         Call::Load(call) => load_finds(alloc, &posts.segments.own, &memory.segments, call)?,
         Call::Wait(call) => wait_finds(posts, call),
@@ -124,17 +124,17 @@ fn plain_finds(
 }
 
 /// The look at a call that posts.
-fn posting_finding(finds: Result<Kinds, Refusal>) -> Finding
+fn post_evaluation(finds: Result<EntryKinds, Refusal>) -> Evaluation
     ensures message { result.message ≡ None }
-    ensures finding { (asked : Result (List Kind) Refusal) (answers : Result (Option Reply) Refusal) → Accepts finds asked answers → IsPostFinding result asked answers }
+    ensures finding { (asked : Result (List Kind) Refusal) (answers : Result (Option Reply) Refusal) → Accepts finds asked answers → IsPostEvaluation result asked answers }
 {
     match finds {
-        Ok(kinds) => Finding {
+        Ok(kinds) => Evaluation {
             ready: Ready::Reply(Reply::Done),
             kinds,
             message: None,
         },
-        Err(refusal) => Finding::plain(Ready::Reply(Reply::Refused(refusal))),
+        Err(refusal) => Evaluation::plain(Ready::Reply(Reply::Refused(refusal))),
     }
 }
 
@@ -146,7 +146,7 @@ fn brought(
     call: &Call,
     ready: &Ready,
 ) -> Result<Option<Message>, NoMemory>
-    ensures message { IfOk result (λ message. is_idle (recorded_reply ready.now) ≡ false → message ≡ brought_by me own.now call.now) }
+    ensures message { IfOk result (λ message. is_idle (recorded_reply ready.now) ≡ false → message ≡ sent_message me own.now call.now) }
     ensures ample { is_send call.now ≡ false → IsOk result }
     ensures idle { is_idle (recorded_reply ready.now) ≡ true → IsOk result }
 {
@@ -168,12 +168,12 @@ pub fn look(
     posts: &Posts,
     own: &Memory,
     memory: &Memory,
-) -> Result<Finding, NoMemory>
+) -> Result<Evaluation, NoMemory>
     requires queues { length posts.now.queues ≤ 8 }
     requires corrupt { length posts.now.corrupt ≤ 32 }
     requires inbox { AreShort memory.now.inbox }
-    ensures look { IfOk result (λ look. IsFinding look limits.now invocation.now.caller.rank posts.now memory.now invocation.now.caller.thread invocation.now.call.now) }
-    ensures message { IfOk result (λ look. BringsMessage look (brought_by invocation.now.caller.rank own.now invocation.now.call.now)) }
+    ensures look { IfOk result (λ look. IsEvaluation look limits.now invocation.now.caller.rank posts.now memory.now invocation.now.caller.thread invocation.now.call.now) }
+    ensures message { IfOk result (λ look. HasMessage look (sent_message invocation.now.caller.rank own.now invocation.now.call.now)) }
     ensures ample { looks_with_memory invocation.now.call.now ≡ false → IsOk result }
     // A look at a send that is not done takes none.
     ensures idle { is_send invocation.now.call.now ≡ true → is_idle (recorded_reply (answer limits.now invocation.now.caller.rank posts.now memory.now invocation.now.caller.thread invocation.now.call.now)) ≡ true → IsOk result }
@@ -181,20 +181,20 @@ pub fn look(
     let me = invocation.caller.rank;
     let call = invocation.call;
     if !is_running(thread_at(posts, invocation.caller.thread)) {
-        return Ok(Finding::plain(Ready::Reply(Reply::Refused(Refusal::CallerEnded))));
+        return Ok(Evaluation::plain(Ready::Reply(Reply::Refused(Refusal::CallerEnded))));
     }
     match invocation.row.posting {
         Some(to) => {
-            let finds = posting_finds(alloc, limits, me, posts, to, call)?;
-            Ok(posting_finding(finds))
+            let finds = posting_result(alloc, limits, me, posts, to, call)?;
+            Ok(post_evaluation(finds))
         }
         None => {
             let finds = plain_finds(alloc, limits, me, posts, memory, call)?;
             let ready = ready_of(finds);
             let message = brought(alloc, me, own, call, &ready)?;
-            Ok(Finding {
+            Ok(Evaluation {
                 ready,
-                kinds: Kinds::Nothing,
+                kinds: EntryKinds::Nothing,
                 message,
             })
         }
@@ -211,9 +211,9 @@ fn plain_done(
     call: &Call,
     message: Option<Message>,
 ) -> Result<(), NoMemory>
-    requires { HasPlainRoom posts.old call.now }
-    ensures posts { OnOk result (posts.new ≡ plain_done posts.old thread call.now) }
-    ensures memory { OnOk result (memory.new ≡ memory_done limits.now posts.old message memory.old call.now) }
+    requires { PlainCallIsBounded posts.old call.now }
+    ensures posts { OnOk result (posts.new ≡ plain_effect posts.old thread call.now) }
+    ensures memory { OnOk result (memory.new ≡ memory_effect limits.now posts.old message memory.old call.now) }
     ensures posts_kept { OnErr result (posts.new ≡ posts.old) }
     ensures memory_kept { OnErr result (memory.new ≡ memory.old) }
     ensures ample { fills_memory call.now ≡ false → IsOk result }
@@ -221,14 +221,14 @@ fn plain_done(
     match call {
         Call::Alloc(call) => return alloc_leaves(alloc, limits, posts, memory, call),
         Call::Delete(call) => delete_leaves(posts, memory, call),
-        Call::Store(call) => store_leaves(memory, call),
+        Call::Store(call) => store_effect(memory, call),
         Call::Wait(call) => closed(posts, call.queue),
         Call::Purge(call) => purged(posts, call.queue),
-        Call::Reset(call) => reset_leaves(memory, call),
+        Call::Reset(call) => reset_effect(memory, call),
         Call::PassiveSend(_) => return send_leaves(memory, message),
         Call::PassiveReceive(call) => receive_leaves(memory, call),
-        Call::FetchAdd(call) => fetch_add_leaves(memory, call),
-        Call::CompareSwap(call) => compare_swap_leaves(memory, call),
+        Call::FetchAdd(call) => fetch_add_effect(memory, call),
+        Call::CompareSwap(call) => compare_swap_effect(memory, call),
         Call::GroupCreate => group_create_leaves(posts),
         Call::GroupAdd(call) => group_add_leaves(posts, call),
         Call::GroupDelete(call) => group_delete_leaves(posts, call),
@@ -241,7 +241,7 @@ fn plain_done(
 /// What a call leaves that was answered neither with a refusal nor with a timeout, in the posts of its rank and in the
 /// memory that it works on; a post appends entries of these kinds, and a send its message. Only a post, a segment that is made
 /// and a message take memory, and without it nothing changes.
-pub fn call_done(
+pub fn call_effect(
     alloc: Global,
     limits: &Limits,
     invocation: &Invocation<'_>,
@@ -250,9 +250,9 @@ pub fn call_done(
     kinds: &[Kind],
     message: Option<Message>,
 ) -> Result<(), NoMemory>
-    requires { HasCallRoom posts.old invocation.now.call.now (length kinds.now) }
-    ensures posts { OnOk result (posts.new ≡ found_done posts.old invocation.now.caller.thread invocation.now.call.now kinds.now) }
-    ensures memory { OnOk result (memory.new ≡ memory_done limits.now posts.old message memory.old invocation.now.call.now) }
+    requires { CallIsBounded posts.old invocation.now.call.now (length kinds.now) }
+    ensures posts { OnOk result (posts.new ≡ posts_effect_with posts.old invocation.now.caller.thread invocation.now.call.now kinds.now) }
+    ensures memory { OnOk result (memory.new ≡ memory_effect limits.now posts.old message memory.old invocation.now.call.now) }
     ensures posts_kept { OnErr result (posts.new ≡ posts.old) }
     ensures memory_kept { OnErr result (memory.new ≡ memory.old) }
     ensures ample { keeps_memory invocation.now.call.now ≡ false → IsOk result }
@@ -275,23 +275,28 @@ pub fn call_done(
 }
 
 /// What a call tells a peer that it reaches, where its look is recorded.
-pub fn news(me: RankId, posts: &Posts, call: &Call, look: &Finding) -> Option<News>
-    ensures { (peer : Posts) → told result peer ≡ peer_after me posts.now call.now (recorded_reply look.now.ready) peer }
+pub fn registration(
+    me: RankId,
+    posts: &Posts,
+    call: &Call,
+    look: &Evaluation,
+) -> Option<Registration>
+    ensures { (peer : Posts) → with_registration result peer ≡ peer_after me posts.now call.now (recorded_reply look.now.ready) peer }
 {
-    if look.is_idle() {
+    if look.is_refused_or_timeout() {
         return None;
     }
     match call {
-        Call::Register(call) => Some(register_news(me, &posts.segments.own, call)),
+        Call::Register(call) => Some(registration_of(me, &posts.segments.own, call)),
         _ => None,
     }
 }
 
 /// Tells a peer.
-pub fn tell(peer: &mut Posts, news: Option<News>)
-    ensures { peer.new ≡ told news peer.old }
+pub fn register_at_peer(peer: &mut Posts, news: Option<Registration>)
+    ensures { peer.new ≡ with_registration news peer.old }
 {
     if let Some(news) = news {
-        tell_known(peer, news);
+        set_known_extent(peer, news);
     }
 }

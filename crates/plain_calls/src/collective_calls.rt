@@ -2,22 +2,22 @@
 
 ghost use Rattle.std.specs.Prelude.{◌≡◌, ℕ, length, true, false, Ok, OnOk, IfOk, IsOk};
 ghost use Rattle.std.specs.Option.{option_map};
-ghost use Rattle.gaspi_types.specs.Collectives.{no_values, part_of, is_turn_full};
+ghost use Rattle.gaspi_types.specs.Collectives.{no_values, contributions_of, is_round_full};
 ghost use Rattle.gaspi_types.specs.Groups.{fix_checks};
-ghost use Rattle.gaspi_types.specs.Tables.{entry_at};
+ghost use Rattle.gaspi_types.specs.Tables.{item_at};
 ghost use Rattle.gaspi_types.specs.declared.calls.Call.TheVariants as calls;
-ghost use Rattle.gaspi_model.specs.CollectiveCalls.{element_checks, committed_at, building_with, staged_at, plain_args, args_of, segment_checks, meeting_checks, fresh_finds, full_reply, resumed_finds, collective_ready, collective_answer, is_join_of, joining_call};
-ghost use Rattle.gaspi_model.specs.Contributions.{IsSoundGroup, IsSoundPart};
+ghost use Rattle.gaspi_model.specs.CollectiveCalls.{element_checks, committed_at, building_with, staged_at, plain_args, args_of, segment_checks, agreement_checks, fresh_result, full_reply, resumed_answer, collective_ready, collective_answer, is_join_of, joining_call};
+ghost use Rattle.gaspi_model.specs.Contributions.{IsSoundGroup, AreSoundContributions};
 ghost use Rattle.plain_calls.specs.Memory.{is_allreduce};
-ghost use Rattle.plain_calls.specs.Turns.{called_on, IsReducible};
+ghost use Rattle.plain_calls.specs.Rounds.{called_on, IsReducible};
 
-use crate::contributions::{check_turn, is_turn_full, turn_fold};
+use crate::contributions::{check_round, is_round_full, round_reduction};
 use crate::group_calls::pending_on;
 use crate::threads::{is_running, thread_at};
 use gaspi_model::{Posts, check_count, check_type, resume, same_args};
 use gaspi_types::{
     Allreduce, Args, Barrier, Call, CallerId, Coll, Commit, Create, Group, GroupId, Handle,
-    Handles, NoMemory, NumType, Numbers, RankId, Ready, Refusal, Reply, Resume, Rows, Stage,
+    Handles, NoMemory, NumType, Numbers, RankId, Ready, Refusal, Reply, Resume, Sequence, Stage,
     ThreadId, is_member,
 };
 use segment_store::check_alloc;
@@ -83,7 +83,7 @@ pub fn called_on(groups: &Handles, me: RankId, id: u64, call: &Call) -> Result<H
 fn no_values(alloc: Global) -> Numbers
     ensures { result ≡ no_values }
 {
-    Numbers::new(NumType::Int, Rows::new(alloc))
+    Numbers::new(NumType::Int, Sequence::new(alloc))
 }
 
 /// What a segment_create is asked for: its numbers have to fit 32 bits.
@@ -151,12 +151,12 @@ pub fn check_fixed(fixed: Option<u32>, mask: u32) -> Result<(), Refusal>
 }
 
 /// Checks a collective by what other ranks have brought to its group: a commit by the list that is fixed, each other by the turn.
-fn check_meeting(group: &Group, me: RankId, coll: Coll) -> Result<(), Refusal>
-    ensures { result ≡ meeting_checks group.now me coll }
+fn check_agreement(group: &Group, me: RankId, coll: Coll) -> Result<(), Refusal>
+    ensures { result ≡ agreement_checks group.now me coll }
 {
     match coll {
         Coll::Commit(mask) => check_fixed(group.members, mask),
-        _ => check_turn(group, me, coll),
+        _ => check_round(group, me, coll),
     }
 }
 
@@ -168,24 +168,24 @@ fn fresh_finds(
     args: Option<Args>,
     call: &Call,
 ) -> Result<Ready, Refusal>
-    ensures { (members : ℕ) → args ≡ args_of members call.now → result ≡ fresh_finds posts.now group.now me members call.now }
+    ensures { (members : ℕ) → args ≡ args_of members call.now → result ≡ fresh_result posts.now group.now me members call.now }
 {
     check_segment(posts, call)?;
     let args = args.ok_or(Refusal::BadSize)?;
-    check_meeting(group, me, args.coll)?;
+    check_agreement(group, me, args.coll)?;
     Ok(Ready::Join(args))
 }
 
 /// What a collective answers whose turn is full. Only an allreduce takes memory, for its numbers. (GASPI: allreduce)
 fn full_reply(alloc: Global, group: &Group, me: RankId, call: &Call) -> Result<Reply, NoMemory>
-    requires full { is_turn_full group.now me ≡ true }
+    requires full { is_round_full group.now me ≡ true }
     requires reducible { IsReducible group.now me call.now }
     ensures reply { IfOk result (λ reply. reply ≡ full_reply group.now me call.now) }
     ensures ample { is_allreduce call.now ≡ false → IsOk result }
 {
     match call {
         Call::Allreduce(call) => {
-            let total = turn_fold(alloc, group, me, call.op, call.values.num_type())?;
+            let total = round_reduction(alloc, group, me, call.op, call.values.num_type())?;
             Ok(Reply::List(total))
         }
         _ => Ok(Reply::Done),
@@ -195,10 +195,10 @@ fn full_reply(alloc: Global, group: &Group, me: RankId, call: &Call) -> Result<R
 /// Looks at a collective that is pending for its caller: ready where its turn is full.
 fn resumed_finds(alloc: Global, group: &Group, me: RankId, call: &Call) -> Result<Ready, NoMemory>
     requires reducible { IsReducible group.now me call.now }
-    ensures finds { IfOk result (λ ready. ready ≡ resumed_finds group.now me call.now) }
+    ensures finds { IfOk result (λ ready. ready ≡ resumed_answer group.now me call.now) }
     ensures ample { is_allreduce call.now ≡ false → IsOk result }
 {
-    if !is_turn_full(group, me) {
+    if !is_round_full(group, me) {
         return Ok(Ready::NotReady);
     }
     Ok(Ready::Reply(full_reply(alloc, group, me, call)?))
@@ -226,8 +226,8 @@ pub fn collective_look(
     id: u64,
     call: &Call,
 ) -> Result<Ready, NoMemory>
-    requires group { IsSoundGroup (length group.now.parts) group.now }
-    requires part { IsSoundPart posts.now.events (entry_at posts.now.pending id) (part_of group.now me) }
+    requires group { IsSoundGroup (length group.now.contributions) group.now }
+    requires part { AreSoundContributions posts.now.events (item_at posts.now.pending id) (contributions_of group.now me) }
     ensures look { IfOk result (λ ready. ready ≡ collective_answer posts.now group.now me thread id call.now) }
     ensures ample { is_allreduce call.now ≡ false → IsOk result }
 {
@@ -281,8 +281,8 @@ pub fn may_join(
     posts: &Posts,
     group: &Group,
 ) -> Result<bool, NoMemory>
-    requires group { IsSoundGroup (length group.now.parts) group.now }
-    requires part { IsSoundPart posts.now.events (entry_at posts.now.pending joining.now.group) (part_of group.now joining.now.caller.rank) }
+    requires group { IsSoundGroup (length group.now.contributions) group.now }
+    requires part { AreSoundContributions posts.now.events (item_at posts.now.pending joining.now.group) (contributions_of group.now joining.now.caller.rank) }
     ensures { IfOk result (λ may. may ≡ is_join_of (collective_answer posts.now group.now joining.now.caller.rank joining.now.caller.thread joining.now.group (joining_call joining.now.group joining.now.args.now)) joining.now.args.now) }
 {
     let id = u64::from(joining.group.number());

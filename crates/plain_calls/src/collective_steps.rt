@@ -2,37 +2,37 @@
 //! caller's rank, its memory and its group. (GASPI: collectives, groups, segments)
 
 ghost use Rattle.std.specs.Prelude.{◌≡◌, ◌+◌, ◌<◌, ◌≤◌, ◌^◌, OnOk, OnErr, Some, Ok, false, true};
-ghost use Rattle.gaspi_types.specs.Collectives.{part_of, turn_of, with_joined, with_completed};
+ghost use Rattle.gaspi_types.specs.Collectives.{contributions_of, round_of, with_joined, with_completed};
 ghost use Rattle.gaspi_types.specs.Groups.{with_committed};
 ghost use Rattle.gaspi_types.specs.Replies.{is_idle};
-ghost use Rattle.gaspi_types.specs.Tables.{entry_at};
+ghost use Rattle.gaspi_types.specs.Tables.{item_at};
 ghost use Rattle.gaspi_types.specs.World.{are_limits};
 ghost use Rattle.gaspi_types.specs.declared.shapes.Limits.{Limits};
 ghost use Rattle.gaspi_model.specs.Calls.{recorded_reply};
-ghost use Rattle.gaspi_model.specs.CollectiveCalls.{collective_answer, is_join_of, joining_call, contribution_of, made_generation, made_posts, made_memory, with_pending, joined_posts, told_posts, completed_posts, is_joining};
-ghost use Rattle.gaspi_model.specs.Contributions.{IsSoundPart};
+ghost use Rattle.gaspi_model.specs.CollectiveCalls.{collective_answer, is_join_of, joining_call, contribution_of, made_generation, made_posts, made_memory, with_pending, joined_posts, posts_at_completion, completed_posts, is_joining};
+ghost use Rattle.gaspi_model.specs.Contributions.{AreSoundContributions};
 ghost use Rattle.gaspi_model.specs.Posting.{counted};
 ghost use Rattle.gaspi_model.specs.Sound.{IsSoundPosts};
 ghost use Rattle.gaspi_model.specs.State.{owed, thread_at};
-ghost use Rattle.gaspi_model.specs.Step.{Met, completed, joined, Steps, is_there};
+ghost use Rattle.gaspi_model.specs.Step.{PostsAndGroup, completed, joined, Steps, is_there};
 ghost use Rattle.plain_calls.specs.Looks.{recorded_of};
-ghost use Rattle.plain_calls.specs.Room.{HasMakingRoom, HasTellingRoom};
-ghost use Rattle.plain_calls.specs.Turns.{posts_met, group_met};
+ghost use Rattle.plain_calls.specs.NumberBounds.{JoinIsBounded, CompletionIsBounded};
+ghost use Rattle.plain_calls.specs.Rounds.{posts_after_collective, group_after_collective};
 
 use crate::collective_calls::Joining;
-use crate::contributions::{complete_turn, join_turn, make_turn_known};
-use crate::replies::{is_idle, recorded_reply};
+use crate::contributions::{complete_round, join_round, register_round};
+use crate::replies::{is_refused_or_timeout, recorded_reply};
 use crate::segment_calls::{make_segment, place_segment};
 use gaspi_model::{Memory, Posts};
 use gaspi_types::{
-    Alloc, Call, Coll, Contribution, Group, Handle, Invocation, Limits, NoMemory, Pending, RankId,
-    Ready, Reply, Stage,
+    Alloc, Call, Coll, Contribution, Group, Handle, Invocation, Limits, NoMemory,
+    PendingCollective, RankId, Ready, Reply, Stage,
 };
 use segment_store::next_generation;
 use std::alloc::Global;
 
 /// Puts a collective as the one that is pending on a group, or takes away the one that is there.
-fn set_pending(posts: &mut Posts, id: u64, pending: Option<Pending>)
+fn set_pending(posts: &mut Posts, id: u64, pending: Option<PendingCollective>)
     ensures { posts.new ≡ with_pending id pending posts.old }
 {
     let place = id as usize;
@@ -54,13 +54,13 @@ fn commit_group(posts: &mut Posts, id: u64)
 
 /// What a collective tells its rank as it completes: a commit marks its group as committed, and a segment that was made is known of
 /// all members. (GASPI: group_commit, segment_create)
-fn tell_posts(posts: &mut Posts, group: &Group, me: RankId, id: u64, call: &Call)
-    requires { HasTellingRoom call.now }
-    ensures { posts.new ≡ told_posts group.now me id call.now posts.old }
+fn complete_posts(posts: &mut Posts, group: &Group, me: RankId, id: u64, call: &Call)
+    requires { CompletionIsBounded call.now }
+    ensures { posts.new ≡ posts_at_completion group.now me id call.now posts.old }
 {
     match call {
         Call::Commit(_) => commit_group(posts, id),
-        Call::Create(call) => make_turn_known(posts, group, me, call.seg, call.size as u32),
+        Call::Create(call) => register_round(posts, group, me, call.seg, call.size as u32),
         _ => {}
     }
 }
@@ -75,16 +75,16 @@ fn complete_parts(
     call: &Call,
     reply: &Reply,
 )
-    requires room { is_idle reply.now ≡ false → HasTellingRoom call.now }
-    requires turns { turn_of group.old me + 1 < 2 ^ 32 }
+    requires room { is_idle reply.now ≡ false → CompletionIsBounded call.now }
+    requires turns { round_of group.old me + 1 < 2 ^ 32 }
     requires events { posts.old.events + 1 < 2 ^ 32 }
-    ensures posts { posts.new ≡ posts_met posts.old group.old me id call.now reply.now }
-    ensures group { group.new ≡ group_met group.old me reply.now }
+    ensures posts { posts.new ≡ posts_after_collective posts.old group.old me id call.now reply.now }
+    ensures group { group.new ≡ group_after_collective group.old me reply.now }
 {
-    if !is_idle(reply) {
-        tell_posts(posts, group, me, id, call);
+    if !is_refused_or_timeout(reply) {
+        complete_posts(posts, group, me, id, call);
         set_pending(posts, id, None);
-        complete_turn(group, me);
+        complete_round(group, me);
     }
     posts.events += 1;
 }
@@ -101,7 +101,7 @@ pub fn complete(
     taken: &mut u32,
     ready: Ready,
 ) -> Reply
-    requires part { IsSoundPart posts.old.events (entry_at posts.old.pending id) (part_of group.old invocation.now.caller.rank) }
+    requires part { AreSoundContributions posts.old.events (item_at posts.old.pending id) (contributions_of group.old invocation.now.caller.rank) }
     requires taken { taken.old ≡ posts.old.events + owed posts.old }
     requires few { taken.old + 1 < 2 ^ 32 }
     requires there { is_there (thread_at posts.old invocation.now.caller.thread) ≡ true }
@@ -146,7 +146,7 @@ fn give(
     group: &mut Group,
     contribution: Contribution,
 ) -> Result<(), NoMemory>
-    requires { HasMakingRoom posts.old contribution.args.coll }
+    requires { JoinIsBounded posts.old contribution.args.coll }
     ensures posts { OnOk result (posts.new ≡ made_posts posts.old contribution.args.coll) }
     ensures memory { OnOk result (memory.new ≡ made_memory limits.now posts.old memory.old contribution.args.coll) }
     ensures group { OnOk result (group.new ≡ with_joined group.old me contribution) }
@@ -161,11 +161,11 @@ fn give(
                 size: u64::from(size),
             };
             let made = make_segment(alloc, limits, posts, &call)?;
-            join_turn(group, me, contribution)?;
+            join_round(group, me, contribution)?;
             place_segment(posts, memory, &call, made);
             Ok(())
         }
-        _ => join_turn(group, me, contribution),
+        _ => join_round(group, me, contribution),
     }
 }
 
@@ -179,7 +179,7 @@ fn join_parts(
     memory: &mut Memory,
     group: &mut Group,
 ) -> Result<(), NoMemory>
-    requires room { HasMakingRoom posts.old joining.now.args.now.coll }
+    requires room { JoinIsBounded posts.old joining.now.args.now.coll }
     requires events { posts.old.events + 1 < 2 ^ 32 }
     ensures posts { OnOk result (posts.new ≡ counted (joined_posts posts.old joining.now.caller.thread joining.now.group joining.now.args.now)) }
     ensures memory { OnOk result (memory.new ≡ made_memory limits.now posts.old memory.old joining.now.args.now.coll) }
@@ -188,7 +188,7 @@ fn join_parts(
     ensures memory_kept { OnErr result (memory.new ≡ memory.old) }
     ensures group_kept { OnErr result (group.new ≡ group.old) }
 {
-    let pending = Pending {
+    let pending = PendingCollective {
         thread: joining.caller.thread,
         args: joining.args.copy(alloc)?,
     };
@@ -228,7 +228,7 @@ pub fn join(
     requires there { is_there (thread_at posts.old joining.now.caller.thread) ≡ true }
     requires joins { is_join_of (collective_answer posts.old group.old joining.now.caller.rank joining.now.caller.thread joining.now.group (joining_call joining.now.group joining.now.args.now)) joining.now.args.now ≡ true }
     requires room { posts.old.events + owed posts.old + 1 ≤ limits.now.events }
-    ensures step { Steps {S = Met} (recorded_of result) (record { posts = posts.old; group = group.old }) (record { posts = posts.new; group = group.new }) (joined limits.now joining.now.caller.rank posts.old group.old joining.now.caller.thread joining.now.group joining.now.args.now) }
+    ensures step { Steps {S = PostsAndGroup} (recorded_of result) (record { posts = posts.old; group = group.old }) (record { posts = posts.new; group = group.new }) (joined limits.now joining.now.caller.rank posts.old group.old joining.now.caller.thread joining.now.group joining.now.args.now) }
     ensures memory { OnOk result (memory.new ≡ made_memory limits.now posts.old memory.old joining.now.args.now.coll) }
     ensures memory_kept { OnErr result (memory.new ≡ memory.old) }
     ensures taken { taken.new ≡ posts.new.events + owed posts.new }

@@ -3,25 +3,26 @@
 
 ghost use Rattle.std.specs.Prelude.{◌≡◌, ℕ, ◌+◌, ◌<◌, ◌^◌, ◌++◌, ◌∷◌, [], length, true, is_some, IfOk, OnOk, OnErr};
 ghost use Rattle.std.specs.Option.{option_copied};
-ghost use Rattle.gaspi_types.specs.Collectives.{part_of, given_in, members_in, turn_of, is_full, is_turn_full, first_given, turn_checks, values_in, generation_in, folded_onto, fold_of, combined, turn_fold, made_by, turn_made, with_joined, with_completed, fixed_by};
+ghost use Rattle.gaspi_types.specs.Collectives.{contributions_of, contribution_in, members_in, round_of, is_full, is_round_full, first_contribution, round_checks, values_in, generation_in, reduced_onto, reduction_of, combined, round_reduction, made_by, round_segments, with_joined, with_completed, fixed_by};
 ghost use Rattle.gaspi_types.specs.NumberTypes.{AreInType};
 ghost use Rattle.gaspi_types.specs.declared.collectives.NumType.{NumType};
 ghost use Rattle.gaspi_model.specs.CollectiveCalls.{with_made_known};
 ghost use Rattle.gaspi_model.specs.RoundRules.{coll_in};
-ghost use Rattle.plain_calls.specs.Turns.{AreAlike};
+ghost use Rattle.plain_calls.specs.Rounds.{AreAlike};
 
 use gaspi_model::{Members, Posts, check_fits, members_of, reduce};
 use gaspi_types::{
-    Coll, Contribution, Extent, Group, NoMemory, NumType, Numbers, Op, Part, RankId, Refusal, Rows,
+    Coll, Contribution, Extent, Group, NoMemory, NumType, Numbers, Op, RankContributions, RankId,
+    Refusal, Sequence,
 };
 use segment_store::set_known;
 use std::alloc::Global;
 
 /// What a rank has given to a turn of a group, if it has.
 fn given_in(group: &Group, turn: u32, rank: RankId) -> Option<&Contribution>
-    ensures { option_copied result ≡ given_in group.now turn rank }
+    ensures { option_copied result ≡ contribution_in group.now turn rank }
 {
-    match group.parts.get(rank.index()) {
+    match group.contributions.get(rank.index()) {
         Some(part) => part.contributions.get(turn as usize),
         None => None,
     }
@@ -29,9 +30,9 @@ fn given_in(group: &Group, turn: u32, rank: RankId) -> Option<&Contribution>
 
 /// The turn of a rank: the first that it has not completed.
 fn turn_of(group: &Group, rank: RankId) -> u32
-    ensures { result ≡ turn_of group.now rank }
+    ensures { result ≡ round_of group.now rank }
 {
-    match group.parts.get(rank.index()) {
+    match group.contributions.get(rank.index()) {
         Some(part) => part.completed,
         None => 0,
     }
@@ -46,7 +47,7 @@ fn members_in(group: &Group) -> Members
 
 /// Whether every one of these ranks has given to a turn.
 fn is_full(group: &Group, turn: u32, members: &[RankId]) -> bool
-    ensures { result ≡ is_full (given_in group.now turn) members.now }
+    ensures { result ≡ is_full (contribution_in group.now turn) members.now }
 {
     members
         .iter()
@@ -54,15 +55,15 @@ fn is_full(group: &Group, turn: u32, members: &[RankId]) -> bool
 }
 
 /// Whether every member has given to the turn of a rank. (GASPI: collectives)
-pub fn is_turn_full(group: &Group, me: RankId) -> bool
-    ensures { result ≡ is_turn_full group.now me }
+pub fn is_round_full(group: &Group, me: RankId) -> bool
+    ensures { result ≡ is_round_full group.now me }
 {
     is_full(group, turn_of(group, me), members_in(group).ranks())
 }
 
 /// The collective with which the first of these ranks has joined a turn that has joined it.
 fn first_coll(group: &Group, turn: u32, members: &[RankId]) -> Option<Coll>
-    ensures { result ≡ coll_in (first_given (given_in group.now turn) members.now) }
+    ensures { result ≡ coll_in (first_contribution (contribution_in group.now turn) members.now) }
 {
     match members {
         [] => None,
@@ -74,8 +75,8 @@ fn first_coll(group: &Group, turn: u32, members: &[RankId]) -> Option<Coll>
 }
 
 /// Checks that a collective is the one with which members have joined the turn of a rank, values aside. (GASPI: collectives)
-pub fn check_turn(group: &Group, me: RankId, coll: Coll) -> Result<(), Refusal>
-    ensures { result ≡ turn_checks group.now me coll }
+pub fn check_round(group: &Group, me: RankId, coll: Coll) -> Result<(), Refusal>
+    ensures { result ≡ round_checks group.now me coll }
 {
     let first = first_coll(group, turn_of(group, me), members_in(group).ranks());
     check_fits(first, coll)
@@ -83,8 +84,8 @@ pub fn check_turn(group: &Group, me: RankId, coll: Coll) -> Result<(), Refusal>
 
 /// The values that a rank has given to a turn: of one that has not, none.
 fn values_in(group: &Group, turn: u32, rank: RankId) -> &[i128]
-    ensures values { result.now ≡ values_in (given_in group.now turn rank) }
-    ensures range { (num_type : NumType) (count : ℕ) → AreAlike (given_in group.now turn) num_type count → AreInType num_type result.now }
+    ensures values { result.now ≡ values_in (contribution_in group.now turn rank) }
+    ensures range { (num_type : NumType) (count : ℕ) → AreAlike (contribution_in group.now turn) num_type count → AreInType num_type result.now }
 {
     match given_in(group, turn, rank) {
         Some(given) => given.args.values.items(),
@@ -101,10 +102,10 @@ fn reduce_given(
     turn: u32,
     rank: RankId,
 )
-    requires given { is_some (given_in group.now turn rank) ≡ true }
-    requires alike { AreAlike (given_in group.now turn) num_type (length total.old) }
+    requires given { is_some (contribution_in group.now turn rank) ≡ true }
+    requires alike { AreAlike (contribution_in group.now turn) num_type (length total.old) }
     requires range { AreInType num_type total.old }
-    ensures reduced { total.new ≡ combined op num_type total.old (values_in (given_in group.now turn rank)) }
+    ensures reduced { total.new ≡ combined op num_type total.old (values_in (contribution_in group.now turn rank)) }
     ensures range { AreInType num_type total.new }
 {
     reduce(op, num_type, total, values_in(group, turn, rank));
@@ -119,10 +120,10 @@ fn fold_onto(
     turn: u32,
     members: &[RankId],
 )
-    requires full { is_full (given_in group.now turn) members.now ≡ true }
-    requires alike { AreAlike (given_in group.now turn) num_type (length total.old) }
+    requires full { is_full (contribution_in group.now turn) members.now ≡ true }
+    requires alike { AreAlike (contribution_in group.now turn) num_type (length total.old) }
     requires range { AreInType num_type total.old }
-    ensures folded { total.new ≡ folded_onto (given_in group.now turn) op num_type total.old members.now }
+    ensures folded { total.new ≡ reduced_onto (contribution_in group.now turn) op num_type total.old members.now }
     ensures range { AreInType num_type total.new }
 {
     match members {
@@ -143,32 +144,32 @@ fn fold(
     turn: u32,
     members: &[RankId],
 ) -> Result<Numbers, NoMemory>
-    requires full { is_full (given_in group.now turn) members.now ≡ true }
-    requires alike { (count : ℕ) × AreAlike (given_in group.now turn) num_type count }
-    ensures { IfOk result (λ numbers. numbers ≡ fold_of (given_in group.now turn) op num_type members.now) }
+    requires full { is_full (contribution_in group.now turn) members.now ≡ true }
+    requires alike { (count : ℕ) × AreAlike (contribution_in group.now turn) num_type count }
+    ensures { IfOk result (λ numbers. numbers ≡ reduction_of (contribution_in group.now turn) op num_type members.now) }
 {
     match members {
-        [] => Ok(Numbers::new(num_type, Rows::new(alloc))),
+        [] => Ok(Numbers::new(num_type, Sequence::new(alloc))),
         [first, others @ ..] => {
             let mut total = Vec::from_slice(alloc, values_in(group, turn, *first))?;
             let items = total.as_mut_slice();
             fold_onto(items, op, num_type, group, turn, others);
-            Ok(Numbers::new(num_type, Rows::from_vec(total)))
+            Ok(Numbers::new(num_type, Sequence::from_vec(total)))
         }
     }
 }
 
 /// What the values of all members come to in the full turn of a rank, in the order of their ranks. (GASPI: allreduce)
-pub fn turn_fold(
+pub fn round_reduction(
     alloc: Global,
     group: &Group,
     me: RankId,
     op: Op,
     num_type: NumType,
 ) -> Result<Numbers, NoMemory>
-    requires full { is_turn_full group.now me ≡ true }
-    requires alike { (count : ℕ) × AreAlike (given_in group.now (turn_of group.now me)) num_type count }
-    ensures { IfOk result (λ numbers. numbers ≡ turn_fold group.now me op num_type) }
+    requires full { is_round_full group.now me ≡ true }
+    requires alike { (count : ℕ) × AreAlike (contribution_in group.now (round_of group.now me)) num_type count }
+    ensures { IfOk result (λ numbers. numbers ≡ round_reduction group.now me op num_type) }
 {
     let turn = turn_of(group, me);
     let members = members_in(group);
@@ -177,7 +178,7 @@ pub fn turn_fold(
 
 /// The generation of the segment that a rank has given to a turn: of one that has not, 0.
 fn generation_in(group: &Group, turn: u32, rank: RankId) -> u32
-    ensures { result ≡ generation_in (given_in group.now turn rank) }
+    ensures { result ≡ generation_in (contribution_in group.now turn rank) }
 {
     match given_in(group, turn, rank) {
         Some(given) => given.generation,
@@ -187,7 +188,7 @@ fn generation_in(group: &Group, turn: u32, rank: RankId) -> u32
 
 /// Makes a segment of each of these ranks known, in the generation that it has given to a turn.
 fn make_known(posts: &mut Posts, group: &Group, turn: u32, members: &[RankId], seg: u64, size: u32)
-    ensures { posts.new ≡ with_made_known seg size (made_by (given_in group.now turn) members.now) posts.old }
+    ensures { posts.new ≡ with_made_known seg size (made_by (contribution_in group.now turn) members.now) posts.old }
 {
     match members {
         [] => {}
@@ -202,8 +203,8 @@ fn make_known(posts: &mut Posts, group: &Group, turn: u32, members: &[RankId], s
 
 /// Makes the segments of all members known, in the generations that they have given to the turn of a rank.
 /// (GASPI: segment_create)
-pub fn make_turn_known(posts: &mut Posts, group: &Group, me: RankId, seg: u64, size: u32)
-    ensures { posts.new ≡ with_made_known seg size (turn_made group.now me) posts.old }
+pub fn register_round(posts: &mut Posts, group: &Group, me: RankId, seg: u64, size: u32)
+    ensures { posts.new ≡ with_made_known seg size (round_segments group.now me) posts.old }
 {
     let members = members_in(group);
     make_known(posts, group, turn_of(group, me), members.ranks(), seg, size);
@@ -223,7 +224,7 @@ fn fixed_by(members: Option<u32>, coll: Coll) -> Option<u32>
 }
 
 /// Adds a contribution to the part of a rank. Without memory nothing changes.
-fn give(part: &mut Part, contribution: Contribution) -> Result<(), NoMemory>
+fn give(part: &mut RankContributions, contribution: Contribution) -> Result<(), NoMemory>
     ensures ok { OnOk result (part.new ≡ record part.old { contributions = part.old.contributions ++ contribution ∷ [] }) }
     ensures err { OnErr result (part.new ≡ part.old) }
 {
@@ -233,26 +234,26 @@ fn give(part: &mut Part, contribution: Contribution) -> Result<(), NoMemory>
 /// A rank joins: it gives to its turn, and the first commit fixes the members. Without memory nothing changes.
 /// (GASPI: collectives)
 #[tactic(auto, using(crate::proofs::PostedEntries::posts_lemmas))]
-pub fn join_turn(group: &mut Group, me: RankId, contribution: Contribution) -> Result<(), NoMemory>
+pub fn join_round(group: &mut Group, me: RankId, contribution: Contribution) -> Result<(), NoMemory>
     ensures ok { OnOk result (group.new ≡ with_joined group.old me contribution) }
     ensures err { OnErr result (group.new ≡ group.old) }
 {
     let members = fixed_by(group.members, contribution.args.coll);
     let place = me.index();
-    if place < group.parts.len() {
-        give(group.parts.at_mut(place), contribution)?;
+    if place < group.contributions.len() {
+        give(group.contributions.at_mut(place), contribution)?;
     }
     group.members = members;
     Ok(())
 }
 
 /// A rank has completed its turn. (GASPI: collectives)
-pub fn complete_turn(group: &mut Group, me: RankId)
-    requires { turn_of group.old me + 1 < 2 ^ 32 }
+pub fn complete_round(group: &mut Group, me: RankId)
+    requires { round_of group.old me + 1 < 2 ^ 32 }
     ensures { group.new ≡ with_completed group.old me }
 {
     let place = me.index();
-    if place < group.parts.len() {
-        group.parts.at_mut(place).completed += 1;
+    if place < group.contributions.len() {
+        group.contributions.at_mut(place).completed += 1;
     }
 }

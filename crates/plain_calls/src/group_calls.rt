@@ -3,20 +3,23 @@
 ghost use Rattle.std.specs.Prelude.{◌≡◌, ◌+◌, ◌<◌, ◌^◌};
 ghost use Rattle.std.specs.Option.{option_copied};
 ghost use Rattle.gaspi_types.specs.Groups.{idle_check};
-ghost use Rattle.gaspi_types.specs.Tables.{entry_at};
+ghost use Rattle.gaspi_types.specs.Tables.{item_at};
 ghost use Rattle.gaspi_types.specs.declared.shapes.Limits.{Limits};
-ghost use Rattle.gaspi_model.specs.GroupCalls.{group_create_finds, group_create_leaves, group_add_finds, group_add_leaves, group_delete_finds, group_delete_leaves};
+ghost use Rattle.gaspi_model.specs.GroupCalls.{group_create_result, group_create_leaves, group_add_result, group_add_leaves, group_delete_result, group_delete_leaves};
 ghost use Rattle.gaspi_model.specs.declared.states.Posts.{Posts};
 
 use gaspi_model::Posts;
 use gaspi_types::{
-    GroupAdd, GroupDelete, Handle, Handles, Pending, RankId, Refusal, Reply, Rows, Stage,
-    with_member,
+    GroupAdd, GroupDelete, Handle, Handles, PendingCollective, RankId, Refusal, Reply, Sequence,
+    Stage, with_member,
 };
 
 /// What is pending of a rank on a group.
-pub fn pending_on(pending: &Rows<Option<Pending>>, id: u64) -> Option<&Pending>
-    ensures { option_copied result ≡ entry_at pending.now id }
+pub fn pending_on(
+    pending: &Sequence<Option<PendingCollective>>,
+    id: u64,
+) -> Option<&PendingCollective>
+    ensures { option_copied result ≡ item_at pending.now id }
 {
     match pending.get(id as usize) {
         Some(Some(pending)) => Some(pending),
@@ -25,7 +28,7 @@ pub fn pending_on(pending: &Rows<Option<Pending>>, id: u64) -> Option<&Pending>
 }
 
 /// Checks that no collective of the rank is pending on a group: this is what is pending on it.
-fn check_idle(pending: Option<&Pending>) -> Result<(), Refusal>
+fn check_idle(pending: Option<&PendingCollective>) -> Result<(), Refusal>
     ensures { result ≡ idle_check (option_copied pending.entry) }
 {
     match pending {
@@ -38,9 +41,9 @@ fn check_idle(pending: Option<&Pending>) -> Result<(), Refusal>
 
 /// Looks at the making of a group: it answers the next number. (GASPI: group_create)
 pub fn group_create_finds(groups: &Handles) -> Result<Option<Reply>, Refusal>
-    ensures { (posts : Posts) → posts.groups ≡ groups.now → result ≡ group_create_finds posts }
+    ensures { (posts : Posts) → posts.groups ≡ groups.now → result ≡ group_create_result posts }
 {
-    let made = groups.made;
+    let made = groups.last_id;
     if made >= 7 {
         return Err(Refusal::GroupsFull);
     }
@@ -49,16 +52,16 @@ pub fn group_create_finds(groups: &Handles) -> Result<Option<Reply>, Refusal>
 
 /// Makes a group, with no rank in it. (GASPI: group_create)
 pub fn group_create_leaves(posts: &mut Posts)
-    requires { posts.old.groups.made + 1 < 2 ^ 32 }
+    requires { posts.old.groups.last_id + 1 < 2 ^ 32 }
     ensures { posts.new ≡ group_create_leaves posts.old }
 {
-    let id = posts.groups.made + 1;
+    let id = posts.groups.last_id + 1;
     let new = Handle {
         stage: Stage::Building,
         members: 0,
     };
     posts.groups.set(u64::from(id), Some(new));
-    posts.groups.made = id;
+    posts.groups.last_id = id;
 }
 
 /// Looks at the adding of a rank to a group, in a world of so many ranks: these are the groups of the caller's rank, and what is
@@ -66,11 +69,11 @@ pub fn group_create_leaves(posts: &mut Posts)
 pub fn group_add_finds(
     ranks: u32,
     groups: &Handles,
-    pending: Option<&Pending>,
+    pending: Option<&PendingCollective>,
     call: &GroupAdd,
 ) -> Result<Option<Reply>, Refusal>
-    ensures { (limits : Limits) (posts : Posts) → limits.ranks ≡ ranks → posts.groups ≡ groups.now → entry_at posts.pending call.now.group ≡ option_copied pending.entry
-        → result ≡ group_add_finds limits posts call.now }
+    ensures { (limits : Limits) (posts : Posts) → limits.ranks ≡ ranks → posts.groups ≡ groups.now → item_at posts.pending call.now.group ≡ option_copied pending.entry
+        → result ≡ group_add_result limits posts call.now }
 {
     if call.rank >= u64::from(ranks) {
         return Err(Refusal::BadRank);
@@ -97,10 +100,10 @@ pub fn group_add_leaves(posts: &mut Posts, call: &GroupAdd)
 /// group. (GASPI: group_delete)
 pub fn group_delete_finds(
     groups: &Handles,
-    pending: Option<&Pending>,
+    pending: Option<&PendingCollective>,
     call: &GroupDelete,
 ) -> Result<Option<Reply>, Refusal>
-    ensures { (posts : Posts) → posts.groups ≡ groups.now → entry_at posts.pending call.now.group ≡ option_copied pending.entry → result ≡ group_delete_finds posts call.now }
+    ensures { (posts : Posts) → posts.groups ≡ groups.now → item_at posts.pending call.now.group ≡ option_copied pending.entry → result ≡ group_delete_result posts call.now }
 {
     groups.handle(call.group).ok_or(Refusal::NoGroup)?;
     if call.group == 0 {

@@ -1,9 +1,9 @@
 //! Lanes: the entries of one origin, queue and target. (GASPI: one-sided communication)
 
 ghost use Rattle.std.specs.Prelude.{◌≡◌, ◌+◌, ◌≤◌, ◌^◌, ◌<◌, length, IfOk};
-ghost use Rattle.gaspi_types.specs.Lanes.{is_posted, is_carried, is_failed, is_write, is_read, place_of, carried_count, has_earlier_write, has_earlier_read, is_awaited, has_awaited, entry_owed, lane_owed, is_user, has_user, may_take, may_put, posted_entries};
+ghost use Rattle.gaspi_types.specs.Lanes.{is_posted, is_carried, is_failed, is_write, is_read, position_of, carried_count, has_earlier_write, has_earlier_read, is_awaited, has_awaited, entry_owed, lane_owed, is_user, has_user, may_take, may_put, posted_entries};
 
-use gaspi_types::{Entry, Kind, NoMemory, Phase, Rows};
+use gaspi_types::{Entry, Kind, NoMemory, Phase, Sequence};
 use std::alloc::Global;
 
 /// Whether an entry stands as it was posted.
@@ -35,21 +35,21 @@ pub fn is_read(entry: &Entry) -> bool
 }
 
 /// The place of the entry with a number.
-pub fn place_of(lane: &Rows<Entry>, number: u32) -> Option<usize>
-    ensures { result ≡ place_of lane.now number }
+pub fn place_of(lane: &Sequence<Entry>, number: u32) -> Option<usize>
+    ensures { result ≡ position_of lane.now number }
 {
     lane.as_slice().iter().position(|e| e.number == number)
 }
 
 /// How many entries have taken their bytes.
-pub fn carried_count(lane: &Rows<Entry>) -> usize
+pub fn carried_count(lane: &Sequence<Entry>) -> usize
     ensures { result ≡ carried_count lane.now }
 {
     lane.as_slice().iter().filter(|e| is_carried(e)).count()
 }
 
 /// Whether a write with a smaller number stands in the lane.
-pub fn has_earlier_write(lane: &Rows<Entry>, number: u32) -> bool
+pub fn has_earlier_write(lane: &Sequence<Entry>, number: u32) -> bool
     ensures { result ≡ has_earlier_write lane.now number }
 {
     lane.as_slice()
@@ -58,7 +58,7 @@ pub fn has_earlier_write(lane: &Rows<Entry>, number: u32) -> bool
 }
 
 /// Whether a read with a smaller number stands in the lane.
-pub fn has_earlier_read(lane: &Rows<Entry>, number: u32) -> bool
+pub fn has_earlier_read(lane: &Sequence<Entry>, number: u32) -> bool
     ensures { result ≡ has_earlier_read lane.now number }
 {
     lane.as_slice()
@@ -74,7 +74,7 @@ fn is_awaited(entry: &Entry) -> bool
 }
 
 /// Whether a wait waits for an entry of a lane.
-pub fn has_awaited(lane: &Rows<Entry>) -> bool
+pub fn has_awaited(lane: &Sequence<Entry>) -> bool
     ensures { result ≡ has_awaited lane.now }
 {
     lane.as_slice().iter().any(is_awaited)
@@ -99,7 +99,7 @@ fn entry_owed(entry: &Entry) -> u32
 }
 
 /// How many events the entries of a lane owe.
-pub fn lane_owed(lane: &Rows<Entry>) -> u32
+pub fn lane_owed(lane: &Sequence<Entry>) -> u32
     requires { lane_owed lane.now < 2 ^ 32 }
     ensures { result ≡ lane_owed lane.now }
 {
@@ -119,21 +119,21 @@ fn is_user(segment: u64, entry: &Entry) -> bool
 }
 
 /// Whether an entry of a lane has to read or write an own segment yet.
-pub fn has_user(segment: u64, lane: &Rows<Entry>) -> bool
+pub fn has_user(segment: u64, lane: &Sequence<Entry>) -> bool
     ensures { result ≡ has_user segment lane.now }
 {
     lane.as_slice().iter().any(|e| is_user(segment, e))
 }
 
 /// Whether an entry may take its bytes: fewer than `depth` of its lane have taken theirs.
-pub fn may_take(depth: u32, lane: &Rows<Entry>, entry: &Entry) -> bool
+pub fn may_take(depth: u32, lane: &Sequence<Entry>, entry: &Entry) -> bool
     ensures { result ≡ may_take depth lane.now entry.now }
 {
     is_posted(entry) && carried_count(lane) < depth as usize
 }
 
 /// Whether an entry may be put. (GASPI: notification order)
-pub fn may_put(lane: &Rows<Entry>, entry: &Entry) -> bool
+pub fn may_put(lane: &Sequence<Entry>, entry: &Entry) -> bool
     ensures { result ≡ may_put lane.now entry.now }
 {
     is_carried(entry)
@@ -145,11 +145,15 @@ pub fn may_put(lane: &Rows<Entry>, entry: &Entry) -> bool
 }
 
 /// The entries of a post, numbered on from a number.
-pub fn posted_entries(alloc: Global, number: u32, kinds: &[Kind]) -> Result<Rows<Entry>, NoMemory>
+pub fn posted_entries(
+    alloc: Global,
+    number: u32,
+    kinds: &[Kind],
+) -> Result<Sequence<Entry>, NoMemory>
     requires { number + length kinds.now < 2 ^ 32 }
     ensures { IfOk result (λ entries. entries ≡ posted_entries number kinds.now) }
 {
-    let mut entries = Rows::new(alloc);
+    let mut entries = Sequence::new(alloc);
     let mut next = number;
     for kind in kinds {
         entries.push(Entry {

@@ -24,14 +24,14 @@ mod segment_calls;
 mod threads;
 
 pub use atomic_calls::word_finds;
-pub use calls::{look, news, tell};
+pub use calls::{look, register_at_peer, registration};
 pub use collective_calls::{
     Joining, args_of, called_on, check_fixed, collective_look, collective_ready, may_join,
 };
 pub use collective_steps::{complete, join};
 pub use group_calls::{group_add_finds, group_create_finds, group_delete_finds, pending_on};
 pub use lanes::{is_carried, is_posted, is_read, is_write, may_put, may_take, place_of};
-pub use looks::Finding;
+pub use looks::Evaluation;
 pub use memories::{bytes_of, new_slots, segment_at, set_slot};
 pub use memory_calls::{load_finds, store_finds};
 pub use notification_calls::{reset_finds, waitsome_finds};
@@ -39,6 +39,6 @@ pub use openings::opening_segments;
 pub use passive_calls::{message_of, receive_finds, send_finds};
 pub use queue_calls::{purged_queue, state_finds};
 pub use recording::{Recorded, charge, record};
-pub use replies::{is_idle, ready_of, recorded_reply};
-pub use segment_calls::{News, alloc_finds, register_finds, register_news};
+pub use replies::{is_refused_or_timeout, ready_of, recorded_reply};
+pub use segment_calls::{Registration, alloc_result, register_result, registration_of};
 pub use threads::{is_running, is_there, thread_at};

@@ -1,7 +1,7 @@
 //! What a look at a call found. It is recorded as it was found, and nothing of it is looked for again.
 
 ghost use Rattle.std.specs.Prelude.{◌≡◌, None};
-ghost use Rattle.segment_store.specs.declared.kinds.Kinds.TheVariants as kinds;
+ghost use Rattle.segment_store.specs.declared.kinds.EntryKinds.TheVariants as kinds;
 ghost use Rattle.gaspi_types.specs.Replies.{is_idle};
 ghost use Rattle.gaspi_model.specs.Calls.{recorded_reply};
 ghost use Rattle.gaspi_model.specs.CollectiveCalls.{is_reply_of, is_joining};
@@ -9,31 +9,31 @@ ghost use Rattle.gaspi_model.specs.CollectiveCalls.{is_reply_of, is_joining};
 use crate::replies::is_idle_ready;
 use gaspi_model::same_reply;
 use gaspi_types::{Message, Ready, Reply};
-use segment_store::Kinds;
+use segment_store::EntryKinds;
 
 /// What a look at a call found: what it answers, and, where it is done, the kinds of the entries that it appends, or the
 /// message that it sends.
 #[derive(Debug, Drop)]
-pub struct Finding {
+pub struct Evaluation {
     pub ready: Ready,
-    pub kinds: Kinds,
+    pub kinds: EntryKinds,
     pub message: Option<Message>,
 }
 
-impl Finding {
+impl Evaluation {
     /// What a look found that asks for no entry and brings no message.
-    pub fn plain(ready: Ready) -> Finding
+    pub fn plain(ready: Ready) -> Evaluation
         ensures { result ≡ record { ready = ready; kinds = kinds.Nothing; message = None } }
     {
-        Finding {
+        Evaluation {
             ready,
-            kinds: Kinds::Nothing,
+            kinds: EntryKinds::Nothing,
             message: None,
         }
     }
 
     /// Whether the call is recorded as a refusal or a timeout.
-    pub fn is_idle(&self) -> bool
+    pub fn is_refused_or_timeout(&self) -> bool
         ensures { result ≡ is_idle (recorded_reply self.now.ready) }
     {
         is_idle_ready(&self.ready)

@@ -7,7 +7,7 @@ ghost use Rattle.gaspi_model.specs.State.{segment_at, new_slots};
 ghost use Rattle.gaspi_model.specs.Memories.{bytes_of, slots_of, with_slots};
 
 use gaspi_model::Memory;
-use gaspi_types::{NoMemory, Rows, Segment};
+use gaspi_types::{NoMemory, Segment, Sequence};
 use segment_store::{is_within, range_of, segment_in};
 use std::alloc::Global;
 
@@ -19,10 +19,10 @@ pub fn segment_at(memory: &Memory, segment: u64) -> Option<&Segment>
 }
 
 /// The slots of a segment as it is made: all are zero. (GASPI: notifications)
-pub fn new_slots(alloc: Global, notes: u32) -> Result<Rows<u32>, NoMemory>
+pub fn new_slots(alloc: Global, notes: u32) -> Result<Sequence<u32>, NoMemory>
     ensures { IfOk result (λ slots. slots ≡ new_slots notes) }
 {
-    Ok(Rows::from_vec(vec![in alloc; 0u32; notes as usize]?))
+    Ok(Sequence::from_vec(vec![in alloc; 0u32; notes as usize]?))
 }
 
 /// The bytes of a segment. Of one that is not there, none.
@@ -47,7 +47,7 @@ pub fn set_segment(
     memory: &mut Memory,
     segment: u64,
     new: Option<Segment>,
-    slots: Option<Rows<u32>>,
+    slots: Option<Sequence<u32>>,
 )
     ensures { memory.new ≡ record memory.old { segments = slice_set memory.old.segments segment new; slots = slice_set memory.old.slots segment slots } }
 {

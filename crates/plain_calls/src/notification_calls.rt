@@ -3,7 +3,7 @@
 ghost use Rattle.std.specs.Prelude.{◌≡◌};
 ghost use Rattle.gaspi_types.specs.declared.shapes.Limits.{Limits};
 ghost use Rattle.gaspi_model.specs.Memories.{slots_of};
-ghost use Rattle.gaspi_model.specs.NotificationCalls.{waitsome_finds, reset_finds, reset_leaves};
+ghost use Rattle.gaspi_model.specs.NotificationCalls.{waitsome_result, reset_result, reset_leaves};
 ghost use Rattle.gaspi_model.specs.declared.states.Memory.{Memory};
 ghost use Rattle.gaspi_model.specs.declared.states.Posts.{Posts};
 
@@ -20,7 +20,7 @@ pub fn waitsome_finds(
     slots: &[u32],
     call: &Waitsome,
 ) -> Result<Option<Reply>, Refusal>
-    ensures { (limits : Limits) (posts : Posts) (memory : Memory) → limits.notes ≡ notes → posts.segments.own ≡ own.now → slots_of memory call.now.seg ≡ slots.now → result ≡ waitsome_finds limits posts memory call.now }
+    ensures { (limits : Limits) (posts : Posts) (memory : Memory) → limits.notes ≡ notes → posts.segments.own ≡ own.now → slots_of memory call.now.seg ≡ slots.now → result ≡ waitsome_result limits posts memory call.now }
 {
     extent_in(own, call.seg).ok_or(Refusal::NoSegment)?;
     if !is_slot_range(call.begin, call.num, notes) {
@@ -37,7 +37,7 @@ pub fn reset_finds(
     slots: &[u32],
     call: &Reset,
 ) -> Result<Option<Reply>, Refusal>
-    ensures { (limits : Limits) (posts : Posts) (memory : Memory) → limits.notes ≡ notes → posts.segments.own ≡ own.now → slots_of memory call.now.seg ≡ slots.now → result ≡ reset_finds limits posts memory call.now }
+    ensures { (limits : Limits) (posts : Posts) (memory : Memory) → limits.notes ≡ notes → posts.segments.own ≡ own.now → slots_of memory call.now.seg ≡ slots.now → result ≡ reset_result limits posts memory call.now }
 {
     extent_in(own, call.seg).ok_or(Refusal::NoSegment)?;
     if call.note >= u64::from(notes) {
@@ -48,7 +48,7 @@ pub fn reset_finds(
 }
 
 /// Clears a slot. (GASPI: notify_reset)
-pub fn reset_leaves(memory: &mut Memory, call: &Reset)
+pub fn reset_effect(memory: &mut Memory, call: &Reset)
     ensures { memory.new ≡ reset_leaves memory.old call.now }
 {
     set_slot(memory, call.seg, call.note, 0);

@@ -7,7 +7,7 @@ ghost use Rattle.gaspi_types.specs.Segments.{new_segment};
 ghost use Rattle.gaspi_model.specs.State.{declared_size, opening_segments};
 
 use gaspi_model::declared_size;
-use gaspi_types::{NoMemory, OwnSegments, Rows, Segment, Shape};
+use gaspi_types::{NoMemory, OwnSegments, Segment, Sequence, Shape};
 use segment_store::new_segment;
 use std::alloc::Global;
 
@@ -31,7 +31,7 @@ fn opening_segment_at(
 pub fn opening_segments(alloc: Global, shape: &Shape, rank: u32) -> Result<OwnSegments, NoMemory>
     ensures { IfOk result (λ segments. segments ≡ opening_segments shape.now rank) }
 {
-    let mut segments = Rows::new(alloc);
+    let mut segments = Sequence::new(alloc);
     for segment in 0..32 {
         segments.push(opening_segment_at(alloc, shape, rank, segment)?)?;
     }

@@ -3,7 +3,7 @@
 ghost use Rattle.std.specs.Prelude.{◌≡◌, ◌≤◌, ◌<◌, ◌^◌, IfOk, OnOk, OnErr, IsOk, IfSome, None};
 ghost use Rattle.gaspi_types.specs.Inboxes.{has_room};
 ghost use Rattle.gaspi_types.specs.declared.shapes.Limits.{Limits};
-ghost use Rattle.gaspi_model.specs.PassiveCalls.{send_finds, message_of, send_leaves, receive_finds, receive_leaves};
+ghost use Rattle.gaspi_model.specs.PassiveCalls.{send_result, message_of, send_effect, receive_result, receive_effect};
 ghost use Rattle.gaspi_model.specs.declared.states.Memory.{Memory};
 ghost use Rattle.gaspi_model.specs.declared.states.Posts.{Posts};
 ghost use Rattle.plain_calls.specs.Looks.{AreShort, front_of};
@@ -11,7 +11,7 @@ ghost use Rattle.plain_calls.specs.Looks.{AreShort, front_of};
 use gaspi_model::Memory;
 use gaspi_types::{
     Extents, Message, Messages, NoMemory, OwnSegments, PassiveReceive, PassiveSend, RankId,
-    Refusal, Reply, Rows,
+    Refusal, Reply, Sequence,
 };
 use segment_store::{bytes_of, check_message_range, range_of, store_bytes};
 use std::alloc::Global;
@@ -24,7 +24,7 @@ pub fn send_finds(
     inbox_has_room: bool,
     call: &PassiveSend,
 ) -> Result<Option<Reply>, Refusal>
-    ensures { (limits : Limits) (posts : Posts) (memory : Memory) → limits.ranks ≡ ranks → posts.segments.own ≡ own.now → has_room limits.inbox memory.inbox ≡ inbox_has_room → result ≡ send_finds limits posts memory call.now }
+    ensures { (limits : Limits) (posts : Posts) (memory : Memory) → limits.ranks ≡ ranks → posts.segments.own ≡ own.now → has_room limits.inbox memory.inbox ≡ inbox_has_room → result ≡ send_result limits posts memory call.now }
 {
     if call.rank >= u64::from(ranks) {
         return Err(Refusal::BadRank);
@@ -53,13 +53,13 @@ pub fn message_of(
     );
     Ok(Message {
         sender: me,
-        bytes: Rows::copied_from(alloc, bytes)?,
+        bytes: Sequence::copied_from(alloc, bytes)?,
     })
 }
 
 /// Puts a message into the inbox, as the last one. Without memory nothing changes but that the message is dropped.
 pub fn send_leaves(memory: &mut Memory, message: Option<Message>) -> Result<(), NoMemory>
-    ensures ok { OnOk result (memory.new ≡ send_leaves message memory.old) }
+    ensures ok { OnOk result (memory.new ≡ send_effect message memory.old) }
     ensures err { OnErr result (memory.new ≡ memory.old) }
 {
     if let Some(message) = message {
@@ -86,7 +86,7 @@ pub fn receive_finds(
     front: Option<(u32, u32)>,
     call: &PassiveReceive,
 ) -> Result<Option<Reply>, Refusal>
-    ensures { (posts : Posts) (memory : Memory) → posts.segments.own ≡ own.now → front_of memory.inbox ≡ front → result ≡ receive_finds posts memory call.now }
+    ensures { (posts : Posts) (memory : Memory) → posts.segments.own ≡ own.now → front_of memory.inbox ≡ front → result ≡ receive_result posts memory call.now }
 {
     check_message_range(own, call.seg, call.offset, call.size)?;
     let Some((sender, waiting)) = front else {
@@ -100,7 +100,7 @@ pub fn receive_finds(
 
 /// Takes the first message, and puts its bytes where the receive says. (GASPI: passive_receive)
 pub fn receive_leaves(memory: &mut Memory, call: &PassiveReceive)
-    ensures { memory.new ≡ receive_leaves memory.old call.now }
+    ensures { memory.new ≡ receive_effect memory.old call.now }
 {
     if memory.inbox.is_empty() {
         return;

@@ -2,19 +2,19 @@
 
 ghost use Rattle.std.specs.Prelude.{◌≡◌, ◌≤◌, length, false, IfOk, IsOk};
 ghost use Rattle.gaspi_types.specs.Posts.{is_list_post};
-ghost use Rattle.gaspi_model.specs.Calls.{call_asks};
-ghost use Rattle.gaspi_model.specs.PostCalls.{post_finds, asked_finds};
+ghost use Rattle.gaspi_model.specs.Calls.{requested_kinds};
+ghost use Rattle.gaspi_model.specs.PostCalls.{post_result, post_request_result};
 ghost use Rattle.plain_calls.specs.Looks.{Grants, Accepts};
 
 use gaspi_model::Posts;
 use gaspi_types::{Call, Kind, Limits, NoMemory, Posting, Queue, RankId, Refusal};
-use segment_store::{Kinds, call_kinds};
+use segment_store::{EntryKinds, call_kinds};
 use std::alloc::Global;
 
 /// Checks that a queue is not broken and has room for entries.
-fn check_room(limits: &Limits, q: &Queue, kinds: &[Kind]) -> Result<(), Refusal>
+fn check_depth(limits: &Limits, q: &Queue, kinds: &[Kind]) -> Result<(), Refusal>
     requires { length kinds.now ≤ 257 }
-    ensures { Grants result (post_finds limits.now q.now kinds.now) }
+    ensures { Grants result (post_result limits.now q.now kinds.now) }
 {
     if let Some(rank) = q.broken {
         return Err(Refusal::QueueBroken {
@@ -31,15 +31,15 @@ fn check_room(limits: &Limits, q: &Queue, kinds: &[Kind]) -> Result<(), Refusal>
 
 /// Looks at a call that posts: its rank, its queue, what it asks for, and the queue's room. It finds the entries to append,
 /// or its refusal. Only the post of a list takes memory.
-pub fn posting_finds(
+pub fn posting_result(
     alloc: Global,
     limits: &Limits,
     me: RankId,
     posts: &Posts,
     to: Posting,
     call: &Call,
-) -> Result<Result<Kinds, Refusal>, NoMemory>
-    ensures finds { IfOk result (λ finds. Accepts finds (call_asks limits.now me posts.now call.now) (asked_finds limits.now posts.now to.rank to.queue (call_asks limits.now me posts.now call.now))) }
+) -> Result<Result<EntryKinds, Refusal>, NoMemory>
+    ensures finds { IfOk result (λ finds. Accepts finds (requested_kinds limits.now me posts.now call.now) (post_request_result limits.now posts.now to.rank to.queue (requested_kinds limits.now me posts.now call.now))) }
     ensures ample { is_list_post call.now ≡ false → IsOk result }
 {
     if to.rank >= u64::from(limits.ranks) {
@@ -49,7 +49,7 @@ pub fn posting_finds(
         return Ok(Err(Refusal::BadQueue));
     };
     match call_kinds(alloc, limits.notes, me, &posts.segments, call)? {
-        Ok(kinds) => match check_room(limits, q, kinds.as_slice()) {
+        Ok(kinds) => match check_depth(limits, q, kinds.as_slice()) {
             Ok(()) => Ok(Ok(kinds)),
             Err(refusal) => Ok(Err(refusal)),
         },

@@ -4,16 +4,16 @@ ghost use Rattle.std.specs.Prelude.{◌≡◌, ◌+◌, ◌<◌, ◌^◌, length
 ghost use Rattle.gaspi_model.specs.Posting.{with_post};
 ghost use Rattle.gaspi_types.specs.Queues.{with_entries};
 ghost use Rattle.gaspi_types.specs.declared.entries.Queue.{Queue};
-ghost use Rattle.plain_calls.specs.Room.{IsRoom};
+ghost use Rattle.plain_calls.specs.NumberBounds.{IsBounded};
 
 use crate::lanes::posted_entries;
 use gaspi_model::Posts;
-use gaspi_types::{Entry, Kind, NoMemory, Queue, Rows};
+use gaspi_types::{Entry, Kind, NoMemory, Queue, Sequence};
 use std::alloc::Global;
 
 /// Adds entries to a lane of a queue. Without memory nothing changes.
 #[tactic(auto, using(crate::proofs::PostedEntries::posts_lemmas))]
-fn append_entries(q: &mut Queue, target: u64, entries: Rows<Entry>) -> Result<(), NoMemory>
+fn append_entries(q: &mut Queue, target: u64, entries: Sequence<Entry>) -> Result<(), NoMemory>
     requires { q.old.open_count + length entries < 2 ^ 32 }
     ensures ok { OnOk result (q.new ≡ with_entries target entries q.old) }
     ensures err { OnErr result (q.new ≡ q.old) }
@@ -36,7 +36,7 @@ pub fn post(
     target: u64,
     kinds: &[Kind],
 ) -> Result<(), NoMemory>
-    requires { IsRoom posts.old (length kinds.now) queue }
+    requires { IsBounded posts.old (length kinds.now) queue }
     ensures ok { OnOk result (posts.new ≡ with_post posts.old queue target (Ok kinds.now)) }
     ensures err { OnErr result (posts.new ≡ posts.old) }
 {

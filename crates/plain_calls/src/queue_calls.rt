@@ -5,13 +5,13 @@ ghost use Rattle.std.specs.Prelude.{◌≡◌, ◌≤◌, ◌<◌, ◌^◌, leng
 ghost use Rattle.std.specs.List.{list_any};
 ghost use Rattle.gaspi_types.specs.Lanes.{has_awaited};
 ghost use Rattle.gaspi_types.specs.Queues.{queue_owed};
-ghost use Rattle.gaspi_model.specs.QueueCalls.{wait_finds, purge_finds, qsize_finds, state_finds, closed, without_entries, emptied, purged};
+ghost use Rattle.gaspi_model.specs.QueueCalls.{wait_result, purge_result, qsize_result, state_result, closed, without_entries, emptied, purged};
 ghost use Rattle.gaspi_model.specs.declared.states.Posts.{Posts};
-ghost use Rattle.plain_calls.specs.Room.{purged_queue, owed_at};
+ghost use Rattle.plain_calls.specs.NumberBounds.{purged_queue, owed_at};
 
 use crate::lanes::{has_awaited, lane_owed};
 use gaspi_model::Posts;
-use gaspi_types::{Call, Entry, Purge, Qsize, Queue, Refusal, Reply, Rows, Wait, mask_of};
+use gaspi_types::{Call, Entry, Purge, Qsize, Queue, Refusal, Reply, Sequence, Wait, mask_of};
 
 /// Whether a wait waits for an entry of a queue.
 fn has_awaited_entry(q: &Queue) -> bool
@@ -23,7 +23,7 @@ fn has_awaited_entry(q: &Queue) -> bool
 /// Looks at a wait: ready where no entry of its queue is posted, and no read and no notification of a read stands in it.
 /// (GASPI: wait)
 pub fn wait_finds(posts: &Posts, call: &Wait) -> Result<Option<Reply>, Refusal>
-    ensures { result ≡ wait_finds posts.now call.now }
+    ensures { result ≡ wait_result posts.now call.now }
 {
     let q = posts
         .queues
@@ -43,7 +43,7 @@ pub fn wait_finds(posts: &Posts, call: &Wait) -> Result<Option<Reply>, Refusal>
 
 /// Looks at a purge: its queue is there, broken or not. (GASPI: queue_purge)
 pub fn purge_finds(posts: &Posts, call: &Purge) -> Result<Option<Reply>, Refusal>
-    ensures { result ≡ purge_finds posts.now call.now }
+    ensures { result ≡ purge_result posts.now call.now }
 {
     posts
         .queues
@@ -54,7 +54,7 @@ pub fn purge_finds(posts: &Posts, call: &Purge) -> Result<Option<Reply>, Refusal
 
 /// Looks at the size of a queue: its open count. (GASPI: queue_size)
 pub fn qsize_finds(posts: &Posts, call: &Qsize) -> Result<Option<Reply>, Refusal>
-    ensures { result ≡ qsize_finds posts.now call.now }
+    ensures { result ≡ qsize_result posts.now call.now }
 {
     let q = posts
         .queues
@@ -66,7 +66,7 @@ pub fn qsize_finds(posts: &Posts, call: &Qsize) -> Result<Option<Reply>, Refusal
 /// Looks at the state vector: these ranks are corrupt. (GASPI: state_vec_get)
 pub fn state_finds(corrupt: &[bool]) -> Result<Option<Reply>, Refusal>
     requires { length corrupt.now ≤ 32 }
-    ensures { (posts : Posts) → posts.corrupt ≡ corrupt.now → result ≡ state_finds posts }
+    ensures { (posts : Posts) → posts.corrupt ≡ corrupt.now → result ≡ state_result posts }
 {
     Ok(Some(Reply::Mask(mask_of(corrupt))))
 }
@@ -82,7 +82,7 @@ pub fn closed(posts: &mut Posts, queue: u64)
 }
 
 /// Drops the entries of lanes.
-fn empty_lanes(lanes: &mut Rows<Rows<Entry>>)
+fn empty_lanes(lanes: &mut Sequence<Sequence<Entry>>)
     ensures { lanes.new ≡ map without_entries lanes.old }
 {
     for target in 0..lanes.len() {
@@ -132,7 +132,7 @@ fn queue_owed(q: &Queue) -> u32
 }
 
 /// How many events the entries of a queue owe, if it is there.
-pub fn owed_at(queues: &Rows<Queue>, queue: u64) -> u32
+pub fn owed_at(queues: &Sequence<Queue>, queue: u64) -> u32
     requires { owed_at queues.now queue < 2 ^ 32 }
     ensures { result ≡ owed_at queues.now queue }
 {

@@ -7,16 +7,16 @@ ghost use Rattle.gaspi_model.specs.State.{owed, thread_at};
 ghost use Rattle.gaspi_model.specs.Calls.{memory_after, charge, recorded_reply};
 ghost use Rattle.gaspi_model.specs.Sound.{IsSoundPosts};
 ghost use Rattle.gaspi_model.specs.Step.{called, Steps, is_there};
-ghost use Rattle.gaspi_model.specs.Transfers.{Worked};
+ghost use Rattle.gaspi_model.specs.Transfers.{PostsAndMemory};
 ghost use Rattle.segment_store.specs.PostKinds.{kinds_of};
-ghost use Rattle.plain_calls.specs.Looks.{IsFinding, found_after, recorded_of};
+ghost use Rattle.plain_calls.specs.Looks.{IsEvaluation, posts_after_evaluation, recorded_of};
 ghost use Rattle.plain_calls.specs.Memory.{keeps_memory};
-ghost use Rattle.plain_calls.specs.Room.{HasCallRoom, freed};
+ghost use Rattle.plain_calls.specs.NumberBounds.{CallIsBounded, released};
 
-use crate::calls::call_done;
-use crate::looks::Finding;
+use crate::calls::call_effect;
+use crate::looks::Evaluation;
 use crate::queue_calls::{owed_at, purged_queue};
-use crate::replies::{is_idle, recorded_reply};
+use crate::replies::{is_refused_or_timeout, recorded_reply};
 use crate::threads::{is_running, thread_at};
 use gaspi_model::{Memory, Posts, ThreadState};
 use gaspi_types::{Call, Invocation, Limits, NoMemory, Ready, Reply};
@@ -39,11 +39,11 @@ pub fn charge(state: ThreadState, invocation: &Invocation<'_>, ready: &Ready) ->
 }
 
 /// What a call whose look is recorded frees of the room that its rank has taken: a purge what its queue's entries owe.
-fn freed(posts: &Posts, call: &Call, look: &Finding) -> u32
-    requires { freed posts.now call.now (recorded_reply look.now.ready) < 2 ^ 32 }
-    ensures { result ≡ freed posts.now call.now (recorded_reply look.now.ready) }
+fn released(posts: &Posts, call: &Call, look: &Evaluation) -> u32
+    requires { released posts.now call.now (recorded_reply look.now.ready) < 2 ^ 32 }
+    ensures { result ≡ released posts.now call.now (recorded_reply look.now.ready) }
 {
-    if look.is_idle() {
+    if look.is_refused_or_timeout() {
         return 0;
     }
     match purged_queue(call) {
@@ -53,32 +53,32 @@ fn freed(posts: &Posts, call: &Call, look: &Finding) -> u32
 }
 
 /// Records what a look found: what the call leaves, and one event more. It gives the reply. Without memory nothing changes.
-fn record_found(
+fn record_evaluation(
     alloc: Global,
     limits: &Limits,
     invocation: &Invocation<'_>,
     posts: &mut Posts,
     memory: &mut Memory,
-    look: Finding,
+    look: Evaluation,
 ) -> Result<Reply, NoMemory>
-    requires room { is_idle (recorded_reply look.ready) ≡ false → HasCallRoom posts.old invocation.now.call.now (length (kinds_of look.kinds)) }
+    requires room { is_idle (recorded_reply look.ready) ≡ false → CallIsBounded posts.old invocation.now.call.now (length (kinds_of look.kinds)) }
     requires events { posts.old.events + 1 < 2 ^ 32 }
     ensures reply { IfOk result (λ reply. reply ≡ recorded_reply look.ready) }
-    ensures posts { OnOk result (posts.new ≡ found_after posts.old invocation.now.caller.thread invocation.now.call.now look) }
+    ensures posts { OnOk result (posts.new ≡ posts_after_evaluation posts.old invocation.now.caller.thread invocation.now.call.now look) }
     ensures memory { OnOk result (memory.new ≡ memory_after limits.now posts.old look.message memory.old invocation.now.call.now (recorded_reply look.ready)) }
     ensures posts_kept { OnErr result (posts.new ≡ posts.old) }
     ensures memory_kept { OnErr result (memory.new ≡ memory.old) }
     ensures ample { keeps_memory invocation.now.call.now ≡ false → IsOk result }
 {
     let events = posts.events + 1;
-    let idle = look.is_idle();
-    let Finding {
+    let idle = look.is_refused_or_timeout();
+    let Evaluation {
         ready,
         kinds,
         message,
     } = look;
     if !idle {
-        call_done(
+        call_effect(
             alloc,
             limits,
             invocation,
@@ -110,21 +110,21 @@ pub fn record(
     posts: &mut Posts,
     memory: &mut Memory,
     used: u32,
-    look: Finding,
+    look: Evaluation,
 ) -> Result<Recorded, NoMemory>
     requires limits { are_limits limits.now ≡ true }
     requires sound { IsSoundPosts limits.now posts.old }
     requires taken { used ≡ posts.old.events + owed posts.old + charge (thread_at posts.old invocation.now.caller.thread) invocation.now.call.now (recorded_reply look.ready) }
     requires there { is_there (thread_at posts.old invocation.now.caller.thread) ≡ true }
-    requires look { IsFinding look limits.now invocation.now.caller.rank posts.old memory.old invocation.now.caller.thread invocation.now.call.now }
+    requires look { IsEvaluation look limits.now invocation.now.caller.rank posts.old memory.old invocation.now.caller.thread invocation.now.call.now }
     requires room { posts.old.events + owed posts.old + charge (thread_at posts.old invocation.now.caller.thread) invocation.now.call.now (recorded_reply look.ready) ≤ limits.now.events }
     ensures reply { IfOk result (λ recorded. recorded.reply ≡ recorded_reply look.ready) }
-    ensures step { Steps {S = Worked} (recorded_of result) (record { posts = posts.old; memory = memory.old }) (record { posts = posts.new; memory = memory.new }) (called limits.now invocation.now.caller.rank posts.old look.message memory.old invocation.now.caller.thread invocation.now.call.now (recorded_reply look.ready)) }
+    ensures step { Steps {S = PostsAndMemory} (recorded_of result) (record { posts = posts.old; memory = memory.old }) (record { posts = posts.new; memory = memory.new }) (called limits.now invocation.now.caller.rank posts.old look.message memory.old invocation.now.caller.thread invocation.now.call.now (recorded_reply look.ready)) }
     ensures taken { IfOk result (λ recorded. recorded.used ≡ posts.new.events + owed posts.new) }
     ensures ample { keeps_memory invocation.now.call.now ≡ false → IsOk result }
 {
-    let freed = freed(posts, invocation.call, &look);
-    let reply = record_found(alloc, limits, invocation, posts, memory, look)?;
+    let freed = released(posts, invocation.call, &look);
+    let reply = record_evaluation(alloc, limits, invocation, posts, memory, look)?;
     let used = used - freed;
     Ok(Recorded { reply, used })
 }

@@ -28,7 +28,7 @@ pub fn recorded_reply(ready: Ready) -> Reply
 }
 
 /// Whether a reply says that the call did nothing.
-pub fn is_idle(reply: &Reply) -> bool
+pub fn is_refused_or_timeout(reply: &Reply) -> bool
     ensures { result ≡ is_idle reply.now }
 {
     matches!(reply, Reply::Timeout | Reply::Refused(_))
@@ -39,7 +39,7 @@ pub fn is_idle_ready(ready: &Ready) -> bool
     ensures { result ≡ is_idle (recorded_reply ready.now) }
 {
     match ready {
-        Ready::Reply(reply) => is_idle(reply),
+        Ready::Reply(reply) => is_refused_or_timeout(reply),
         Ready::Join(_) | Ready::NotReady => true,
     }
 }

@@ -4,10 +4,10 @@ ghost use Rattle.std.specs.Prelude.{◌≡◌, ◌+◌, ◌<◌, ◌≤◌, ◌^
 ghost use Rattle.std.specs.List.{list_any};
 ghost use Rattle.gaspi_types.specs.Lanes.{has_user};
 ghost use Rattle.gaspi_types.specs.SegmentTables.{extent_in};
-ghost use Rattle.gaspi_model.specs.SegmentCalls.{alloc_finds, with_own, alloc_leaves, register_finds, with_known, delete_finds, without_own, delete_leaves};
+ghost use Rattle.gaspi_model.specs.SegmentCalls.{alloc_result, with_own, alloc_effect, register_result, with_known, delete_result, without_own, delete_effect};
 ghost use Rattle.gaspi_types.specs.Queues.{user_of};
 ghost use Rattle.gaspi_types.specs.declared.shapes.Limits.{Limits};
-ghost use Rattle.plain_calls.specs.Room.{HasAllocRoom};
+ghost use Rattle.plain_calls.specs.NumberBounds.{AllocIsBounded};
 ghost use Rattle.plain_calls.specs.Segments.{new_made};
 ghost use Rattle.gaspi_model.specs.declared.states.Posts.{Posts};
 
@@ -16,7 +16,7 @@ use crate::memories::{new_slots, set_segment};
 use gaspi_model::{Memory, Posts};
 use gaspi_types::{
     Alloc, Delete, Extent, Extents, Limits, NoMemory, Queue, RankId, Refusal, Register, Reply,
-    Rows, Segment,
+    Segment, Sequence,
 };
 use segment_store::{
     add_own, check_alloc, extent_in, new_segment, next_generation, remove_own, set_known,
@@ -24,8 +24,8 @@ use segment_store::{
 use std::alloc::Global;
 
 /// Checks a segment that is to be made: this is the table of the caller's own segments. (GASPI: segment_alloc)
-pub fn alloc_finds(own: &Extents, call: &Alloc) -> Result<Option<Reply>, Refusal>
-    ensures { (posts : Posts) → posts.segments.own ≡ own.now → result ≡ alloc_finds posts call.now }
+pub fn alloc_result(own: &Extents, call: &Alloc) -> Result<Option<Reply>, Refusal>
+    ensures { (posts : Posts) → posts.segments.own ≡ own.now → result ≡ alloc_result posts call.now }
 {
     check_alloc(own, call.seg, call.size)?;
     Ok(Some(Reply::Done))
@@ -35,7 +35,7 @@ pub fn alloc_finds(own: &Extents, call: &Alloc) -> Result<Option<Reply>, Refusal
 #[derive(Debug, Drop)]
 pub struct NewSegment {
     segment: Segment,
-    slots: Rows<u32>,
+    slots: Sequence<u32>,
 }
 
 /// Takes the memory of an own segment of the next generation of its number. (GASPI: segment_alloc)
@@ -57,9 +57,9 @@ pub fn make_segment(
 
 /// Puts an own segment that was made into its tables. (GASPI: segment_alloc)
 pub fn place_segment(posts: &mut Posts, memory: &mut Memory, call: &Alloc, made: NewSegment)
-    requires { HasAllocRoom posts.old call.now }
+    requires { AllocIsBounded posts.old call.now }
     ensures posts { posts.new ≡ with_own posts.old call.now.seg call.now.size }
-    ensures memory { (limits : Limits) → made ≡ new_made limits posts.old call.now → memory.new ≡ alloc_leaves limits posts.old memory.old call.now }
+    ensures memory { (limits : Limits) → made ≡ new_made limits posts.old call.now → memory.new ≡ alloc_effect limits posts.old memory.old call.now }
 {
     let NewSegment { segment, slots } = made;
     set_segment(memory, call.seg, Some(segment), Some(slots));
@@ -74,9 +74,9 @@ pub fn alloc_leaves(
     memory: &mut Memory,
     call: &Alloc,
 ) -> Result<(), NoMemory>
-    requires { HasAllocRoom posts.old call.now }
+    requires { AllocIsBounded posts.old call.now }
     ensures posts { OnOk result (posts.new ≡ with_own posts.old call.now.seg call.now.size) }
-    ensures memory { OnOk result (memory.new ≡ alloc_leaves limits.now posts.old memory.old call.now) }
+    ensures memory { OnOk result (memory.new ≡ alloc_effect limits.now posts.old memory.old call.now) }
     ensures posts_kept { OnErr result (posts.new ≡ posts.old) }
     ensures memory_kept { OnErr result (memory.new ≡ memory.old) }
 {
@@ -87,8 +87,8 @@ pub fn alloc_leaves(
 
 /// Checks a segment that is to be made known to a rank, in a world of so many ranks: this is the table of the caller's own segments.
 /// (GASPI: segment_register)
-pub fn register_finds(ranks: u32, own: &Extents, call: &Register) -> Result<Option<Reply>, Refusal>
-    ensures { (limits : Limits) (posts : Posts) → limits.ranks ≡ ranks → posts.segments.own ≡ own.now → result ≡ register_finds limits posts call.now }
+pub fn register_result(ranks: u32, own: &Extents, call: &Register) -> Result<Option<Reply>, Refusal>
+    ensures { (limits : Limits) (posts : Posts) → limits.ranks ≡ ranks → posts.segments.own ≡ own.now → result ≡ register_result limits posts call.now }
 {
     if call.rank >= u64::from(ranks) {
         return Err(Refusal::BadRank);
@@ -99,17 +99,17 @@ pub fn register_finds(ranks: u32, own: &Extents, call: &Register) -> Result<Opti
 
 /// What a peer is told: a segment of an owner, as it is now.
 #[derive(Clone, Copy, Debug, PartialEq, Eq)]
-pub struct News {
+pub struct Registration {
     pub owner: RankId,
     pub seg: u64,
     pub extent: Option<Extent>,
 }
 
 /// What a peer is told of a segment that is made known to it. (GASPI: segment_register)
-pub fn register_news(me: RankId, own: &Extents, call: &Register) -> News
+pub fn registration_of(me: RankId, own: &Extents, call: &Register) -> Registration
     ensures { result ≡ record { owner = me; seg = call.now.seg; extent = extent_in own.now call.now.seg } }
 {
-    News {
+    Registration {
         owner: me,
         seg: call.seg,
         extent: extent_in(own, call.seg),
@@ -117,7 +117,7 @@ pub fn register_news(me: RankId, own: &Extents, call: &Register) -> News
 }
 
 /// Makes a segment of an owner known to a rank.
-pub fn tell_known(posts: &mut Posts, news: News)
+pub fn set_known_extent(posts: &mut Posts, news: Registration)
     ensures { posts.new ≡ with_known news.owner news.seg news.extent posts.old }
 {
     set_known(&mut posts.segments, news.owner, news.seg, news.extent);
@@ -131,7 +131,7 @@ fn queue_uses(q: &Queue, seg: u64) -> bool
 }
 
 /// The least queue with an entry that has to read an own segment yet.
-fn user_of(queues: &Rows<Queue>, seg: u64) -> Option<usize>
+fn user_of(queues: &Sequence<Queue>, seg: u64) -> Option<usize>
     ensures queue { result ≡ user_of queues.now seg }
     ensures bound { IfSome result (λ queue. queue < length queues.now) }
 {
@@ -139,9 +139,9 @@ fn user_of(queues: &Rows<Queue>, seg: u64) -> Option<usize>
 }
 
 /// Checks that no entry of the rank's own uses a segment. (GASPI: segment_delete)
-pub fn delete_finds(posts: &Posts, call: &Delete) -> Result<Option<Reply>, Refusal>
+pub fn delete_result(posts: &Posts, call: &Delete) -> Result<Option<Reply>, Refusal>
     requires { length posts.now.queues ≤ 8 }
-    ensures { result ≡ delete_finds posts.now call.now }
+    ensures { result ≡ delete_result posts.now call.now }
 {
     extent_in(&posts.segments.own, call.seg).ok_or(Refusal::NoSegment)?;
     match user_of(&posts.queues, call.seg) {
@@ -155,7 +155,7 @@ pub fn delete_finds(posts: &Posts, call: &Delete) -> Result<Option<Reply>, Refus
 /// Drops an own segment. (GASPI: segment_delete)
 pub fn delete_leaves(posts: &mut Posts, memory: &mut Memory, call: &Delete)
     ensures posts { posts.new ≡ without_own posts.old call.now.seg }
-    ensures memory { memory.new ≡ delete_leaves memory.old call.now }
+    ensures memory { memory.new ≡ delete_effect memory.old call.now }
 {
     remove_own(&mut posts.segments, call.seg);
     set_segment(memory, call.seg, None, None);

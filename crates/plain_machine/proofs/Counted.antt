@@ -12,25 +12,25 @@ use Rattle.gaspi_types.specs.declared.replies.Reply.{Reply}
 use Rattle.gaspi_types.specs.declared.shapes.CallerId.{CallerId}
 use Rattle.gaspi_types.specs.declared.shapes.Limits.{Limits}
 use Rattle.gaspi_types.proofs.Chains.{both}
-use Rattle.gaspi_model.specs.Calls.{posts_done, posts_after}
-use Rattle.gaspi_model.specs.Step.{call_brought, step, Steps}
-use Rattle.gaspi_model.specs.Transfers.{queue_transfers, rank_transfers, transfers, Worked}
+use Rattle.gaspi_model.specs.Calls.{posts_effect, posts_after}
+use Rattle.gaspi_model.specs.Step.{call_message, step, Steps}
+use Rattle.gaspi_model.specs.Transfers.{queue_transfers, rank_transfers, transfers, PostsAndMemory}
 use Rattle.gaspi_model.specs.declared.states.Posts.{Posts}
 use Rattle.gaspi_model.specs.declared.states.State.{State}
 use Rattle.gaspi_model.specs.declared.states.StepFault.{StepFault}
 use Rattle.gaspi_model.specs.declared.states.StepFault.TheVariants as faults
 use Rattle.gaspi_model.proofs.Made.{called-ok}
-use Rattle.gaspi_model.proofs.MetPosts.{IsMet, met-called, met-joined}
-use Rattle.plain_calls.specs.Room.{purged_queue}
+use Rattle.gaspi_model.proofs.CollectivePosts.{IsMet, on_group-called, on_group-joined}
+use Rattle.plain_calls.specs.NumberBounds.{purged_queue}
 use Rattle.plain_calls.proofs.Queues.{plain_queues}
 use Rattle.plain_machine.specs.Machine.{IsCounted, is_still}
-use Rattle.plain_machine.specs.Reaching.{call_reach}
+use Rattle.plain_machine.specs.Footprints.{call_footprint}
 use Rattle.plain_machine.proofs.Lists.{same_in, same_changed}
-use Rattle.plain_machine.proofs.Reached.{called_back, told_by}
+use Rattle.plain_machine.proofs.AtFootprints.{called_back, registered_by}
 
 -- the rank of such a call
 still_done : (l limits : Limits) (me : ℕ) (posts : Posts) (thread : ℕ) (call : Call) (j : ℕ) → (row_of call).posting ≡ None → purged_queue call ≡ None
-    → rank_transfers l (j, posts_done limits me posts thread call) ≡ rank_transfers l (j, posts)
+    → rank_transfers l (j, posts_effect limits me posts thread call) ≡ rank_transfers l (j, posts)
 still_done l limits me posts thread call j is kept =
     elim (plain_queues limits me posts thread call is kept) [
       | inl same ↦ ap (λ (qs : List Queue). flat_map (queue_transfers j l) (enumerate_from 0 qs)) same
@@ -51,18 +51,18 @@ plain_transfers : (l : Limits) (s t : State) (c : CallerId) (call : Call) (reply
     → transfers l t.posts ≡ transfers l s.posts
 plain_transfers l s t c call reply plain none kept is =
     let b = called_back s t c call reply plain is in
-    let made = called-ok s.limits c.rank b.p (call_brought s c.rank call) b.memory c.thread call reply b.after b.steps in
-    let after : posts_after s.limits c.rank b.p c.thread call reply ≡ b.after.posts = sym (ap (λ (w : Worked). w.posts) made.leaves) in
+    let made = called-ok s.limits c.rank b.p (call_message s c.rank call) b.memory c.thread call reply b.after b.steps in
+    let after : posts_after s.limits c.rank b.p c.thread call reply ≡ b.after.posts = sym (ap (λ (w : PostsAndMemory). w.posts) made.leaves) in
     ap (transfers l) (sym b.posts)
-    ∙ told_by (λ (ps : List Posts). transfers l ps ≡ transfers l (slice_set s.posts c.rank b.after.posts)) (call_reach s.limits c.rank call) c.rank b.p call reply
+    ∙ registered_by (λ (ps : List Posts). transfers l ps ≡ transfers l (slice_set s.posts c.rank b.after.posts)) (call_footprint s.limits c.rank call) c.rank b.p call reply
     (slice_set s.posts c.rank b.after.posts) refl
     (λ rank change same. same_changed (rank_transfers l) 0 rank (slice_set s.posts c.rank b.after.posts) change (λ j peer. ap (λ (qs : List Queue). flat_map (queue_transfers j l) (enumerate_from 0 qs)) (same peer)))
     ∙ same_in (rank_transfers l) 0 c.rank s.posts b.p b.after.posts b.there
     (λ j. ap (λ (p : Posts). rank_transfers l (j, p)) (sym after) ∙ still_after l s.limits c.rank b.p c.thread call reply j none kept)
 
 -- an event on a group
-met_transfers : (l : Limits) (s t : State) (rank : ℕ) (p p' : Posts) → IsMet s t rank p p' → transfers l t.posts ≡ transfers l s.posts
-met_transfers l s t rank p p' met =
+on_group_transfers : (l : Limits) (s t : State) (rank : ℕ) (p p' : Posts) → IsMet s t rank p p' → transfers l t.posts ≡ transfers l s.posts
+on_group_transfers l s t rank p p' met =
     ap (transfers l) met.leaves
     ∙ same_in (rank_transfers l) 0 rank s.posts p p' met.there (λ j. ap (λ (qs : List Queue). flat_map (queue_transfers j l) (enumerate_from 0 qs)) met.keeps.queues)
 
@@ -72,7 +72,7 @@ still_transfers l s t c call reply none kept is = by_group (row_of call).group r
   where
     by_group : (o : Option ℕ) → (row_of call).group ≡ o → transfers l t.posts ≡ transfers l s.posts
     by_group None plain = plain_transfers l s t c call reply plain none kept is
-    by_group (Some id) named = let met = met-called s t c id call reply named is in met_transfers l s t c.rank met.0 met.1 met.2
+    by_group (Some id) named = let met = on_group-called s t c id call reply named is in on_group_transfers l s t c.rank met.0 met.1 met.2
 
 -- a count of transfers that are the same
 carried_on : (s t : State) (count : Option ℕ) → transfers t.limits t.posts ≡ transfers s.limits s.posts → IsCounted s count → IsCounted t count
@@ -106,7 +106,7 @@ count_kept count s t c call reply result limits is steps = by_still (is_still ca
 pub count_joined : (count : Option ℕ) (s t : State) (c : CallerId) (id : ℕ) (args : Args) (result : Result (Unit {0}) StepFault)
     → ((s t : State) (e : Event) → step s e ≡ Ok t → t.limits ≡ s.limits) → IsCounted s count → Steps result s t (step s (Joined c id args)) → IsCounted t count
 count_joined count s t c id args (Ok done) limits is steps =
-    let met = met-joined s t c id args steps in
-    carried_on s t count (ap (λ (l : Limits). transfers l t.posts) (limits s t (Joined c id args) steps) ∙ met_transfers s.limits s t c.rank met.0 met.1 met.2) is
+    let met = on_group-joined s t c id args steps in
+    carried_on s t count (ap (λ (l : Limits). transfers l t.posts) (limits s t (Joined c id args) steps) ∙ on_group_transfers s.limits s t c.rank met.0 met.1 met.2) is
 count_joined count s t c id args (Err (faults.Illegal why)) limits is steps = carried_on s t count (ap (λ (x : State). transfers x.limits x.posts) steps.1) is
 count_joined count s t c id args (Err faults.NoMemory) limits is steps = carried_on s t count (ap (λ (x : State). transfers x.limits x.posts) steps) is

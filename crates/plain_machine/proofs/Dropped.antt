@@ -17,18 +17,18 @@ use Rattle.gaspi_types.specs.declared.shapes.Limits.{Limits}
 use Rattle.gaspi_types.specs.Tables.{changed_at}
 use Rattle.gaspi_types.proofs.Chains.{found_then}
 use Rattle.gaspi_types.proofs.Items.{changed_at-found}
-use Rattle.gaspi_model.specs.Calls.{call_finds, posts_done}
+use Rattle.gaspi_model.specs.Calls.{call_result, posts_effect}
 use Rattle.gaspi_model.specs.Posting.{counted}
 use Rattle.gaspi_model.specs.QueueCalls.{emptied, without_entries, purged}
 use Rattle.gaspi_model.specs.Step.{step}
 use Rattle.gaspi_model.specs.declared.states.Memory.{Memory}
 use Rattle.gaspi_model.specs.declared.states.Posts.{Posts}
 use Rattle.gaspi_model.specs.declared.states.State.{State}
-use Rattle.plain_calls.specs.Room.{purged_queue}
-use Rattle.plain_calls.proofs.CallRoom.{found_by}
+use Rattle.plain_calls.specs.NumberBounds.{purged_queue}
+use Rattle.plain_calls.proofs.CallBounds.{found_by}
 use Rattle.plain_calls.proofs.Queues.{purge_queues}
-use Rattle.plain_machine.specs.Standing.{lane_id, lane_named, queue_named, rank_named, standing_lanes, event_purge, is_elsewhere}
-use Rattle.plain_machine.specs.declared.standing.LaneId.{LaneId}
+use Rattle.plain_machine.specs.NonemptyLanes.{lane_id, lane_if_nonempty, queue_nonempty_lanes, rank_nonempty_lanes, nonempty_lanes, event_purge, is_elsewhere}
+use Rattle.plain_machine.specs.declared.nonempty_lanes.LaneId.{LaneId}
 use Rattle.plain_machine.proofs.OnGroups.{purges_plain}
 use Rattle.plain_machine.proofs.Renamed.{call_posts}
 
@@ -70,31 +70,31 @@ kept_but keep h n (suc i) (z ∷ xs) x y there others here =
 -- The names of a lane, a queue and a rank.
 
 lane_kept : (keep : LaneId → Bool) (origin queue target : ℕ) (lane : List Entry) → keep (lane_id origin queue target) ≡ true
-    → filter keep (lane_named origin queue (target, lane)) ≡ lane_named origin queue (target, lane)
+    → filter keep (lane_if_nonempty origin queue (target, lane)) ≡ lane_if_nonempty origin queue (target, lane)
 lane_kept keep origin queue target [] keeps = refl
 lane_kept keep origin queue target (e ∷ lane) keeps = rw keeps refl
 
 lane_dropped : (keep : LaneId → Bool) (origin queue target : ℕ) (lane : List Entry) → keep (lane_id origin queue target) ≡ false
-    → filter keep (lane_named origin queue (target, lane)) ≡ []
+    → filter keep (lane_if_nonempty origin queue (target, lane)) ≡ []
 lane_dropped keep origin queue target [] drops = refl
 lane_dropped keep origin queue target (e ∷ lane) drops = rw drops refl
 
 queue_kept : (keep : LaneId → Bool) (origin queue : ℕ) (q : Queue) → ((target : ℕ) → keep (lane_id origin queue target) ≡ true)
-    → filter keep (queue_named origin (queue, q)) ≡ queue_named origin (queue, q)
-queue_kept keep origin queue q keeps = all_kept keep (lane_named origin queue) 0 q.lanes (λ target k lane at. lane_kept keep origin queue target lane (keeps target))
+    → filter keep (queue_nonempty_lanes origin (queue, q)) ≡ queue_nonempty_lanes origin (queue, q)
+queue_kept keep origin queue q keeps = all_kept keep (lane_if_nonempty origin queue) 0 q.lanes (λ target k lane at. lane_kept keep origin queue target lane (keeps target))
 
-none_named : (origin queue n : ℕ) (lanes : List (List Entry)) → flat_map (lane_named origin queue) (enumerate_from n (map without_entries lanes)) ≡ []
+none_named : (origin queue n : ℕ) (lanes : List (List Entry)) → flat_map (lane_if_nonempty origin queue) (enumerate_from n (map without_entries lanes)) ≡ []
 none_named origin queue n [] = refl
 none_named origin queue n (lane ∷ lanes) = none_named origin queue (n + 1) lanes
 
 queue_dropped : (keep : LaneId → Bool) (origin queue : ℕ) (q : Queue) → ((target : ℕ) → keep (lane_id origin queue target) ≡ false)
-    → filter keep (queue_named origin (queue, q)) ≡ queue_named origin (queue, emptied q)
+    → filter keep (queue_nonempty_lanes origin (queue, q)) ≡ queue_nonempty_lanes origin (queue, emptied q)
 queue_dropped keep origin queue q drops =
-    none_kept keep (lane_named origin queue) 0 q.lanes (λ target lane. lane_dropped keep origin queue target lane (drops target)) ∙ sym (none_named origin queue 0 q.lanes)
+    none_kept keep (lane_if_nonempty origin queue) 0 q.lanes (λ target lane. lane_dropped keep origin queue target lane (drops target)) ∙ sym (none_named origin queue 0 q.lanes)
 
 rank_kept : (keep : LaneId → Bool) (origin : ℕ) (p : Posts) → ((queue target : ℕ) → keep (lane_id origin queue target) ≡ true)
-    → filter keep (rank_named (origin, p)) ≡ rank_named (origin, p)
-rank_kept keep origin p keeps = all_kept keep (queue_named origin) 0 p.queues (λ queue k q at. queue_kept keep origin queue q (keeps queue))
+    → filter keep (rank_nonempty_lanes (origin, p)) ≡ rank_nonempty_lanes (origin, p)
+rank_kept keep origin p keeps = all_kept keep (queue_nonempty_lanes origin) 0 p.queues (λ queue k q at. queue_kept keep origin queue q (keeps queue))
 
 -- The lanes of an origin's queue, and those elsewhere.
 
@@ -109,18 +109,18 @@ this_queue origin queue target = rw (eq-eqb origin origin refl, eq-eqb queue que
 
 -- the names of a rank whose queue is emptied
 rank_dropped : (origin queue : ℕ) (p p' : Posts) (q : Queue) → slice_get p.queues queue ≡ Some q → p'.queues ≡ changed_at p.queues queue emptied
-    → filter (is_elsewhere origin queue) (rank_named (origin, p)) ≡ rank_named (origin, p')
+    → filter (is_elsewhere origin queue) (rank_nonempty_lanes (origin, p)) ≡ rank_nonempty_lanes (origin, p')
 rank_dropped origin queue p p' q there changed =
-    kept_but (is_elsewhere origin queue) (queue_named origin) 0 queue p.queues q (emptied q) there others here
-    ∙ ap (λ (qs : List Queue). flat_map (queue_named origin) (enumerate_from 0 qs)) (sym (changed ∙ changed_at-found p.queues queue q emptied there))
+    kept_but (is_elsewhere origin queue) (queue_nonempty_lanes origin) 0 queue p.queues q (emptied q) there others here
+    ∙ ap (λ (qs : List Queue). flat_map (queue_nonempty_lanes origin) (enumerate_from 0 qs)) (sym (changed ∙ changed_at-found p.queues queue q emptied there))
   where
-    others : (j k : ℕ) (z : Queue) → j ≡ 0 + k → (k ≡ queue → ⊥) → filter (is_elsewhere origin queue) (queue_named origin (j, z)) ≡ queue_named origin (j, z)
+    others : (j k : ℕ) (z : Queue) → j ≡ 0 + k → (k ≡ queue → ⊥) → filter (is_elsewhere origin queue) (queue_nonempty_lanes origin (j, z)) ≡ queue_nonempty_lanes origin (j, z)
     others j k z at apart = queue_kept (is_elsewhere origin queue) origin j z (λ target. other_queue origin queue j target (λ is. apart (omega (arith, at, is))))
 
-    here : (j : ℕ) → j ≡ 0 + queue → filter (is_elsewhere origin queue) (queue_named origin (j, q)) ≡ queue_named origin (j, emptied q)
+    here : (j : ℕ) → j ≡ 0 + queue → filter (is_elsewhere origin queue) (queue_nonempty_lanes origin (j, q)) ≡ queue_nonempty_lanes origin (j, emptied q)
     here j at =
         let same : queue ≡ j = omega (arith, at) in
-        subst (λ (n : ℕ). filter (is_elsewhere origin queue) (queue_named origin (n, q)) ≡ queue_named origin (n, emptied q)) same
+        subst (λ (n : ℕ). filter (is_elsewhere origin queue) (queue_nonempty_lanes origin (n, q)) ≡ queue_nonempty_lanes origin (n, emptied q)) same
         (queue_dropped (is_elsewhere origin queue) origin queue q (λ target. this_queue origin queue target))
 
 -- A purge that is done.
@@ -131,7 +131,7 @@ some_purge false o queue is = (refl, is)
 
 -- its queue is there
 purge_there : (limits : Limits) (me : ℕ) (posts : Posts) (memory : Memory) (call : Call) (queue : ℕ) (reply : Reply) → purged_queue call ≡ Some queue
-    → call_finds limits me posts memory call ≡ Ok (Some reply) → (q : Queue) × (slice_get posts.queues queue ≡ Some q)
+    → call_result limits me posts memory call ≡ Ok (Some reply) → (q : Queue) × (slice_get posts.queues queue ≡ Some q)
 purge_there limits me posts memory (Purge call) queue reply is finds =
     found_then (slice_get posts.queues call.queue) BadQueue _ (Some reply) finds (λ q there more.
     let same : call.queue ≡ queue = cc in
@@ -140,30 +140,30 @@ purge_there limits me posts memory call queue reply is finds = absurd (let no : 
 
 -- a purge that is done
 purging_done : (s t : State) (c : CallerId) (call : Call) (reply : Reply) (queue : ℕ) → is_idle reply ≡ false → purged_queue call ≡ Some queue → (row_of call).group ≡ None → step s (Called c call reply) ≡ Ok t
-    → standing_lanes t.posts ≡ filter (is_elsewhere c.rank queue) (standing_lanes s.posts)
+    → nonempty_lanes t.posts ≡ filter (is_elsewhere c.rank queue) (nonempty_lanes s.posts)
 purging_done s t c call reply queue busy purges plain is =
     let done = call_posts s t c call reply plain is in
-    let after : counted (posts_done s.limits c.rank done.p c.thread call) ≡ done.p' = rw busy at done.by.1.after_is in
+    let after : counted (posts_effect s.limits c.rank done.p c.thread call) ≡ done.p' = rw busy at done.by.1.after_is in
     let made = purge_queues s.limits c.rank done.p c.thread call queue purges in
     let f = found_by s.limits c.rank done.p done.by.0 c.thread call reply done.by.1.replied busy in
     let at = purge_there s.limits c.rank done.p done.by.0 call queue f.reply_found purges f.finds in
     let same : counted (purged done.p queue) ≡ done.p' = ap counted (sym made) ∙ after in
     done.is
-    ∙ ap (λ (x : Posts). standing_lanes (slice_set s.posts c.rank x)) (sym same)
-    ∙ sym (kept_but (is_elsewhere c.rank queue) rank_named 0 c.rank s.posts done.p (counted (purged done.p queue)) done.there others (here done.p at.0 at.1))
+    ∙ ap (λ (x : Posts). nonempty_lanes (slice_set s.posts c.rank x)) (sym same)
+    ∙ sym (kept_but (is_elsewhere c.rank queue) rank_nonempty_lanes 0 c.rank s.posts done.p (counted (purged done.p queue)) done.there others (here done.p at.0 at.1))
   where
-    others : (j k : ℕ) (z : Posts) → j ≡ 0 + k → (k ≡ c.rank → ⊥) → filter (is_elsewhere c.rank queue) (rank_named (j, z)) ≡ rank_named (j, z)
+    others : (j k : ℕ) (z : Posts) → j ≡ 0 + k → (k ≡ c.rank → ⊥) → filter (is_elsewhere c.rank queue) (rank_nonempty_lanes (j, z)) ≡ rank_nonempty_lanes (j, z)
     others j k z at apart = rank_kept (is_elsewhere c.rank queue) j z (λ k' target. other_rank c.rank queue j k' target (λ is. apart (omega (arith, at, is))))
 
     here : (p : Posts) (q : Queue) → slice_get p.queues queue ≡ Some q → (j : ℕ) → j ≡ 0 + c.rank
-        → filter (is_elsewhere c.rank queue) (rank_named (j, p)) ≡ rank_named (j, counted (purged p queue))
+        → filter (is_elsewhere c.rank queue) (rank_nonempty_lanes (j, p)) ≡ rank_nonempty_lanes (j, counted (purged p queue))
     here p q there j at =
         let same : c.rank ≡ j = omega (arith, at) in
-        subst (λ (n : ℕ). filter (is_elsewhere c.rank queue) (rank_named (n, p)) ≡ rank_named (n, counted (purged p queue))) same
+        subst (λ (n : ℕ). filter (is_elsewhere c.rank queue) (rank_nonempty_lanes (n, p)) ≡ rank_nonempty_lanes (n, counted (purged p queue))) same
         (rank_dropped c.rank queue p (counted (purged p queue)) q there refl)
 
 pub purging : (s t : State) (c : CallerId) (call : Call) (reply : Reply) (queue : ℕ) → event_purge (Called c call reply) ≡ Some queue → step s (Called c call reply) ≡ Ok t
-    → standing_lanes t.posts ≡ filter (is_elsewhere c.rank queue) (standing_lanes s.posts)
+    → nonempty_lanes t.posts ≡ filter (is_elsewhere c.rank queue) (nonempty_lanes s.posts)
 purging s t c call reply queue purge is =
     let awake = some_purge (is_idle reply) (purged_queue call) queue purge in
     purging_done s t c call reply queue awake.0 awake.1 (purges_plain call queue awake.1) is

@@ -13,7 +13,7 @@ use Rattle.gaspi_types.specs.Replies.{is_done}
 use Rattle.gaspi_model.specs.Calls.{charge, recorded_reply}
 use Rattle.gaspi_model.specs.CollectiveCalls.{collective_answer, is_join_of, joining_call, is_joining}
 use Rattle.gaspi_model.specs.State.{owed, thread_at}
-use Rattle.gaspi_model.specs.Step.{step, group_in, is_declared, is_there, call_brought}
+use Rattle.gaspi_model.specs.Step.{step, group_in, is_declared, is_there, call_message}
 use Rattle.gaspi_model.specs.declared.states.Memory.{Memory}
 use Rattle.gaspi_model.specs.declared.states.Posts.{Posts}
 use Rattle.gaspi_model.specs.declared.states.State.{State}
@@ -22,14 +22,14 @@ use Rattle.gaspi_model.specs.declared.states.Why.{Why}
 use Rattle.gaspi_model.specs.declared.states.Why.TheVariants as whys
 use Rattle.gaspi_model.proofs.GroupSteps.{step-completed, step-joined}
 use Rattle.gaspi_model.proofs.Made.{step-called}
-use Rattle.plain_calls.specs.Looks.{IsFinding}
-use Rattle.plain_calls.specs.declared.looks.Finding.{Finding}
-use Rattle.plain_calls.proofs.Answered.{met_limit}
+use Rattle.plain_calls.specs.Looks.{IsEvaluation}
+use Rattle.plain_calls.specs.declared.looks.Evaluation.{Evaluation}
+use Rattle.plain_calls.proofs.Answered.{on_group_limit}
 use Rattle.plain_calls.proofs.Looked.{brought_same, look_limit}
-use Rattle.plain_machine.specs.Looking.{IsFindingIn, HasEventRoom, HasJoinRoom}
-use Rattle.plain_machine.specs.Reaching.{call_reach, memory_at}
+use Rattle.plain_machine.specs.Looking.{IsEvaluationIn, HasEventRoom, HasJoinRoom}
+use Rattle.plain_machine.specs.Footprints.{call_footprint, memory_at}
 use Rattle.plain_machine.proofs.OnGroups.{completed_err, joined_err}
-use Rattle.plain_machine.proofs.Reached.{memory_as}
+use Rattle.plain_machine.proofs.AtFootprints.{memory_as}
 use Rattle.plain_machine.proofs.Recorded.{IsThere, declared_there, refused}
 
 -- a collective is charged for itself
@@ -80,7 +80,7 @@ room_of_join s c id args is = by_step (step s (Joined c id args)) refl is
     by_step (Err why) stepped ok = absurd (let no : ⊥ = cc in no)
 
 -- what has no room is no step
-pub full_step : (s : State) (c : CallerId) (call : Call) (look : Finding) (p : Posts) → is_declared s c.rank c.thread ≡ true → IsFindingIn look s c call → is_joining look.ready ≡ false → slice_get s.posts c.rank ≡ Some p
+pub full_step : (s : State) (c : CallerId) (call : Call) (look : Evaluation) (p : Posts) → is_declared s c.rank c.thread ≡ true → IsEvaluationIn look s c call → is_joining look.ready ≡ false → slice_get s.posts c.rank ≡ Some p
     → nat_le (p.events + owed p + charge (thread_at p c.thread) call (recorded_reply look.ready)) s.limits.events ≡ false → step s (Called c call (recorded_reply look.ready)) ≡ Err whys.Limit
 full_step s c call look p declared finds unjoined at full = by_group (row_of call).group refl
   where
@@ -90,15 +90,15 @@ full_step s c call look p declared finds unjoined at full = by_group (row_of cal
     by_group : (o : Option ℕ) → (row_of call).group ≡ o → step s (Called c call (recorded_reply look.ready)) ≡ Err whys.Limit
     by_group None plain =
         let there = subst (λ (x : Posts). is_there (thread_at x c.thread) ≡ true) (one_posts s c.rank d.posts p d.item at) d.there in
-        let found = subst (λ (m : Memory). IsFinding look s.limits c.rank p m c.thread call) (memory_as s c.rank p (call_reach s.limits c.rank call)) (finds.finds p at plain) in
+        let found = subst (λ (m : Memory). IsEvaluation look s.limits c.rank p m c.thread call) (memory_as s c.rank p (call_footprint s.limits c.rank call)) (finds.finds p at plain) in
         refused s c call (recorded_reply look.ready) p whys.Limit plain at
-        (sym (brought_same look (call_brought s c.rank call) s.limits c.rank p (memory_at s.memories c.rank (call_reach s.limits c.rank call)) c.thread call finds.message)
-        ∙ look_limit look s.limits c.rank p (memory_at s.memories c.rank (call_reach s.limits c.rank call)) c.thread call found there full)
+        (sym (brought_same look (call_message s c.rank call) s.limits c.rank p (memory_at s.memories c.rank (call_footprint s.limits c.rank call)) c.thread call finds.message)
+        ∙ look_limit look s.limits c.rank p (memory_at s.memories c.rank (call_footprint s.limits c.rank call)) c.thread call found there full)
     by_group (Some id) named =
         let there = subst (λ (x : Posts). is_there (thread_at x c.thread) ≡ true) (one_posts s c.rank d.posts p d.item at) d.there in
         let one = collective_charge (thread_at p c.thread) call (recorded_reply look.ready) id named in
         completed_err s c call (recorded_reply look.ready) id p whys.Limit at named
-        (met_limit s.limits c.rank p (group_in s id) c.thread id call look.ready there (finds.meets p id at named) unjoined (rw one at full))
+        (on_group_limit s.limits c.rank p (group_in s id) c.thread id call look.ready there (finds.meets p id at named) unjoined (rw one at full))
 
 pub full_join : (s : State) (c : CallerId) (id : ℕ) (args : Args) (p : Posts) → is_declared s c.rank c.thread ≡ true → slice_get s.posts c.rank ≡ Some p
     → is_join_of (collective_answer p (group_in s id) c.rank c.thread id (joining_call id args)) args ≡ true → nat_le (p.events + owed p + 1) s.limits.events ≡ false → step s (Joined c id args) ≡ Err whys.Limit

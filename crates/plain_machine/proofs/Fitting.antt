@@ -14,33 +14,33 @@ use Rattle.gaspi_types.specs.declared.replies.Reply.{Reply}
 use Rattle.gaspi_types.specs.declared.events.Event.{Event}
 use Rattle.gaspi_types.specs.declared.events.Event.TheVariants.{Called, Joined, Take, Put}
 use Rattle.gaspi_model.specs.State.{owed, thread_at}
-use Rattle.gaspi_model.specs.Calls.{call_asks, answer, recorded_reply, charge, posts_done, posts_after, memory_after}
+use Rattle.gaspi_model.specs.Calls.{requested_kinds, answer, recorded_reply, charge, posts_effect, posts_after, memory_after}
 use Rattle.gaspi_model.specs.Posting.{with_post}
 use Rattle.gaspi_types.specs.Tables.{changed_at}
 use Rattle.gaspi_model.specs.Sound.{IsSound}
 use Rattle.gaspi_types.specs.declared.inboxes.Message.{Message}
-use Rattle.gaspi_model.specs.Step.{call_brought, step, called, is_there}
-use Rattle.gaspi_model.specs.Transfers.{Worked}
+use Rattle.gaspi_model.specs.Step.{call_message, step, called, is_there}
+use Rattle.gaspi_model.specs.Transfers.{PostsAndMemory}
 use Rattle.gaspi_model.specs.declared.states.Posts.{Posts}
 use Rattle.gaspi_model.specs.declared.states.Memory.{Memory}
 use Rattle.gaspi_model.specs.declared.states.State.{State}
 use Rattle.gaspi_model.specs.declared.states.Why.{Why}
-use Rattle.plain_machine.specs.Machine.{IsFitting}
-use Rattle.plain_machine.specs.Reaching.{call_reach}
+use Rattle.plain_machine.specs.Machine.{HasBoundedNumbers}
+use Rattle.plain_machine.specs.Footprints.{call_footprint}
 use Rattle.gaspi_types.proofs.Chains.{bind_then}
 use Rattle.gaspi_types.proofs.Items.{changed_at-found}
 use Rattle.plain_calls.proofs.Postings.{posting_of}
 use Rattle.plain_calls.proofs.Queues.{one_queue}
-use Rattle.gaspi_model.proofs.MetPosts.{IsMet, met-called, met-joined}
+use Rattle.gaspi_model.proofs.CollectivePosts.{IsMet, on_group-called, on_group-joined}
 use Rattle.gaspi_types.specs.declared.shapes.CallerId.{CallerId}
 use Rattle.plain_machine.proofs.OnGroups.{completed_memories, joined_memories}
-use Rattle.plain_machine.proofs.Reached.{called_back, taken_back, put_back, told_by}
+use Rattle.plain_machine.proofs.AtFootprints.{called_back, used_back, put_back, registered_by}
 use Rattle.plain_machine.proofs.Kept.{take_keeps, put_keeps}
-use Rattle.gaspi_types.specs.declared.touches.Reach.{Reach}
-use Rattle.gaspi_types.specs.declared.touches.Reach.TheVariants.{Alone, OwnMemory, PeerMemory, BothMemories, PeerPosts, Group, GroupAndMemory}
+use Rattle.gaspi_types.specs.declared.footprints.Footprint.{Footprint}
+use Rattle.gaspi_types.specs.declared.footprints.Footprint.TheVariants.{Alone, OwnMemory, PeerMemory, BothMemories, PeerPosts, Group, GroupAndMemory}
 use Rattle.gaspi_model.specs.Parts.{memory_or_none}
 use Rattle.plain_calls.specs.Looks.{AreShort}
-use Rattle.plain_machine.specs.Reaching.{memory_at}
+use Rattle.plain_machine.specs.Footprints.{memory_at}
 
 -- what stands in a list after a write is what was written or what stood there
 after_write : {X : Type 0} (xs : List X) (i k : ℕ) (y z : X) → slice_get (slice_set xs i y) k ≡ Some z → (z ≡ y) × (k ≡ i) ⊎ (slice_get xs k ≡ Some z)
@@ -61,10 +61,10 @@ queues-post : (posts : Posts) (queue rank : ℕ) (asked : Result (List Kind) Ref
 queues-post posts queue rank (Ok kinds) = length-changed_at posts.queues queue _
 queues-post posts queue rank (Err refusal) = refl
 
-queues-done : (limits : Limits) (me : ℕ) (posts : Posts) (thread : ℕ) (call : Call) → length (posts_done limits me posts thread call).queues ≡ length posts.queues
+queues-done : (limits : Limits) (me : ℕ) (posts : Posts) (thread : ℕ) (call : Call) → length (posts_effect limits me posts thread call).queues ≡ length posts.queues
 queues-done limits me posts thread call = by_posting (row_of call).posting refl
   where
-    by_posting : (posting : Option Posting) → (row_of call).posting ≡ posting → length (posts_done limits me posts thread call).queues ≡ length posts.queues
+    by_posting : (posting : Option Posting) → (row_of call).posting ≡ posting → length (posts_effect limits me posts thread call).queues ≡ length posts.queues
     by_posting None is =
         elim (one_queue limits me posts thread call is) [
           | inl same ↦ ap length same
@@ -72,7 +72,7 @@ queues-done limits me posts thread call = by_posting (row_of call).posting refl
         ]
     by_posting (Some posting) is =
         let p = posting_of limits me posts call posting is in
-        rw (p.leaves thread) (queues-post posts posting.queue posting.rank (call_asks limits me posts call))
+        rw (p.leaves thread) (queues-post posts posting.queue posting.rank (requested_kinds limits me posts call))
 
 queues-after : (limits : Limits) (me : ℕ) (posts : Posts) (thread : ℕ) (call : Call) (reply : Reply) → length (posts_after limits me posts thread call reply).queues ≡ length posts.queues
 queues-after limits me posts thread call reply = by_idle (is_idle reply) refl
@@ -81,7 +81,7 @@ queues-after limits me posts thread call reply = by_idle (is_idle reply) refl
     by_idle true idle = rw idle refl
     by_idle false idle = rw idle (queues-done limits me posts thread call)
 
-queues-called : (limits : Limits) (me : ℕ) (posts : Posts) (brought : Option Message) (memory : Memory) (thread : ℕ) (call : Call) (reply : Reply) (after : Worked)
+queues-called : (limits : Limits) (me : ℕ) (posts : Posts) (brought : Option Message) (memory : Memory) (thread : ℕ) (call : Call) (reply : Reply) (after : PostsAndMemory)
     → called limits me posts brought memory thread call reply ≡ Ok after → length after.posts.queues ≡ length posts.queues
 queues-called limits me posts brought memory thread call reply after is =
     bind_then (check (is_there (thread_at posts thread)) _) _ _ is (λ u there more.
@@ -89,15 +89,15 @@ queues-called limits me posts brought memory thread call reply after is =
     bind_then (check (nat_le (posts.events + owed posts + charge (thread_at posts thread) call reply) limits.events) _) _ _ more (λ u room more.
     done after more)))
   where
-    done : (after : Worked) → ◌≡◌ {A = Result Worked Why} (Ok (record { posts = posts_after limits me posts thread call reply; memory = memory_after limits posts brought memory call reply })) (Ok after)
+    done : (after : PostsAndMemory) → ◌≡◌ {A = Result PostsAndMemory Why} (Ok (record { posts = posts_after limits me posts thread call reply; memory = memory_after limits posts brought memory call reply })) (Ok after)
         → length after.posts.queues ≡ length posts.queues
     done after is =
         let same : record { posts = posts_after limits me posts thread call reply; memory = memory_after limits posts brought memory call reply } ≡ after = cc in
         rw (← same) (queues-after limits me posts thread call reply)
 
 -- one rank's posts replaced by some with as many queues
-fitting_with : (s : State) (rank : ℕ) (p p' : Posts) (memories : List Memory) → IsFitting s → length memories ≡ length s.memories → slice_get s.posts rank ≡ Some p → length p'.queues ≡ length p.queues
-    → IsFitting (record s { posts = slice_set s.posts rank p'; memories = memories })
+fitting_with : (s : State) (rank : ℕ) (p p' : Posts) (memories : List Memory) → HasBoundedNumbers s → length memories ≡ length s.memories → slice_get s.posts rank ≡ Some p → length p'.queues ≡ length p.queues
+    → HasBoundedNumbers (record s { posts = slice_set s.posts rank p'; memories = memories })
 fitting_with s rank p p' memories fits all there same = record {
   memories = all ∙ (fits.memories ∙ sym (length-set s.posts rank p'));
   ranks = rw (length-set s.posts rank p') fits.ranks;
@@ -109,11 +109,11 @@ fitting_with s rank p p' memories fits all there same = record {
 
 -- a rank's posts changed so that its queues stay
 fitting_changed : (s : State) (rank : ℕ) (change : Posts → Posts) (posts : List Posts) (memories : List Memory) → ((peer : Posts) → (change peer).queues ≡ peer.queues)
-    → IsFitting (record s { posts = posts; memories = memories })
-    → IsFitting (record s { posts = changed_at posts rank change; memories = memories })
+    → HasBoundedNumbers (record s { posts = posts; memories = memories })
+    → HasBoundedNumbers (record s { posts = changed_at posts rank change; memories = memories })
 fitting_changed s rank change posts memories kept fits = by_item (slice_get posts rank) refl
   where
-    by_item : (o : Option Posts) → slice_get posts rank ≡ o → IsFitting (record s { posts = changed_at posts rank change; memories = memories })
+    by_item : (o : Option Posts) → slice_get posts rank ≡ o → HasBoundedNumbers (record s { posts = changed_at posts rank change; memories = memories })
     by_item None there = rw there fits
     by_item (Some q) there =
         rw (changed_at-found posts rank q change there)
@@ -127,7 +127,7 @@ few_marks s sound rank p there =
     grind (arith, nat_tests, marks, limited)
 
 -- the messages of the memory that is worked on are no longer than messages may be
-pub short_at : (s : State) (me : ℕ) (reach : Reach) → IsSound s → AreShort (memory_at s.memories me reach).inbox
+pub short_at : (s : State) (me : ℕ) (reach : Footprint) → IsSound s → AreShort (memory_at s.memories me reach).inbox
 short_at s me reach sound = by_reach reach
   where
     short : (rank : ℕ) (o : Option Memory) → slice_get s.memories rank ≡ o → AreShort (memory_or_none o).inbox
@@ -136,7 +136,7 @@ short_at s me reach sound = by_reach reach
         let sized = (sound.inboxes rank memory there).sizes place m at in
         grind (arith, nat_tests, sized)
 
-    by_reach : (r : Reach) → AreShort (memory_at s.memories me r).inbox
+    by_reach : (r : Footprint) → AreShort (memory_at s.memories me r).inbox
     by_reach Alone place m at = absurd (let no : ⊥ = cc in no)
     by_reach OwnMemory place m at = short me (slice_get s.memories me) refl place m at
     by_reach (PeerMemory rank) place m at = short rank (slice_get s.memories rank) refl place m at
@@ -146,7 +146,7 @@ short_at s me reach sound = by_reach reach
     by_reach (GroupAndMemory id) place m at = short me (slice_get s.memories me) refl place m at
 
 -- the same posts
-fitting_at : (s t : State) (posts : List Posts) → posts ≡ t.posts → IsFitting (record s { posts = posts; memories = t.memories }) → IsFitting t
+fitting_at : (s t : State) (posts : List Posts) → posts ≡ t.posts → HasBoundedNumbers (record s { posts = posts; memories = t.memories }) → HasBoundedNumbers t
 fitting_at s t posts same fits =
     let ranks = fits.ranks in
     let memories = fits.memories in
@@ -154,34 +154,34 @@ fitting_at s t posts same fits =
     record { ranks = rw (← same) ranks; memories = rw (← same) memories; queues = rw (← same) queues }
 
 -- a call that is no collective
-fitting_called : (s t : State) (c : CallerId) (call : Call) (reply : Reply) → (row_of call).group ≡ None → IsFitting s → step s (Called c call reply) ≡ Ok t → IsFitting t
+fitting_called : (s t : State) (c : CallerId) (call : Call) (reply : Reply) → (row_of call).group ≡ None → HasBoundedNumbers s → step s (Called c call reply) ≡ Ok t → HasBoundedNumbers t
 fitting_called s t c call reply plain fits is =
     let b = called_back s t c call reply plain is in
-    let same = queues-called s.limits c.rank b.p (call_brought s c.rank call) b.memory c.thread call reply b.after b.steps in
+    let same = queues-called s.limits c.rank b.p (call_message s c.rank call) b.memory c.thread call reply b.after b.steps in
     let recorded = fitting_with s c.rank b.p b.after.posts t.memories fits b.memories b.there same in
     let told =
-    told_by (λ (ps : List Posts). IsFitting (record s { posts = ps; memories = t.memories })) (call_reach s.limits c.rank call) c.rank b.p call reply (slice_set s.posts c.rank b.after.posts) recorded
+    registered_by (λ (ps : List Posts). HasBoundedNumbers (record s { posts = ps; memories = t.memories })) (call_footprint s.limits c.rank call) c.rank b.p call reply (slice_set s.posts c.rank b.after.posts) recorded
     (λ rank change kept. fitting_changed s rank change (slice_set s.posts c.rank b.after.posts) t.memories kept recorded) in
     fitting_at s t _ b.posts told
 
 -- an event on a group
-fitting_met : (s t : State) (rank : ℕ) (p p' : Posts) → IsMet s t rank p p' → length t.memories ≡ length s.memories → IsFitting s → IsFitting t
-fitting_met s t rank p p' met memories fits = fitting_at s t _ (sym met.leaves) (fitting_with s rank p p' t.memories fits memories met.there (ap length met.keeps.queues))
+fitting_on_group : (s t : State) (rank : ℕ) (p p' : Posts) → IsMet s t rank p p' → length t.memories ≡ length s.memories → HasBoundedNumbers s → HasBoundedNumbers t
+fitting_on_group s t rank p p' met memories fits = fitting_at s t _ (sym met.leaves) (fitting_with s rank p p' t.memories fits memories met.there (ap length met.keeps.queues))
 
 -- every step
-pub fitting_by : (s t : State) (e : Event) → IsFitting s → step s e ≡ Ok t → IsFitting t
+pub fitting_by : (s t : State) (e : Event) → HasBoundedNumbers s → step s e ≡ Ok t → HasBoundedNumbers t
 fitting_by s t (Called c call reply) fits is = by_group (row_of call).group refl
   where
-    by_group : (o : Option ℕ) → (row_of call).group ≡ o → IsFitting t
+    by_group : (o : Option ℕ) → (row_of call).group ≡ o → HasBoundedNumbers t
     by_group None plain = fitting_called s t c call reply plain fits is
     by_group (Some id) named =
-        let met = met-called s t c id call reply named is in
-        fitting_met s t c.rank met.0 met.1 met.2 (completed_memories s t c id call reply named is) fits
+        let met = on_group-called s t c id call reply named is in
+        fitting_on_group s t c.rank met.0 met.1 met.2 (completed_memories s t c id call reply named is) fits
 fitting_by s t (Joined c id args) fits is =
-    let met = met-joined s t c id args is in
-    fitting_met s t c.rank met.0 met.1 met.2 (joined_memories s t c id args is) fits
+    let met = on_group-joined s t c id args is in
+    fitting_on_group s t c.rank met.0 met.1 met.2 (joined_memories s t c id args is) fits
 fitting_by s t (Take origin queue target number outcome) fits is =
-    let b = taken_back s t origin queue target number outcome is in
+    let b = used_back s t origin queue target number outcome is in
     rw (← b.is) (fitting_with s origin b.p b.after s.memories fits refl b.there (take_keeps s.limits b.p b.memory queue target number outcome b.after b.steps).queues)
 fitting_by s t (Put origin queue target number outcome) fits is =
     let b = put_back s t origin queue target number outcome is in

@@ -3,13 +3,13 @@ use Rattle.std.proofs.Common.{◌≡◌, ℕ, ◌<◌, ◌≤◌, arith, Bool, t
 use Rattle.std.proofs.lemmas.Bool.Decides.{nat_tests}
 use Rattle.std.proofs.lemmas.Option.{slice_get_within}
 use Rattle.gaspi_types.specs.CallRows.{row_of}
-use Rattle.gaspi_types.specs.Collectives.{part_of}
-use Rattle.gaspi_types.specs.Tables.{entry_at}
+use Rattle.gaspi_types.specs.Collectives.{contributions_of}
+use Rattle.gaspi_types.specs.Tables.{item_at}
 use Rattle.gaspi_types.specs.declared.calls.Call.{Call}
 use Rattle.gaspi_types.specs.declared.events.Event.TheVariants.{Called, Joined}
 use Rattle.gaspi_types.specs.declared.groups.Args.{Args}
 use Rattle.gaspi_types.specs.declared.groups.Group.{Group}
-use Rattle.gaspi_types.specs.declared.groups.Pending.{Pending}
+use Rattle.gaspi_types.specs.declared.groups.PendingCollective.{PendingCollective}
 use Rattle.gaspi_types.specs.declared.replies.Ready.{Ready}
 use Rattle.gaspi_types.specs.declared.replies.Ready.TheVariants as ready
 use Rattle.gaspi_types.specs.declared.replies.Refusal.{Refusal}
@@ -17,13 +17,13 @@ use Rattle.gaspi_types.specs.declared.replies.Reply.{Reply}
 use Rattle.gaspi_types.specs.declared.shapes.CallerId.{CallerId}
 use Rattle.gaspi_types.specs.declared.shapes.Limits.{Limits}
 use Rattle.gaspi_types.proofs.Items.{past-none}
-use Rattle.gaspi_model.specs.Calls.{answer, call_finds, ready_of}
+use Rattle.gaspi_model.specs.Calls.{answer, call_result, ready_of}
 use Rattle.gaspi_model.specs.CollectiveCalls.{collective_answer, is_join_of, joining_call, group_of}
-use Rattle.gaspi_model.specs.Contributions.{IsSoundGroup, IsSoundPart}
-use Rattle.gaspi_model.specs.Parts.{no_group, group_or_none}
+use Rattle.gaspi_model.specs.Contributions.{IsSoundGroup, AreSoundContributions}
+use Rattle.gaspi_model.specs.Parts.{empty_group, group_or_none}
 use Rattle.gaspi_model.specs.Sound.{IsSound}
 use Rattle.gaspi_model.specs.State.{thread_at, is_running}
-use Rattle.gaspi_model.specs.Step.{answer_in, group_in, step, Steps, Met, completed, is_declared, is_there, call_memory}
+use Rattle.gaspi_model.specs.Step.{answer_in, group_in, step, Steps, PostsAndGroup, completed, is_declared, is_there, call_memory}
 use Rattle.gaspi_model.specs.declared.states.Memory.{Memory}
 use Rattle.gaspi_model.specs.declared.states.Posts.{Posts}
 use Rattle.gaspi_model.specs.declared.states.State.{State}
@@ -37,7 +37,7 @@ use Rattle.plain_machine.proofs.OnGroups.{completed_steps, joined_err}
 use Rattle.plain_machine.proofs.Recorded.{declared_there}
 
 -- a group without parts
-sound_none : IsSoundGroup 0 no_group
+sound_none : IsSoundGroup 0 empty_group
 sound_none = record {
   parts = refl;
   agree = λ turn rank other a b given more. absurd (let no : ⊥ = cc in no);
@@ -46,32 +46,32 @@ sound_none = record {
   commits = λ turn rank a mask given more. absurd (let no : ⊥ = cc in no);
 }
 
-pub group_sound : (s : State) (id : ℕ) → IsSound s → IsSoundGroup (length (group_in s id).parts) (group_in s id)
+pub group_sound : (s : State) (id : ℕ) → IsSound s → IsSoundGroup (length (group_in s id).contributions) (group_in s id)
 group_sound s id sound = by_test (nat_lt id 8) refl
   where
-    by_item : (o : Option Group) → slice_get s.groups id ≡ o → IsSoundGroup (length (group_or_none o).parts) (group_or_none o)
+    by_item : (o : Option Group) → slice_get s.groups id ≡ o → IsSoundGroup (length (group_or_none o).contributions) (group_or_none o)
     by_item None at = sound_none
     by_item (Some g) at = let is = sound.collectives.groups id g at in subst (λ (n : ℕ). IsSoundGroup n g) (sym is.parts) is
 
-    by_test : (b : Bool) → nat_lt id 8 ≡ b → IsSoundGroup (length (group_in s id).parts) (group_in s id)
+    by_test : (b : Bool) → nat_lt id 8 ≡ b → IsSoundGroup (length (group_in s id).contributions) (group_in s id)
     by_test true below = rw below (by_item (slice_get s.groups id) refl)
     by_test false far = rw far sound_none
 
-none_pending : (table : List (Option Pending)) (id : ℕ) → length table ≤ id → entry_at table id ≡ None
+none_pending : (table : List (Option PendingCollective)) (id : ℕ) → length table ≤ id → item_at table id ≡ None
 none_pending table id far = by_item (slice_get table id) refl
   where
-    by_item : (o : Option (Option Pending)) → slice_get table id ≡ o → entry_at table id ≡ None
+    by_item : (o : Option (Option PendingCollective)) → slice_get table id ≡ o → item_at table id ≡ None
     by_item None at = rw at refl
     by_item (Some x) at = absurd (let within = slice_get_within table id x at in let no : ⊥ = omega (arith, within, far) in no)
 
-pub part_sound : (s : State) (id rank : ℕ) (p : Posts) → IsSound s → slice_get s.posts rank ≡ Some p → IsSoundPart p.events (entry_at p.pending id) (part_of (group_in s id) rank)
-part_sound s id rank p sound there = by_test (nat_lt id 8) refl
+pub contributions_sound : (s : State) (id rank : ℕ) (p : Posts) → IsSound s → slice_get s.posts rank ≡ Some p → AreSoundContributions p.events (item_at p.pending id) (contributions_of (group_in s id) rank)
+contributions_sound s id rank p sound there = by_test (nat_lt id 8) refl
   where
-    by_item : (o : Option Group) → slice_get s.groups id ≡ o → id < 8 → IsSoundPart p.events (entry_at p.pending id) (part_of (group_or_none o) rank)
+    by_item : (o : Option Group) → slice_get s.groups id ≡ o → id < 8 → AreSoundContributions p.events (item_at p.pending id) (contributions_of (group_or_none o) rank)
     by_item None at below = absurd (past-none s.groups id (let eight = sound.collectives.eight in omega (arith, below, eight)) at)
     by_item (Some g) at below = sound.collectives.parts id g rank p at there
 
-    by_test : (b : Bool) → nat_lt id 8 ≡ b → IsSoundPart p.events (entry_at p.pending id) (part_of (group_in s id) rank)
+    by_test : (b : Bool) → nat_lt id 8 ≡ b → AreSoundContributions p.events (item_at p.pending id) (contributions_of (group_in s id) rank)
     by_test true below = rw below (by_item (slice_get s.groups id) refl (grind (arith, nat_tests, below)))
     by_test false far =
         let eight = (sound.posts rank p there).tables.pending in
@@ -88,7 +88,7 @@ plain_joins limits me posts memory thread call args is = by_running (is_running 
     of_finds (Err refusal) is = cc
 
     by_running : (b : Bool) → is_running (thread_at posts thread) ≡ b → ⊥
-    by_running true runs = of_finds (call_finds limits me posts memory call) (rw runs at is)
+    by_running true runs = of_finds (call_result limits me posts memory call) (rw runs at is)
     by_running false ended = let refused = rw ended at is in cc
 
 -- one that may join does so on its group, which is there, as it is
@@ -148,20 +148,20 @@ unjoined s c id args declared differs =
 pub in_group : (s : State) (id : ℕ) (g : Group) → nat_lt id 8 ≡ true → slice_get s.groups id ≡ Some g → group_in s id ≡ g
 in_group s id g below there = rw (below, there) refl
 
-pub in_none : (s : State) (id : ℕ) → nat_lt id 8 ≡ false → group_in s id ≡ no_group
+pub in_none : (s : State) (id : ℕ) → nat_lt id 8 ≡ false → group_in s id ≡ empty_group
 in_none s id far = rw far refl
 
 pub completed_on : (s : State) (c : CallerId) (call : Call) (reply : Reply) (id : ℕ) (result : Result (Unit {0}) StepFault) (p p' : Posts) (g g' : Group) → nat_lt id 8 ≡ true
     → slice_get s.posts c.rank ≡ Some p → (row_of call).group ≡ Some id → slice_get s.groups id ≡ Some g
-    → Steps {S = Met} result (record { posts = p; group = g }) (record { posts = p'; group = g' }) (completed s.limits c.rank p g c.thread id call reply)
+    → Steps {S = PostsAndGroup} result (record { posts = p; group = g }) (record { posts = p'; group = g' }) (completed s.limits c.rank p g c.thread id call reply)
     → Steps result s (record s { posts = slice_set s.posts c.rank p'; groups = slice_set s.groups id g' }) (step s (Called c call reply))
 completed_on s c call reply id result p p' g g' below there named grouped steps =
     subst (λ (gs : List Group). Steps result s (record s { posts = slice_set s.posts c.rank p'; groups = gs }) (step s (Called c call reply))) (rw below refl)
     (completed_steps s c call reply id result p p' g g' there named (sym (in_group s id g below grouped)) steps)
 
 pub completed_none : (s : State) (c : CallerId) (call : Call) (reply : Reply) (id : ℕ) (result : Result (Unit {0}) StepFault) (p p' : Posts) (g g' : Group) → nat_lt id 8 ≡ false
-    → slice_get s.posts c.rank ≡ Some p → (row_of call).group ≡ Some id → g ≡ no_group
-    → Steps {S = Met} result (record { posts = p; group = g }) (record { posts = p'; group = g' }) (completed s.limits c.rank p g c.thread id call reply)
+    → slice_get s.posts c.rank ≡ Some p → (row_of call).group ≡ Some id → g ≡ empty_group
+    → Steps {S = PostsAndGroup} result (record { posts = p; group = g }) (record { posts = p'; group = g' }) (completed s.limits c.rank p g c.thread id call reply)
     → Steps result s (record s { posts = slice_set s.posts c.rank p' }) (step s (Called c call reply))
 completed_none s c call reply id result p p' g g' far there named none steps =
     subst (λ (gs : List Group). Steps result s (record s { posts = slice_set s.posts c.rank p'; groups = gs }) (step s (Called c call reply))) (rw far refl)

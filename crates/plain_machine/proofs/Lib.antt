@@ -13,5 +13,5 @@ pub mod Parted
 pub mod Renamed
 pub mod Running
 pub mod Recorded
-pub mod Reached
+pub mod AtFootprints
 pub mod Walked

@@ -5,24 +5,24 @@ use Rattle.std.proofs.lemmas.Bool.Decides.{nat_tests}
 use Rattle.std.specs.Option.{option_map, unwrap_or}
 use Rattle.std.proofs.lemmas.List.{map-set}
 use Rattle.std.proofs.lemmas.Option.{slice_get_within, slice_get-map}
-use Rattle.gaspi_types.specs.Checks.{◌>>=◌, found}
-use Rattle.gaspi_types.specs.Lanes.{place_of}
-use Rattle.gaspi_types.specs.Touches.{reach_of, take_touch, put_touch}
+use Rattle.gaspi_types.specs.Checks.{◌>>=◌, ok_or}
+use Rattle.gaspi_types.specs.Lanes.{position_of}
+use Rattle.gaspi_types.specs.Footprints.{footprint_of, take_footprint, put_footprint}
 use Rattle.gaspi_types.specs.declared.entries.Kind.{Kind}
 use Rattle.gaspi_types.specs.declared.entries.Kind.TheVariants.{Write, Read, Notify, ReadNote}
 use Rattle.gaspi_types.specs.declared.events.Event.TheVariants.{Take, Put}
 use Rattle.gaspi_types.specs.declared.events.Outcome.{Outcome}
 use Rattle.gaspi_types.specs.declared.events.Outcome.TheVariants.{Applied, Failed}
 use Rattle.gaspi_types.specs.declared.shapes.Limits.{Limits}
-use Rattle.gaspi_types.specs.declared.touches.Touch.{Touch}
-use Rattle.gaspi_types.specs.declared.touches.Touch.TheVariants as touches
-use Rattle.gaspi_types.specs.declared.touches.Reach.{Reach}
-use Rattle.gaspi_types.specs.declared.touches.Reach.TheVariants.{PeerMemory}
-use Rattle.gaspi_model.specs.Parts.{no_memory, memory_or_none}
+use Rattle.gaspi_types.specs.declared.footprints.DeclaredFootprint.{DeclaredFootprint}
+use Rattle.gaspi_types.specs.declared.footprints.DeclaredFootprint.TheVariants as touches
+use Rattle.gaspi_types.specs.declared.footprints.Footprint.{Footprint}
+use Rattle.gaspi_types.specs.declared.footprints.Footprint.TheVariants.{PeerMemory}
+use Rattle.gaspi_model.specs.Parts.{empty_memory, memory_or_none}
 use Rattle.gaspi_model.specs.State.{owed}
 use Rattle.gaspi_types.specs.Tables.{changed_at}
 use Rattle.gaspi_model.specs.Step.{step, Steps}
-use Rattle.gaspi_model.specs.Transfers.{Found, find_entry, bytes_taken, outcome_at, take_outcome, put_outcome, memory_after_put, posts_after_take, posts_after_put, Worked}
+use Rattle.gaspi_model.specs.Transfers.{EntryPosition, find_entry, take_result, outcome_at, take_outcome, put_outcome, memory_after_put, posts_after_take, posts_after_put, PostsAndMemory}
 use Rattle.gaspi_model.specs.declared.states.Posts.{Posts}
 use Rattle.gaspi_model.specs.declared.states.Memory.{Memory}
 use Rattle.gaspi_model.specs.declared.states.State.{State}
@@ -30,34 +30,34 @@ use Rattle.gaspi_model.specs.declared.states.StepFault.{StepFault}
 use Rattle.gaspi_model.specs.declared.states.StepFault.TheVariants as faults
 use Rattle.gaspi_model.specs.declared.states.Why.{Why}
 use Rattle.gaspi_model.specs.declared.states.Why.TheVariants as whys
-use Rattle.plain_machine.specs.Entries.{reached_outcome, memories_after_put, outcome_of_taken, GivesTaken, posts_taken, spared}
-use Rattle.plain_machine.specs.declared.transfers.Taken.{Taken}
-use Rattle.plain_machine.specs.declared.transfers.Taken.TheVariants.{Bytes}
-use Rattle.plain_machine.specs.declared.transfers.Taken.TheVariants as taken_is
-use Rattle.plain_machine.specs.Machine.{taken_of, take_event, put_event}
-use Rattle.plain_machine.specs.Reaching.{entry_reach, memory_at, with_memory_at}
-use Rattle.plain_machine.specs.declared.standing.LaneId.{LaneId}
+use Rattle.plain_machine.specs.Entries.{reached_outcome, memories_after_put, take_result_outcome, IsTakeResult, posts_after_take_result, released_by_take}
+use Rattle.plain_machine.specs.declared.transfers.TakeResult.{TakeResult}
+use Rattle.plain_machine.specs.declared.transfers.TakeResult.TheVariants.{Bytes}
+use Rattle.plain_machine.specs.declared.transfers.TakeResult.TheVariants as taken_is
+use Rattle.plain_machine.specs.Machine.{used_room_of, take_event, put_event}
+use Rattle.plain_machine.specs.Footprints.{entry_footprint, memory_at, with_memory_at}
+use Rattle.plain_machine.specs.declared.nonempty_lanes.LaneId.{LaneId}
 use Rattle.plain_machine.proofs.Kept.{spares_of, take_keeps, put_keeps}
 use Rattle.plain_machine.proofs.Lifted.{lift_steps}
 use Rattle.plain_machine.proofs.Lists.{map_kept}
-use Rattle.plain_machine.proofs.Reached.{take_as, put_as, taken_back, put_back, memory_peer}
+use Rattle.plain_machine.proofs.AtFootprints.{take_as, put_as, used_back, put_back, memory_peer}
 use Rattle.gaspi_types.proofs.Chains.{bind_then, found_there}
 use Rattle.gaspi_types.proofs.Items.{changed_at-found}
 
 -- what is found does not turn on the cause that is given where nothing is
-found_for : (posts : Posts) (queue target number : ℕ) (why why' : Why) (at : Found) → find_entry posts queue target number why ≡ Ok at → find_entry posts queue target number why' ≡ Ok at
+found_for : (posts : Posts) (queue target number : ℕ) (why why' : Why) (at : EntryPosition) → find_entry posts queue target number why ≡ Ok at → find_entry posts queue target number why' ≡ Ok at
 found_for posts queue target number why why' at is =
-    bind_then (found (slice_get posts.queues queue) why) _ _ is (λ q there more.
-    bind_then (found (slice_get q.lanes target) why) _ _ more (λ lane in_queue more.
-    bind_then (found (place_of lane number) why) _ _ more (λ place at_place more.
-    bind_then (found (slice_get lane place) why) _ _ more (λ entry in_lane more.
+    bind_then (ok_or (slice_get posts.queues queue) why) _ _ is (λ q there more.
+    bind_then (ok_or (slice_get q.lanes target) why) _ _ more (λ lane in_queue more.
+    bind_then (ok_or (position_of lane number) why) _ _ more (λ place at_place more.
+    bind_then (ok_or (slice_get lane place) why) _ _ more (λ entry in_lane more.
     rw (found_there (slice_get posts.queues queue) why q there)
     rw (found_there (slice_get q.lanes target) why lane in_queue)
-    rw (found_there (place_of lane number) why place at_place)
+    rw (found_there (position_of lane number) why place at_place)
     rw (found_there (slice_get lane place) why entry in_lane) more))))
 
-reached : (limits : Limits) (origin : ℕ) (touch : Kind → Touch) (posts : Posts) (queue target number : ℕ) (why : Why) (at : Found) → find_entry posts queue target number why ≡ Ok at
-    → entry_reach limits origin touch posts queue target number ≡ reach_of limits.ranks origin (touch at.entry.kind)
+reached : (limits : Limits) (origin : ℕ) (touch : Kind → DeclaredFootprint) (posts : Posts) (queue target number : ℕ) (why : Why) (at : EntryPosition) → find_entry posts queue target number why ≡ Ok at
+    → entry_footprint limits origin touch posts queue target number ≡ footprint_of limits.ranks origin (touch at.entry.kind)
 reached limits origin touch posts queue target number why at is = rw (found_for posts queue target number why whys.Put at is) refl
 
 -- a change of what is given, and a change of that
@@ -65,86 +65,86 @@ two_changes : {A B C : Type 0} (given : Result A Why) (f : A → B) (g : B → C
 two_changes (Ok x) f g = refl
 two_changes (Err why) f g = refl
 
-pub take_found : (s : State) (origin queue target number : ℕ) (outcome : Outcome) (p : Posts) (at : Found) (m : Memory) → slice_get s.posts origin ≡ Some p
-    → find_entry p queue target number whys.Take ≡ Ok at → m ≡ memory_at s.memories origin (reach_of s.limits.ranks origin (take_touch target at.entry.kind))
+pub take_found : (s : State) (origin queue target number : ℕ) (outcome : Outcome) (p : Posts) (at : EntryPosition) (m : Memory) → slice_get s.posts origin ≡ Some p
+    → find_entry p queue target number whys.Take ≡ Ok at → m ≡ memory_at s.memories origin (footprint_of s.limits.ranks origin (take_footprint target at.entry.kind))
     → step s (Take origin queue target number outcome)
-    ≡ (bytes_taken s.limits m at outcome >>= (λ bytes. Ok (record s { posts = slice_set s.posts origin (posts_after_take p queue target at.place bytes outcome) })))
+    ≡ (take_result s.limits m at outcome >>= (λ bytes. Ok (record s { posts = slice_set s.posts origin (posts_after_take p queue target at.position bytes outcome) })))
 take_found s origin queue target number outcome p at m there is memory =
     rw memory
-    (take_as s origin queue target number outcome p _ there (reached s.limits origin (take_touch target) p queue target number whys.Take at is)
-    ∙ rw is (two_changes (bytes_taken s.limits (memory_at s.memories origin (reach_of s.limits.ranks origin (take_touch target at.entry.kind))) at outcome)
-    (λ bytes. posts_after_take p queue target at.place bytes outcome) (λ after. record s { posts = slice_set s.posts origin after })))
+    (take_as s origin queue target number outcome p _ there (reached s.limits origin (take_footprint target) p queue target number whys.Take at is)
+    ∙ rw is (two_changes (take_result s.limits (memory_at s.memories origin (footprint_of s.limits.ranks origin (take_footprint target at.entry.kind))) at outcome)
+    (λ bytes. posts_after_take p queue target at.position bytes outcome) (λ after. record s { posts = slice_set s.posts origin after })))
 
-put_found : (s : State) (origin queue target number : ℕ) (outcome : Outcome) (p : Posts) (at : Found) (reach : Reach) → slice_get s.posts origin ≡ Some p
-    → find_entry p queue target number whys.Put ≡ Ok at → reach ≡ reach_of s.limits.ranks origin (put_touch target at.entry.kind)
+put_found : (s : State) (origin queue target number : ℕ) (outcome : Outcome) (p : Posts) (at : EntryPosition) (reach : Footprint) → slice_get s.posts origin ≡ Some p
+    → find_entry p queue target number whys.Put ≡ Ok at → reach ≡ footprint_of s.limits.ranks origin (put_footprint target at.entry.kind)
     → step s (Put origin queue target number outcome)
-    ≡ (memories_after_put s.memories origin reach at outcome >>= (λ memories. Ok (record s { posts = slice_set s.posts origin (posts_after_put p queue target at.place outcome); memories = memories })))
+    ≡ (memories_after_put s.memories origin reach at outcome >>= (λ memories. Ok (record s { posts = slice_set s.posts origin (posts_after_put p queue target at.position outcome); memories = memories })))
 put_found s origin queue target number outcome p at reach there is reached_it =
     let given : Result Memory Why = memory_after_put (memory_at s.memories origin reach) at outcome in
-    let after : Posts = posts_after_put p queue target at.place outcome in
-    put_as s origin queue target number outcome p reach there (reached s.limits origin (put_touch target) p queue target number whys.Put at is ∙ sym reached_it)
-    ∙ rw is (two_changes {B = Worked} given (λ memory. record { posts = after; memory = memory })
+    let after : Posts = posts_after_put p queue target at.position outcome in
+    put_as s origin queue target number outcome p reach there (reached s.limits origin (put_footprint target) p queue target number whys.Put at is ∙ sym reached_it)
+    ∙ rw is (two_changes {B = PostsAndMemory} given (λ memory. record { posts = after; memory = memory })
     (λ w. record s { posts = slice_set s.posts origin w.posts; memories = with_memory_at s.memories origin reach w.memory })
     ∙ sym (two_changes given (λ memory. with_memory_at s.memories origin reach memory) (λ memories. record s { posts = slice_set s.posts origin after; memories = memories })))
 
 -- in a state with a memory for each rank, a put reaches the memory of its target
-memory_named : (memories : List Memory) (ranks me target : ℕ) → length memories ≡ ranks → memory_at memories me (reach_of ranks me (touches.MemoryOf target)) ≡ memory_or_none (slice_get memories target)
+memory_named : (memories : List Memory) (ranks me target : ℕ) → length memories ≡ ranks → memory_at memories me (footprint_of ranks me (touches.MemoryOf target)) ≡ memory_or_none (slice_get memories target)
 memory_named memories ranks me target all = by_tests (target == me) (nat_lt target ranks) refl refl
   where
-    by_item : (o : Option Memory) → slice_get memories target ≡ o → nat_lt target ranks ≡ false → no_memory ≡ memory_or_none (slice_get memories target)
+    by_item : (o : Option Memory) → slice_get memories target ≡ o → nat_lt target ranks ≡ false → empty_memory ≡ memory_or_none (slice_get memories target)
     by_item None there far = rw there refl
     by_item (Some m) there far = let within = slice_get_within memories target m there in absurd (let no : ⊥ = grind (arith, nat_tests) in no)
 
-    by_tests : (same less : Bool) → (target == me) ≡ same → nat_lt target ranks ≡ less → memory_at memories me (reach_of ranks me (touches.MemoryOf target)) ≡ memory_or_none (slice_get memories target)
+    by_tests : (same less : Bool) → (target == me) ≡ same → nat_lt target ranks ≡ less → memory_at memories me (footprint_of ranks me (touches.MemoryOf target)) ≡ memory_or_none (slice_get memories target)
     by_tests true less a b = rw a (ap (λ (n : ℕ). memory_or_none (slice_get memories n)) (sym (eqb-true target me a)))
     by_tests false true a b = rw (a, b) refl
     by_tests false false a b = rw (a, b) (by_item (slice_get memories target) refl b)
 
 -- so the machine's outcome is that on the memory of the target, also where a transfer reaches another one
 take_outcome_named : (memories : List Memory) (ranks me target : ℕ) (kind : Kind) → length memories ≡ ranks
-    → take_outcome (memory_at memories me (reach_of ranks me (take_touch target kind))) kind ≡ take_outcome (memory_or_none (slice_get memories target)) kind
+    → take_outcome (memory_at memories me (footprint_of ranks me (take_footprint target kind))) kind ≡ take_outcome (memory_or_none (slice_get memories target)) kind
 take_outcome_named memories ranks me target (Write own to) all = refl
 take_outcome_named memories ranks me target (Read own to) all = ap (λ (m : Memory). outcome_at m to.segment to.generation) (memory_named memories ranks me target all)
 take_outcome_named memories ranks me target (Notify to value) all = refl
 take_outcome_named memories ranks me target (ReadNote own) all = refl
 
 put_outcome_named : (memories : List Memory) (ranks me target : ℕ) (kind : Kind) → length memories ≡ ranks
-    → put_outcome (memory_at memories me (reach_of ranks me (put_touch target kind))) kind ≡ put_outcome (memory_or_none (slice_get memories target)) kind
+    → put_outcome (memory_at memories me (footprint_of ranks me (put_footprint target kind))) kind ≡ put_outcome (memory_or_none (slice_get memories target)) kind
 put_outcome_named memories ranks me target (Write own to) all = ap (λ (m : Memory). outcome_at m to.segment to.generation) (memory_named memories ranks me target all)
 put_outcome_named memories ranks me target (Read own to) all = refl
 put_outcome_named memories ranks me target (Notify to value) all = ap (λ (m : Memory). outcome_at m to.segment to.generation) (memory_named memories ranks me target all)
 put_outcome_named memories ranks me target (ReadNote own) all = refl
 
 -- the event of the take, and of the put, of an entry that was found
-pub take_event_found : (s : State) (id : LaneId) (number : ℕ) (given : Option Outcome) (p : Posts) (at : Found) (m : Memory) → length s.memories ≡ s.limits.ranks → slice_get s.posts id.origin ≡ Some p
-    → find_entry p id.queue id.target number whys.Take ≡ Ok at → m ≡ memory_at s.memories id.origin (reach_of s.limits.ranks id.origin (take_touch id.target at.entry.kind))
+pub take_event_found : (s : State) (id : LaneId) (number : ℕ) (given : Option Outcome) (p : Posts) (at : EntryPosition) (m : Memory) → length s.memories ≡ s.limits.ranks → slice_get s.posts id.origin ≡ Some p
+    → find_entry p id.queue id.target number whys.Take ≡ Ok at → m ≡ memory_at s.memories id.origin (footprint_of s.limits.ranks id.origin (take_footprint id.target at.entry.kind))
     → take_event s id number given ≡ Take id.origin id.queue id.target number (unwrap_or given (take_outcome m at.entry.kind))
 take_event_found s id number (Some outcome) p at m all there is reached_it = refl
 take_event_found s id number None p at m all there is reached_it =
     rw (there, found_for p id.queue id.target number whys.Take whys.Put at is)
     (ap (Take id.origin id.queue id.target number) (sym (ap (λ (x : Memory). take_outcome x at.entry.kind) reached_it ∙ take_outcome_named s.memories s.limits.ranks id.origin id.target at.entry.kind all)))
 
-pub event_found : (s : State) (id : LaneId) (number : ℕ) (given : Option Outcome) (p : Posts) (at : Found) (reach : Reach) → length s.memories ≡ s.limits.ranks → slice_get s.posts id.origin ≡ Some p
-    → find_entry p id.queue id.target number whys.Put ≡ Ok at → reach ≡ reach_of s.limits.ranks id.origin (put_touch id.target at.entry.kind)
+pub event_found : (s : State) (id : LaneId) (number : ℕ) (given : Option Outcome) (p : Posts) (at : EntryPosition) (reach : Footprint) → length s.memories ≡ s.limits.ranks → slice_get s.posts id.origin ≡ Some p
+    → find_entry p id.queue id.target number whys.Put ≡ Ok at → reach ≡ footprint_of s.limits.ranks id.origin (put_footprint id.target at.entry.kind)
     → put_event s id number given ≡ Put id.origin id.queue id.target number (reached_outcome given s.memories id.origin reach at)
 event_found s id number (Some outcome) p at reach all there is reached_it = refl
 event_found s id number None p at reach all there is reached_it =
     rw (there, is)
     (ap (Put id.origin id.queue id.target number)
-    (sym (ap (λ (r : Reach). put_outcome (memory_at s.memories id.origin r) at.entry.kind) reached_it ∙ put_outcome_named s.memories s.limits.ranks id.origin id.target at.entry.kind all)))
+    (sym (ap (λ (r : Footprint). put_outcome (memory_at s.memories id.origin r) at.entry.kind) reached_it ∙ put_outcome_named s.memories s.limits.ranks id.origin id.target at.entry.kind all)))
 
 -- the put into the memory that is reached, among all memories
-pub put_reaches : (memories : List Memory) (me : ℕ) (reach : Reach) (at : Found) (given : Option Outcome) (result : Result (Unit {0}) StepFault) (m m' : Memory)
+pub put_has_footprint : (memories : List Memory) (me : ℕ) (reach : Footprint) (at : EntryPosition) (given : Option Outcome) (result : Result (Unit {0}) StepFault) (m m' : Memory)
     → memory_at memories me reach ≡ m → with_memory_at memories me reach m ≡ memories → Steps {S = Memory} result m m' (memory_after_put m at (unwrap_or given (put_outcome m at.entry.kind)))
     → Steps {S = List Memory} result memories (with_memory_at memories me reach m') (memories_after_put memories me reach at (reached_outcome given memories me reach at))
-put_reaches memories me reach at given result m m' memory kept steps =
+put_has_footprint memories me reach at given result m m' memory kept steps =
     rw memory (lift_steps {S = Memory} {T = List Memory} result m m' (memory_after_put m at (unwrap_or given (put_outcome m at.entry.kind))) memories (λ w. with_memory_at memories me reach w) kept steps)
 
-pub outcome_reaches : (memories : List Memory) (me : ℕ) (reach : Reach) (at : Found) (given : Option Outcome) (result : Result Outcome StepFault) (m : Memory)
+pub outcome_has_footprint : (memories : List Memory) (me : ℕ) (reach : Footprint) (at : EntryPosition) (given : Option Outcome) (result : Result Outcome StepFault) (m : Memory)
     → memory_at memories me reach ≡ m → IfOk result (λ outcome. outcome ≡ unwrap_or given (put_outcome m at.entry.kind)) → IfOk result (λ outcome. outcome ≡ reached_outcome given memories me reach at)
-outcome_reaches memories me reach at given result m memory is = rw memory is
+outcome_has_footprint memories me reach at given result m memory is = rw memory is
 
-pub peer_within : (ranks me : ℕ) (touch : Touch) (n rank : ℕ) → ranks ≡ n → reach_of ranks me touch ≡ PeerMemory rank → rank < n
+pub peer_within : (ranks me : ℕ) (touch : DeclaredFootprint) (n rank : ℕ) → ranks ≡ n → footprint_of ranks me touch ≡ PeerMemory rank → rank < n
 peer_within ranks me touch n rank same is = subst (λ (k : ℕ). rank < k) same (memory_peer ranks me rank touch is).within
 
 -- a step that is not made where what is given is none
@@ -160,49 +160,49 @@ less_at f table place old new there less =
     map-set f table place new ∙ (let one : f new ≡ f old - 1 = omega (arith, less) in ap (slice_set (map f table) place) one) ∙ sym (changed_at-found (map f table) place (f old) (λ n. n - 1) mapped)
 
 -- a put keeps the room that its origin has taken, and so does a take, but for what is spared
-pub take_taken : (s t : State) (origin queue target number : ℕ) (outcome : Outcome) → step s (Take origin queue target number outcome) ≡ Ok t → map taken_of t.posts ≡ spared (map taken_of s.posts) origin outcome
-take_taken s t origin queue target number outcome is =
-    let b = taken_back s t origin queue target number outcome is in
-    ap (λ (x : State). map taken_of x.posts) (sym b.is) ∙ by_outcome outcome b.p b.after b.there (take_keeps s.limits b.p b.memory queue target number outcome b.after b.steps).taken
+pub take_used : (s t : State) (origin queue target number : ℕ) (outcome : Outcome) → step s (Take origin queue target number outcome) ≡ Ok t → map used_room_of t.posts ≡ released_by_take (map used_room_of s.posts) origin outcome
+take_used s t origin queue target number outcome is =
+    let b = used_back s t origin queue target number outcome is in
+    ap (λ (x : State). map used_room_of x.posts) (sym b.is) ∙ by_outcome outcome b.p b.after b.there (take_keeps s.limits b.p b.memory queue target number outcome b.after b.steps).used
   where
     by_outcome : (outcome : Outcome) (p after : Posts) → slice_get s.posts origin ≡ Some p → after.events + owed after + spares_of outcome ≡ p.events + owed p
-        → map taken_of (slice_set s.posts origin after) ≡ spared (map taken_of s.posts) origin outcome
-    by_outcome Applied p after there kept = map_kept taken_of s.posts origin p after there (omega (arith, kept))
-    by_outcome Failed p after there kept = less_at taken_of s.posts origin p after there kept
+        → map used_room_of (slice_set s.posts origin after) ≡ released_by_take (map used_room_of s.posts) origin outcome
+    by_outcome Applied p after there kept = map_kept used_room_of s.posts origin p after there (omega (arith, kept))
+    by_outcome Failed p after there kept = less_at used_room_of s.posts origin p after there kept
 
-pub put_keeps_taken : (s t : State) (origin queue target number : ℕ) (outcome : Outcome) → step s (Put origin queue target number outcome) ≡ Ok t → map taken_of t.posts ≡ map taken_of s.posts
-put_keeps_taken s t origin queue target number outcome is =
+pub put_keeps_used : (s t : State) (origin queue target number : ℕ) (outcome : Outcome) → step s (Put origin queue target number outcome) ≡ Ok t → map used_room_of t.posts ≡ map used_room_of s.posts
+put_keeps_used s t origin queue target number outcome is =
     let b = put_back s t origin queue target number outcome is in
-    ap (map taken_of) (sym b.posts)
-    ∙ map_kept taken_of s.posts origin b.p b.after.posts b.there (let kept = (put_keeps b.p b.memory queue target number outcome b.after b.steps).taken in omega (arith, kept))
+    ap (map used_room_of) (sym b.posts)
+    ∙ map_kept used_room_of s.posts origin b.p b.after.posts b.there (let kept = (put_keeps b.p b.memory queue target number outcome b.after b.steps).used in omega (arith, kept))
 
 -- a take and a put that are made
-pub take_done : (s : State) (id : LaneId) (number : ℕ) (given : Option Outcome) (p p' : Posts) (at : Found) (m : Memory) (taken : Taken) → length s.memories ≡ s.limits.ranks → slice_get s.posts id.origin ≡ Some p
-    → find_entry p id.queue id.target number whys.Take ≡ Ok at → m ≡ memory_at s.memories id.origin (reach_of s.limits.ranks id.origin (take_touch id.target at.entry.kind))
-    → outcome_of_taken taken ≡ unwrap_or given (take_outcome m at.entry.kind) → GivesTaken (Ok taken) (bytes_taken s.limits m at (unwrap_or given (take_outcome m at.entry.kind)))
-    → p' ≡ posts_taken p id.queue id.target at.place taken → step s (take_event s id number given) ≡ Ok (record s { posts = slice_set s.posts id.origin p' })
+pub take_done : (s : State) (id : LaneId) (number : ℕ) (given : Option Outcome) (p p' : Posts) (at : EntryPosition) (m : Memory) (taken : TakeResult) → length s.memories ≡ s.limits.ranks → slice_get s.posts id.origin ≡ Some p
+    → find_entry p id.queue id.target number whys.Take ≡ Ok at → m ≡ memory_at s.memories id.origin (footprint_of s.limits.ranks id.origin (take_footprint id.target at.entry.kind))
+    → take_result_outcome taken ≡ unwrap_or given (take_outcome m at.entry.kind) → IsTakeResult (Ok taken) (take_result s.limits m at (unwrap_or given (take_outcome m at.entry.kind)))
+    → p' ≡ posts_after_take_result p id.queue id.target at.position taken → step s (take_event s id number given) ≡ Ok (record s { posts = slice_set s.posts id.origin p' })
 take_done s id number given p p' at m taken all there is memory made gives after =
     ap (step s) (take_event_found s id number given p at m all there is memory ∙ ap (Take id.origin id.queue id.target number) (sym made))
-    ∙ (take_found s id.origin id.queue id.target number (outcome_of_taken taken) p at m there is memory
-    ∙ (by_taken taken (subst (λ (o : Outcome). GivesTaken (Ok taken) (bytes_taken s.limits m at o)) (sym made) gives)
+    ∙ (take_found s id.origin id.queue id.target number (take_result_outcome taken) p at m there is memory
+    ∙ (by_taken taken (subst (λ (o : Outcome). IsTakeResult (Ok taken) (take_result s.limits m at o)) (sym made) gives)
     ∙ ap (λ (q : Posts). Ok (record s { posts = slice_set s.posts id.origin q })) (sym after)))
   where
     failed : (r : Result (List ℕ) Why) → IsOk r
-        → (r >>= (λ bytes. Ok (record s { posts = slice_set s.posts id.origin (posts_after_take p id.queue id.target at.place bytes Failed) })))
-        ≡ Ok (record s { posts = slice_set s.posts id.origin (posts_after_take p id.queue id.target at.place [] Failed) })
+        → (r >>= (λ bytes. Ok (record s { posts = slice_set s.posts id.origin (posts_after_take p id.queue id.target at.position bytes Failed) })))
+        ≡ Ok (record s { posts = slice_set s.posts id.origin (posts_after_take p id.queue id.target at.position [] Failed) })
     failed (Ok bytes) made = refl
     failed (Err why) made = absurd (let no : ⊥ = cc in no)
 
-    by_taken : (taken : Taken) → GivesTaken (Ok taken) (bytes_taken s.limits m at (outcome_of_taken taken))
-        → (bytes_taken s.limits m at (outcome_of_taken taken) >>= (λ bytes. Ok (record s { posts = slice_set s.posts id.origin (posts_after_take p id.queue id.target at.place bytes (outcome_of_taken taken)) })))
-        ≡ Ok (record s { posts = slice_set s.posts id.origin (posts_taken p id.queue id.target at.place taken) })
+    by_taken : (taken : TakeResult) → IsTakeResult (Ok taken) (take_result s.limits m at (take_result_outcome taken))
+        → (take_result s.limits m at (take_result_outcome taken) >>= (λ bytes. Ok (record s { posts = slice_set s.posts id.origin (posts_after_take p id.queue id.target at.position bytes (take_result_outcome taken)) })))
+        ≡ Ok (record s { posts = slice_set s.posts id.origin (posts_after_take_result p id.queue id.target at.position taken) })
     by_taken (Bytes bytes) gives = rw gives refl
-    by_taken taken_is.Failed gives = failed (bytes_taken s.limits m at Failed) gives
+    by_taken taken_is.Failed gives = failed (take_result s.limits m at Failed) gives
 
 -- one that gives nothing changes nothing
-pub take_fault : (s : State) (id : LaneId) (number : ℕ) (given : Option Outcome) (p : Posts) (at : Found) (m : Memory) (fault : StepFault) → length s.memories ≡ s.limits.ranks → slice_get s.posts id.origin ≡ Some p
-    → find_entry p id.queue id.target number whys.Take ≡ Ok at → m ≡ memory_at s.memories id.origin (reach_of s.limits.ranks id.origin (take_touch id.target at.entry.kind))
-    → GivesTaken (Err fault) (bytes_taken s.limits m at (unwrap_or given (take_outcome m at.entry.kind))) → Steps (Err fault) s s (step s (take_event s id number given))
+pub take_fault : (s : State) (id : LaneId) (number : ℕ) (given : Option Outcome) (p : Posts) (at : EntryPosition) (m : Memory) (fault : StepFault) → length s.memories ≡ s.limits.ranks → slice_get s.posts id.origin ≡ Some p
+    → find_entry p id.queue id.target number whys.Take ≡ Ok at → m ≡ memory_at s.memories id.origin (footprint_of s.limits.ranks id.origin (take_footprint id.target at.entry.kind))
+    → IsTakeResult (Err fault) (take_result s.limits m at (unwrap_or given (take_outcome m at.entry.kind))) → Steps (Err fault) s s (step s (take_event s id number given))
 take_fault s id number given p at m (faults.Illegal why) all there is memory gives = (
   ap (step s) (take_event_found s id number given p at m all there is memory)
       ∙ (take_found s id.origin id.queue id.target number (unwrap_or given (take_outcome m at.entry.kind)) p at m there is memory ∙ rw gives refl),
@@ -210,24 +210,24 @@ take_fault s id number given p at m (faults.Illegal why) all there is memory giv
 )
 take_fault s id number given p at m faults.NoMemory all there is memory gives = refl
 
-pub put_done : (s : State) (id : LaneId) (number : ℕ) (given : Option Outcome) (outcome : Outcome) (p p' : Posts) (at : Found) (reach : Reach) (memories' : List Memory) → length s.memories ≡ s.limits.ranks
-    → slice_get s.posts id.origin ≡ Some p → find_entry p id.queue id.target number whys.Put ≡ Ok at → reach ≡ reach_of s.limits.ranks id.origin (put_touch id.target at.entry.kind)
+pub put_done : (s : State) (id : LaneId) (number : ℕ) (given : Option Outcome) (outcome : Outcome) (p p' : Posts) (at : EntryPosition) (reach : Footprint) (memories' : List Memory) → length s.memories ≡ s.limits.ranks
+    → slice_get s.posts id.origin ≡ Some p → find_entry p id.queue id.target number whys.Put ≡ Ok at → reach ≡ footprint_of s.limits.ranks id.origin (put_footprint id.target at.entry.kind)
     → outcome ≡ reached_outcome given s.memories id.origin reach at → memories_after_put s.memories id.origin reach at (reached_outcome given s.memories id.origin reach at) ≡ Ok memories'
-    → p' ≡ posts_after_put p id.queue id.target at.place outcome → step s (put_event s id number given) ≡ Ok (record s { posts = slice_set s.posts id.origin p'; memories = memories' })
+    → p' ≡ posts_after_put p id.queue id.target at.position outcome → step s (put_event s id number given) ≡ Ok (record s { posts = slice_set s.posts id.origin p'; memories = memories' })
 put_done s id number given outcome p p' at reach memories' all there is reached_it made left after =
     ap (step s) (event_found s id number given p at reach all there is reached_it ∙ ap (Put id.origin id.queue id.target number) (sym made))
     ∙ (put_found s id.origin id.queue id.target number outcome p at reach there is reached_it
-    ∙ (ap (λ (r : Result (List Memory) Why). r >>= (λ memories. Ok (record s { posts = slice_set s.posts id.origin (posts_after_put p id.queue id.target at.place outcome); memories = memories })))
+    ∙ (ap (λ (r : Result (List Memory) Why). r >>= (λ memories. Ok (record s { posts = slice_set s.posts id.origin (posts_after_put p id.queue id.target at.position outcome); memories = memories })))
     (ap (memories_after_put s.memories id.origin reach at) made ∙ left)
     ∙ ap (λ (q : Posts). Ok (record s { posts = slice_set s.posts id.origin q; memories = memories' })) (sym after)))
 
 -- one whose put is none changes nothing
-pub put_fault : (s : State) (id : LaneId) (number : ℕ) (given : Option Outcome) (p : Posts) (at : Found) (reach : Reach) (memories' : List Memory) (fault : StepFault) → length s.memories ≡ s.limits.ranks
-    → slice_get s.posts id.origin ≡ Some p → find_entry p id.queue id.target number whys.Put ≡ Ok at → reach ≡ reach_of s.limits.ranks id.origin (put_touch id.target at.entry.kind)
+pub put_fault : (s : State) (id : LaneId) (number : ℕ) (given : Option Outcome) (p : Posts) (at : EntryPosition) (reach : Footprint) (memories' : List Memory) (fault : StepFault) → length s.memories ≡ s.limits.ranks
+    → slice_get s.posts id.origin ≡ Some p → find_entry p id.queue id.target number whys.Put ≡ Ok at → reach ≡ footprint_of s.limits.ranks id.origin (put_footprint id.target at.entry.kind)
     → Steps {S = List Memory} (Err fault) s.memories memories' (memories_after_put s.memories id.origin reach at (reached_outcome given s.memories id.origin reach at))
     → Steps (Err fault) s (record s { memories = memories' }) (step s (put_event s id number given))
 put_fault s id number given p at reach memories' fault all there is reached_it steps =
     let outcome : Outcome = reached_outcome given s.memories id.origin reach at in
     steps_fault {A = List Memory} fault s.memories memories' s (λ ms. record s { memories = ms }) (memories_after_put s.memories id.origin reach at outcome)
-    (λ memories. Ok (record s { posts = slice_set s.posts id.origin (posts_after_put p id.queue id.target at.place outcome); memories = memories })) (step s (put_event s id number given))
+    (λ memories. Ok (record s { posts = slice_set s.posts id.origin (posts_after_put p id.queue id.target at.position outcome); memories = memories })) (step s (put_event s id number given))
     (ap (step s) (event_found s id number given p at reach all there is reached_it) ∙ put_found s id.origin id.queue id.target number outcome p at reach there is reached_it) refl steps

@@ -6,16 +6,16 @@ use Rattle.std.proofs.lemmas.List.{length-replicate}
 use Rattle.std.proofs.lemmas.List.Folds.{sum_by-replicate}
 use Rattle.std.proofs.lemmas.List.FromFn.{length-map-range_with_len, get_or-map-range_with_len}
 use Rattle.std.proofs.lemmas.Option.{get_or_from_slice_get, slice_get_within}
-use Rattle.gaspi_types.specs.World.{World, are_limits}
+use Rattle.gaspi_types.specs.World.{ShapeValue, are_limits}
 use Rattle.gaspi_types.specs.Lanes.{lane_owed}
 use Rattle.gaspi_model.specs.State.{opening, opening_posts, opening_memory, opening_thread, opening_queue, is_running, entries_owed}
 use Rattle.gaspi_types.specs.Queues.{queue_owed}
 use Rattle.gaspi_model.specs.declared.states.Posts.{Posts}
-use Rattle.plain_machine.specs.Machine.{IsFitting, taken_of}
-use Rattle.plain_machine.specs.Standing.{lane_named, queue_named, rank_named, standing_lanes}
-use Rattle.plain_machine.specs.declared.standing.LaneId.{LaneId}
+use Rattle.plain_machine.specs.Machine.{HasBoundedNumbers, used_room_of}
+use Rattle.plain_machine.specs.NonemptyLanes.{lane_if_nonempty, queue_nonempty_lanes, rank_nonempty_lanes, nonempty_lanes}
+use Rattle.plain_machine.specs.declared.nonempty_lanes.LaneId.{LaneId}
 
-pub fitting-opening : (w : World) → are_limits w.limits ≡ true → IsFitting (opening w)
+pub fitting-opening : (w : ShapeValue) → are_limits w.limits ≡ true → HasBoundedNumbers (opening w)
 fitting-opening w limited = record {
   ranks = rw (length-map-range_with_len (opening_posts w) 0 w.limits.ranks) (grind (arith, nat_tests));
   memories = length-map-range_with_len (opening_memory w) 0 w.limits.ranks ∙ sym (length-map-range_with_len (opening_posts w) 0 w.limits.ranks);
@@ -33,7 +33,7 @@ fitting-opening w limited = record {
         rw is rw (length-replicate w.limits.queues (opening_queue w.limits.ranks)) queue_count
 
 -- no entry stands there
-owed-opening : (w : World) (rank : ℕ) → count_by is_running (map (opening_thread w rank) (range_with_len 0 4)) ≡ taken_of (opening_posts w rank)
+owed-opening : (w : ShapeValue) (rank : ℕ) → count_by is_running (map (opening_thread w rank) (range_with_len 0 4)) ≡ used_room_of (opening_posts w rank)
 owed-opening w rank =
     let lanes = sum_by-replicate lane_owed w.limits.ranks [] in
     let queues = sum_by-replicate queue_owed w.limits.queues (opening_queue w.limits.ranks) in
@@ -49,9 +49,9 @@ map-after-map : {X Y : Type 0} (f : X → Y) (g : ℕ → X) (ns : List ℕ) →
 map-after-map f g [] = refl
 map-after-map {X} {Y} f g (n ∷ ns) = ap (λ (ys : List Y). f (g n) ∷ ys) (map-after-map f g ns)
 
-pub taken-opening : (w : World) (ns : List ℕ)
-    → map (λ rank. count_by is_running (map (opening_thread w rank) (range_with_len 0 4))) ns ≡ map taken_of (map (opening_posts w) ns)
-taken-opening w ns = same-map _ _ (owed-opening w) ns ∙ sym (map-after-map taken_of (opening_posts w) ns)
+pub used-opening : (w : ShapeValue) (ns : List ℕ)
+    → map (λ rank. count_by is_running (map (opening_thread w rank) (range_with_len 0 4))) ns ≡ map used_room_of (map (opening_posts w) ns)
+used-opening w ns = same-map _ _ (owed-opening w) ns ∙ sym (map-after-map used_room_of (opening_posts w) ns)
 
 -- no lane has an entry there
 
@@ -63,11 +63,11 @@ none-mapped : {X : Type 0} (h : ℕ × X → List LaneId) (f : ℕ → X) (n : �
 none-mapped h f n [] none = refl
 none-mapped {X} h f n (k ∷ ns) none = ap (λ (ys : List LaneId). ys ++ flat_map h (enumerate_from (n + 1) (map f ns))) (none n k) ∙ none-mapped h f (n + 1) ns none
 
-pub standing-opening : (w : World) (ns : List ℕ) → [] ≡ standing_lanes (map (opening_posts w) ns)
-standing-opening w ns = sym (none-mapped rank_named (opening_posts w) 0 ns (λ origin rank. of_rank origin rank))
+pub nonempty-opening : (w : ShapeValue) (ns : List ℕ) → [] ≡ nonempty_lanes (map (opening_posts w) ns)
+nonempty-opening w ns = sym (none-mapped rank_nonempty_lanes (opening_posts w) 0 ns (λ origin rank. of_rank origin rank))
   where
-    of_queue : (origin queue : ℕ) → queue_named origin (queue, opening_queue w.limits.ranks) ≡ []
-    of_queue origin queue = none-replicated (lane_named origin queue) 0 w.limits.ranks [] (λ target. refl)
+    of_queue : (origin queue : ℕ) → queue_nonempty_lanes origin (queue, opening_queue w.limits.ranks) ≡ []
+    of_queue origin queue = none-replicated (lane_if_nonempty origin queue) 0 w.limits.ranks [] (λ target. refl)
 
-    of_rank : (origin rank : ℕ) → rank_named (origin, opening_posts w rank) ≡ []
-    of_rank origin rank = none-replicated (queue_named origin) 0 w.limits.queues (opening_queue w.limits.ranks) (λ queue. of_queue origin queue)
+    of_rank : (origin rank : ℕ) → rank_nonempty_lanes (origin, opening_posts w rank) ≡ []
+    of_rank origin rank = none-replicated (queue_nonempty_lanes origin) 0 w.limits.queues (opening_queue w.limits.ranks) (λ queue. of_queue origin queue)

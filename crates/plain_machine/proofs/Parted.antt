@@ -5,8 +5,8 @@ use Rattle.std.proofs.lemmas.Bool.{lt-ltb, le-ltb, eq-eqb, ne_eqb}
 use Rattle.gaspi_types.specs.declared.entries.Entry.{Entry}
 use Rattle.gaspi_types.specs.declared.entries.Queue.{Queue}
 use Rattle.gaspi_model.specs.declared.states.Posts.{Posts}
-use Rattle.plain_machine.specs.Standing.{lane_id, lane_named, queue_named, rank_named, standing_lanes, is_before}
-use Rattle.plain_machine.specs.declared.standing.LaneId.{LaneId}
+use Rattle.plain_machine.specs.NonemptyLanes.{lane_id, lane_if_nonempty, queue_nonempty_lanes, rank_nonempty_lanes, nonempty_lanes, is_before}
+use Rattle.plain_machine.specs.declared.nonempty_lanes.LaneId.{LaneId}
 
 -- each of the lanes is before one, or none is
 abbrev pub AreBefore : LaneId → Bool → List LaneId → Type 0
@@ -33,15 +33,15 @@ are_mapped id b h n (x ∷ xs) each =
     (are_mapped id b h (n + 1) xs (λ j k y at. each j (suc k) y (omega (arith, at))))
 
 -- all lanes of a lane's place, of a queue, of a rank
-are_lane : (id : LaneId) (b : Bool) (origin queue target : ℕ) (lane : List Entry) → is_before (lane_id origin queue target) id ≡ b → AreBefore id b (lane_named origin queue (target, lane))
+are_lane : (id : LaneId) (b : Bool) (origin queue target : ℕ) (lane : List Entry) → is_before (lane_id origin queue target) id ≡ b → AreBefore id b (lane_if_nonempty origin queue (target, lane))
 are_lane id b origin queue target [] is = tt
 are_lane id b origin queue target (e ∷ lane) is = (is, tt)
 
-are_queue : (id : LaneId) (b : Bool) (origin queue : ℕ) (q : Queue) → ((target : ℕ) → is_before (lane_id origin queue target) id ≡ b) → AreBefore id b (queue_named origin (queue, q))
-are_queue id b origin queue q is = are_mapped id b (lane_named origin queue) 0 q.lanes (λ target k lane at. are_lane id b origin queue target lane (is target))
+are_queue : (id : LaneId) (b : Bool) (origin queue : ℕ) (q : Queue) → ((target : ℕ) → is_before (lane_id origin queue target) id ≡ b) → AreBefore id b (queue_nonempty_lanes origin (queue, q))
+are_queue id b origin queue q is = are_mapped id b (lane_if_nonempty origin queue) 0 q.lanes (λ target k lane at. are_lane id b origin queue target lane (is target))
 
-are_rank : (id : LaneId) (b : Bool) (origin : ℕ) (p : Posts) → ((queue target : ℕ) → is_before (lane_id origin queue target) id ≡ b) → AreBefore id b (rank_named (origin, p))
-are_rank id b origin p is = are_mapped id b (queue_named origin) 0 p.queues (λ queue k q at. are_queue id b origin queue q (is queue))
+are_rank : (id : LaneId) (b : Bool) (origin : ℕ) (p : Posts) → ((queue target : ℕ) → is_before (lane_id origin queue target) id ≡ b) → AreBefore id b (rank_nonempty_lanes (origin, p))
+are_rank id b origin p is = are_mapped id b (queue_nonempty_lanes origin) 0 p.queues (λ queue k q at. are_queue id b origin queue q (is queue))
 
 -- lists with others in front or behind differ in the same part
 parted_behind : (id : LaneId) (old new part part' rest : List LaneId) → IsParted id old new part part' → AreBefore id false rest → IsParted id (old ++ rest) (new ++ rest) part part'
@@ -124,9 +124,9 @@ behind_target o q t t' less =
 pub parted_by : (posts : List Posts) (o q t : ℕ) (p p' : Posts) (qu qu' : Queue) (lane lane' : List Entry)
     → slice_get posts o ≡ Some p → slice_get p.queues q ≡ Some qu → slice_get qu.lanes t ≡ Some lane
     → p'.queues ≡ slice_set p.queues q qu' → qu'.lanes ≡ slice_set qu.lanes t lane'
-    → IsParted (lane_id o q t) (standing_lanes posts) (standing_lanes (slice_set posts o p')) (lane_named o q (t, lane)) (lane_named o q (t, lane'))
+    → IsParted (lane_id o q t) (nonempty_lanes posts) (nonempty_lanes (slice_set posts o p')) (lane_if_nonempty o q (t, lane)) (lane_if_nonempty o q (t, lane'))
 parted_by posts o q t p p' qu qu' lane lane' p_there q_there there queues lanes =
-    parted_in id rank_named 0 o posts p p' (lane_named o q (t, lane)) (lane_named o q (t, lane')) p_there
+    parted_in id rank_nonempty_lanes 0 o posts p p' (lane_if_nonempty o q (t, lane)) (lane_if_nonempty o q (t, lane')) p_there
     (λ j k z at less. are_rank id true j z (λ queue target. before_rank j queue target o q t (omega (arith, at, less))))
     (λ j k z at less. are_rank id false j z (λ queue target. behind_rank j queue target o q t (omega (arith, at, less))))
     (λ j at. in_rank j (omega (arith, at)))
@@ -134,10 +134,10 @@ parted_by posts o q t p p' qu qu' lane lane' p_there q_there there queues lanes 
     id : LaneId
     id = lane_id o q t
 
-    in_queue : (j : ℕ) → j ≡ q → IsParted id (queue_named o (j, qu)) (queue_named o (j, qu')) (lane_named o q (t, lane)) (lane_named o q (t, lane'))
+    in_queue : (j : ℕ) → j ≡ q → IsParted id (queue_nonempty_lanes o (j, qu)) (queue_nonempty_lanes o (j, qu')) (lane_if_nonempty o q (t, lane)) (lane_if_nonempty o q (t, lane'))
     in_queue j at =
         rw at (rw lanes
-        (parted_in id (lane_named o q) 0 t qu.lanes lane lane' (lane_named o q (t, lane)) (lane_named o q (t, lane')) there
+        (parted_in id (lane_if_nonempty o q) 0 t qu.lanes lane lane' (lane_if_nonempty o q (t, lane)) (lane_if_nonempty o q (t, lane')) there
         (λ j k z at less. are_lane id true o q j z (before_target o q j t (omega (arith, at, less))))
         (λ j k z at less. are_lane id false o q j z (behind_target o q j t (omega (arith, at, less))))
         (λ j at. in_lane j (omega (arith, at)))))
@@ -146,21 +146,21 @@ parted_by posts o q t p p' qu qu' lane lane' p_there q_there there queues lanes 
         alone [] = refl
         alone (x ∷ xs) = ap (λ (ys : List LaneId). x ∷ ys) (alone xs)
 
-        in_lane : (j : ℕ) → j ≡ t → IsParted id (lane_named o q (j, lane)) (lane_named o q (j, lane')) (lane_named o q (t, lane)) (lane_named o q (t, lane'))
+        in_lane : (j : ℕ) → j ≡ t → IsParted id (lane_if_nonempty o q (j, lane)) (lane_if_nonempty o q (j, lane')) (lane_if_nonempty o q (t, lane)) (lane_if_nonempty o q (t, lane'))
         in_lane j at =
-            subst (λ (k : ℕ). IsParted id (lane_named o q (k, lane)) (lane_named o q (k, lane')) (lane_named o q (t, lane)) (lane_named o q (t, lane'))) (sym at) (record {
+            subst (λ (k : ℕ). IsParted id (lane_if_nonempty o q (k, lane)) (lane_if_nonempty o q (k, lane')) (lane_if_nonempty o q (t, lane)) (lane_if_nonempty o q (t, lane'))) (sym at) (record {
               front = [];
               back = [];
-              was = alone (lane_named o q (t, lane));
-              is = alone (lane_named o q (t, lane'));
+              was = alone (lane_if_nonempty o q (t, lane));
+              is = alone (lane_if_nonempty o q (t, lane'));
               earlier = tt;
               later = tt;
             })
 
-    in_rank : (j : ℕ) → j ≡ o → IsParted id (rank_named (j, p)) (rank_named (j, p')) (lane_named o q (t, lane)) (lane_named o q (t, lane'))
+    in_rank : (j : ℕ) → j ≡ o → IsParted id (rank_nonempty_lanes (j, p)) (rank_nonempty_lanes (j, p')) (lane_if_nonempty o q (t, lane)) (lane_if_nonempty o q (t, lane'))
     in_rank j at =
         rw at (rw queues
-        (parted_in id (queue_named o) 0 q p.queues qu qu' (lane_named o q (t, lane)) (lane_named o q (t, lane')) q_there
+        (parted_in id (queue_nonempty_lanes o) 0 q p.queues qu qu' (lane_if_nonempty o q (t, lane)) (lane_if_nonempty o q (t, lane')) q_there
         (λ j k z at less. are_queue id true o j z (λ target. before_queue o j target q t (omega (arith, at, less))))
         (λ j k z at less. are_queue id false o j z (λ target. behind_queue o j target q t (omega (arith, at, less))))
         (λ j at. in_queue j (omega (arith, at)))))

@@ -11,17 +11,17 @@ use Rattle.gaspi_types.specs.declared.replies.Ready.{Ready}
 use Rattle.gaspi_types.specs.declared.replies.Ready.TheVariants as ready
 use Rattle.gaspi_types.specs.declared.shapes.CallerId.{CallerId}
 use Rattle.gaspi_types.specs.declared.shapes.Limits.{Limits}
-use Rattle.gaspi_types.specs.declared.touches.Reach.{Reach}
+use Rattle.gaspi_types.specs.declared.footprints.Footprint.{Footprint}
 use Rattle.gaspi_model.specs.Calls.{answer, recorded_reply}
 use Rattle.gaspi_model.specs.CollectiveCalls.{collective_answer, is_reply_of, is_joining}
 use Rattle.gaspi_model.specs.State.{thread_at}
-use Rattle.gaspi_model.specs.Step.{answer_in, group_in, step, Steps, called, call_brought, is_declared, is_there}
-use Rattle.gaspi_model.specs.Transfers.{Worked}
+use Rattle.gaspi_model.specs.Step.{answer_in, group_in, step, Steps, called, call_message, is_declared, is_there}
+use Rattle.gaspi_model.specs.Transfers.{PostsAndMemory}
 use Rattle.gaspi_types.specs.Checks.{◌>>=◌}
 use Rattle.gaspi_types.specs.declared.groups.Group.{Group}
 use Rattle.gaspi_types.specs.declared.inboxes.Message.{Message}
 use Rattle.gaspi_model.proofs.Same.{same_reply-same}
-use Rattle.plain_calls.specs.Looks.{BringsMessage}
+use Rattle.plain_calls.specs.Looks.{HasMessage}
 use Rattle.plain_calls.proofs.Looked.{brought_same}
 use Rattle.gaspi_model.specs.declared.states.Posts.{Posts}
 use Rattle.gaspi_model.specs.declared.states.Memory.{Memory}
@@ -29,14 +29,14 @@ use Rattle.gaspi_model.specs.declared.states.State.{State}
 use Rattle.gaspi_model.specs.declared.states.StepFault.{StepFault}
 use Rattle.gaspi_model.specs.declared.states.Why.{Why}
 use Rattle.gaspi_model.specs.declared.states.Why.TheVariants as whys
-use Rattle.plain_calls.specs.declared.looks.Finding.{Finding}
-use Rattle.plain_machine.specs.Looking.{IsFindingIn}
+use Rattle.plain_calls.specs.declared.looks.Evaluation.{Evaluation}
+use Rattle.plain_machine.specs.Looking.{IsEvaluationIn}
 use Rattle.plain_machine.specs.Machine.{state_of, state_in}
-use Rattle.plain_machine.specs.Reaching.{call_reach, memory_at, with_memory_at, with_peer_at, Lent, call_lent}
-use Rattle.plain_machine.specs.declared.ranks.Ranks.{Ranks}
+use Rattle.plain_machine.specs.Footprints.{call_footprint, memory_at, with_memory_at, with_peer_at, PostsAndLentMemory, call_lent}
+use Rattle.plain_machine.specs.declared.ranks.RankTables.{RankTables}
 use Rattle.plain_machine.proofs.Lifted.{called_steps}
 use Rattle.plain_machine.proofs.OnGroups.{completed_err, plain_reply}
-use Rattle.plain_machine.proofs.Reached.{called_as, memory_as}
+use Rattle.plain_machine.proofs.AtFootprints.{called_as, memory_as}
 
 -- a caller that has a section is of a rank that is there
 pub record IsThere (s : State) (rank thread : ℕ) : Type 0 where
@@ -53,7 +53,7 @@ declared_there s rank thread declared = by_item (slice_get s.posts rank) refl
     by_item (Some posts) is = record { posts = posts; item = is; there = rw is at declared; within = slice_get_within s.posts rank posts is }
 
 -- what a look finds is what the call answers
-pub finding_answers : (s : State) (c : CallerId) (call : Call) (look : Finding) → is_declared s c.rank c.thread ≡ true → IsFindingIn look s c call
+pub finding_answers : (s : State) (c : CallerId) (call : Call) (look : Evaluation) → is_declared s c.rank c.thread ≡ true → IsEvaluationIn look s c call
     → answer_in s c.rank c.thread call ≡ Some look.ready
 finding_answers s c call look declared finds = by_group (row_of call).group refl
   where
@@ -66,8 +66,8 @@ finding_answers s c call look declared finds = by_group (row_of call).group refl
 
 -- a call that is no step on its rank's posts is none, where it is no collective
 pub refused : (s : State) (c : CallerId) (call : Call) (reply : Reply) (p : Posts) (why : Why) → (row_of call).group ≡ None → slice_get s.posts c.rank ≡ Some p
-    → called s.limits c.rank p (call_brought s c.rank call) (memory_at s.memories c.rank (call_reach s.limits c.rank call)) c.thread call reply ≡ Err why → step s (Called c call reply) ≡ Err why
-refused s c call reply p why plain there is = called_as s c call reply p (call_reach s.limits c.rank call) plain there refl ∙ (rw there rw is refl)
+    → called s.limits c.rank p (call_message s c.rank call) (memory_at s.memories c.rank (call_footprint s.limits c.rank call)) c.thread call reply ≡ Err why → step s (Called c call reply) ≡ Err why
+refused s c call reply p why plain there is = called_as s c call reply p (call_footprint s.limits c.rank call) plain there refl ∙ (rw there rw is refl)
 
 pub undeclared : (s : State) (c : CallerId) (call : Call) (reply : Reply) → is_declared s c.rank c.thread ≡ false → step s (Called c call reply) ≡ Err whys.Caller
 undeclared s c call reply declared = by_item (slice_get s.posts c.rank) refl
@@ -83,19 +83,19 @@ undeclared s c call reply declared = by_item (slice_get s.posts c.rank) refl
         by_group p is gone (Some id) named = completed_err s c call reply id p whys.Caller is named (rw gone refl)
 
 -- one with another reply than what the look found, of a call that is no collective
-unanswered_plain : (s : State) (c : CallerId) (call : Call) (reply : Reply) (look : Finding) → is_declared s c.rank c.thread ≡ true → (row_of call).group ≡ None → IsFindingIn look s c call
+unanswered_plain : (s : State) (c : CallerId) (call : Call) (reply : Reply) (look : Evaluation) → is_declared s c.rank c.thread ≡ true → (row_of call).group ≡ None → IsEvaluationIn look s c call
     → is_reply_of look.ready reply ≡ false → step s (Called c call reply) ≡ Err whys.Reply
 unanswered_plain s c call reply look declared plain finds other =
     let d = declared_there s c.rank c.thread declared in
-    let memory = memory_at s.memories c.rank (call_reach s.limits c.rank call) in
+    let memory = memory_at s.memories c.rank (call_footprint s.limits c.rank call) in
     let ready : look.ready ≡ answer s.limits c.rank d.posts memory c.thread call =
-    (finds.finds d.posts d.item plain).ready ∙ ap (λ (m : Memory). answer s.limits c.rank d.posts m c.thread call) (memory_as s c.rank d.posts (call_reach s.limits c.rank call)) in
+    (finds.finds d.posts d.item plain).ready ∙ ap (λ (m : Memory). answer s.limits c.rank d.posts m c.thread call) (memory_as s c.rank d.posts (call_footprint s.limits c.rank call)) in
     let differs : same_reply reply (recorded_reply (answer s.limits c.rank d.posts memory c.thread call)) ≡ false =
     sym (plain_reply s.limits c.rank d.posts memory c.thread call reply) ∙ subst (λ (r : Ready). is_reply_of r reply ≡ false) ready other in
     refused s c call reply d.posts whys.Reply plain d.item (rw (d.there, differs) refl)
 
 -- one with another reply than what the look found
-pub unanswered : (s : State) (c : CallerId) (call : Call) (reply : Reply) (look : Finding) → is_declared s c.rank c.thread ≡ true → IsFindingIn look s c call
+pub unanswered : (s : State) (c : CallerId) (call : Call) (reply : Reply) (look : Evaluation) → is_declared s c.rank c.thread ≡ true → IsEvaluationIn look s c call
     → is_reply_of look.ready reply ≡ false → step s (Called c call reply) ≡ Err whys.Reply
 unanswered s c call reply look declared finds other = by_group (row_of call).group refl
   where
@@ -108,34 +108,34 @@ unanswered s c call reply look declared finds other = by_group (row_of call).gro
         completed_err s c call reply id d.posts whys.Reply d.item named (rw (d.there, differs) refl)
 
 -- what a look brought is as good as what the call brings
-pub lent_same : (look : Finding) (limits : Limits) (all : List Posts) (brought : Option Message) (memory : Memory) (c : CallerId) (call : Call) → BringsMessage look brought
+pub lent_same : (look : Evaluation) (limits : Limits) (all : List Posts) (brought : Option Message) (memory : Memory) (c : CallerId) (call : Call) → HasMessage look brought
     → call_lent limits all look.message memory c call (recorded_reply look.ready) ≡ call_lent limits all brought memory c call (recorded_reply look.ready)
 lent_same look limits all brought memory c call brings = by_item (slice_get all c.rank) refl
   where
     by_item : (o : Option Posts) → slice_get all c.rank ≡ o → call_lent limits all look.message memory c call (recorded_reply look.ready) ≡ call_lent limits all brought memory c call (recorded_reply look.ready)
     by_item None there = rw there refl
     by_item (Some posts) there =
-        rw there (ap (λ (r : Result Worked Why). r >>= (λ after. Ok (record { posts = slice_set all c.rank after.posts; memory = after.memory })))
+        rw there (ap (λ (r : Result PostsAndMemory Why). r >>= (λ after. Ok (record { posts = slice_set all c.rank after.posts; memory = after.memory })))
         (brought_same look brought limits c.rank posts memory c.thread call brings))
 
 -- a new state of ranks whose limits and groups are the same
-pub limits_as : (r r' : Ranks) (posts : List Posts) (memories : List Memory) (result : Result (Unit {0}) StepFault) (s : State) (outcome : Result State Why) → r'.limits ≡ r.limits → r'.groups ≡ r.groups
+pub limits_as : (r r' : RankTables) (posts : List Posts) (memories : List Memory) (result : Result (Unit {0}) StepFault) (s : State) (outcome : Result State Why) → r'.limits ≡ r.limits → r'.groups ≡ r.groups
     → Steps result s (state_of r.limits posts memories r.groups) outcome → Steps result s (state_of r'.limits posts memories r'.groups) outcome
 limits_as r r' posts memories result s outcome limits groups steps =
     subst (λ (x : Limits). Steps result s (state_of x posts memories r'.groups) outcome) (sym limits)
     (subst (λ (x : List Group). Steps result s (state_of r.limits posts memories x) outcome) (sym groups) steps)
 
 -- a call on the memory that it works on, among the ranks
-pub called_ranks : (ranks ranks' : Ranks) (memories : List Memory) (c : CallerId) (call : Call) (look : Finding) (reach : Reach) (result : Result (Unit {0}) StepFault) (m m' : Memory)
-    → (row_of call).group ≡ None → is_declared (state_in ranks memories) c.rank c.thread ≡ true → call_reach ranks.limits c.rank call ≡ reach → memory_at memories c.rank reach ≡ m → with_memory_at memories c.rank reach m ≡ memories
-    → ((change : Posts → Posts) (all : List Posts) → with_peer_at reach change all ≡ all) → ranks'.limits ≡ ranks.limits → ranks'.groups ≡ ranks.groups → IsFindingIn look (state_in ranks memories) c call
-    → Steps {S = Lent} result (record { posts = ranks.posts; memory = m }) (record { posts = ranks'.posts; memory = m' }) (call_lent ranks.limits ranks.posts look.message m c call (recorded_reply look.ready))
+pub called_ranks : (ranks ranks' : RankTables) (memories : List Memory) (c : CallerId) (call : Call) (look : Evaluation) (reach : Footprint) (result : Result (Unit {0}) StepFault) (m m' : Memory)
+    → (row_of call).group ≡ None → is_declared (state_in ranks memories) c.rank c.thread ≡ true → call_footprint ranks.limits c.rank call ≡ reach → memory_at memories c.rank reach ≡ m → with_memory_at memories c.rank reach m ≡ memories
+    → ((change : Posts → Posts) (all : List Posts) → with_peer_at reach change all ≡ all) → ranks'.limits ≡ ranks.limits → ranks'.groups ≡ ranks.groups → IsEvaluationIn look (state_in ranks memories) c call
+    → Steps {S = PostsAndLentMemory} result (record { posts = ranks.posts; memory = m }) (record { posts = ranks'.posts; memory = m' }) (call_lent ranks.limits ranks.posts look.message m c call (recorded_reply look.ready))
     → Steps result (state_in ranks memories) (state_in ranks' (with_memory_at memories c.rank reach m')) (step (state_in ranks memories) (Called c call (recorded_reply look.ready)))
 called_ranks ranks ranks' memories c call look reach result m m' plain declared is memory kept silent limits groups finds steps =
     limits_as ranks ranks' ranks'.posts (with_memory_at memories c.rank reach m') result (state_in ranks memories) _ limits groups
     (called_steps (state_in ranks memories) c call (recorded_reply look.ready) reach result m ranks'.posts m' plain (declared_there (state_in ranks memories) c.rank c.thread declared).within is memory kept silent
-    (subst (λ (o : Result Lent Why). Steps {S = Lent} result (record { posts = ranks.posts; memory = m }) (record { posts = ranks'.posts; memory = m' }) o)
-    (lent_same look ranks.limits ranks.posts (call_brought (state_in ranks memories) c.rank call) m c call finds.message) steps))
+    (subst (λ (o : Result PostsAndLentMemory Why). Steps {S = PostsAndLentMemory} result (record { posts = ranks.posts; memory = m }) (record { posts = ranks'.posts; memory = m' }) o)
+    (lent_same look ranks.limits ranks.posts (call_message (state_in ranks memories) c.rank call) m c call finds.message) steps))
 
 -- a reply with which a look may be recorded is the one that it has, and it found no join
 pub recorded_by : (found : Ready) (reply : Reply) → is_reply_of found reply ≡ true → (is_joining found ≡ false) × (reply ≡ recorded_reply found)

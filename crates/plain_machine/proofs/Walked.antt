@@ -21,7 +21,7 @@ use Rattle.gaspi_model.specs.Sound.{IsSoundPosts}
 use Rattle.gaspi_model.specs.Transfers.{transfer_of, lane_transfers, queue_transfers, rank_transfers, transfers}
 use Rattle.gaspi_types.specs.declared.entries.Queue.{Queue}
 use Rattle.gaspi_model.specs.declared.states.Posts.{Posts}
-use Rattle.plain_machine.specs.Standing.{lane_id, lane_named, queue_named, rank_named, standing_lanes, open_entries, open_transfers, entries_transfers}
+use Rattle.plain_machine.specs.NonemptyLanes.{lane_id, lane_if_nonempty, queue_nonempty_lanes, rank_nonempty_lanes, nonempty_lanes, unbroken_entries, unbroken_transfers, entries_transfers}
 
 -- Places in such a list.
 
@@ -97,44 +97,44 @@ abbrev no_transfers : ℕ × List Entry → List Transfer
 no_transfers x = []
 
 -- the transfers of all lanes are those of the lanes that have an entry
-pub transfers-standing : (limits : Limits) (posts : List Posts) → transfers limits posts ≡ flat_map (open_transfers limits posts) (standing_lanes posts)
-transfers-standing limits posts = nested (rank_transfers limits) (open_transfers limits posts) rank_named 0 posts (λ origin k p at there. of_rank origin p (place posts origin k p at there))
+pub transfers-nonempty : (limits : Limits) (posts : List Posts) → transfers limits posts ≡ flat_map (unbroken_transfers limits posts) (nonempty_lanes posts)
+transfers-nonempty limits posts = nested (rank_transfers limits) (unbroken_transfers limits posts) rank_nonempty_lanes 0 posts (λ origin k p at there. of_rank origin p (place posts origin k p at there))
   where
     place : {X : Type 0} (xs : List X) (j k : ℕ) (x : X) → j ≡ 0 + k → slice_get xs k ≡ Some x → slice_get xs j ≡ Some x
     place xs j k x at there = let same : j ≡ k = omega (arith, at) in rw same there
 
     of_lane : (origin queue target : ℕ) (p : Posts) (q : Queue) (lane : List Entry) → slice_get posts origin ≡ Some p → slice_get p.queues queue ≡ Some q → is_none q.broken ≡ true
         → slice_get q.lanes target ≡ Some lane
-        → lane_transfers origin queue limits (target, lane) ≡ flat_map (open_transfers limits posts) (lane_named origin queue (target, lane))
+        → lane_transfers origin queue limits (target, lane) ≡ flat_map (unbroken_transfers limits posts) (lane_if_nonempty origin queue (target, lane))
     of_lane origin queue target p q [] p_there q_there whole there = refl
     of_lane origin queue target p q (e ∷ lane) p_there q_there whole there =
-        let entries : open_entries posts (lane_id origin queue target) ≡ e ∷ lane = rw p_there rw q_there rw whole rw there refl in
-        ap (entries_transfers limits (lane_id origin queue target)) (sym entries) ∙ sym (append-nil (open_transfers limits posts (lane_id origin queue target)))
+        let entries : unbroken_entries posts (lane_id origin queue target) ≡ e ∷ lane = rw p_there rw q_there rw whole rw there refl in
+        ap (entries_transfers limits (lane_id origin queue target)) (sym entries) ∙ sym (append-nil (unbroken_transfers limits posts (lane_id origin queue target)))
 
     nothing : (origin queue : ℕ) (p : Posts) (q : Queue) → slice_get posts origin ≡ Some p → slice_get p.queues queue ≡ Some q → is_none q.broken ≡ false
-        → (j : ℕ) (lane : List Entry) → [] ≡ flat_map (open_transfers limits posts) (lane_named origin queue (j, lane))
+        → (j : ℕ) (lane : List Entry) → [] ≡ flat_map (unbroken_transfers limits posts) (lane_if_nonempty origin queue (j, lane))
     nothing origin queue p q p_there q_there broken j [] = refl
     nothing origin queue p q p_there q_there broken j (e ∷ lane) =
-        let entries : open_entries posts (lane_id origin queue j) ≡ [] = rw p_there rw q_there rw broken refl in
-        ap (entries_transfers limits (lane_id origin queue j)) (sym entries) ∙ sym (append-nil (open_transfers limits posts (lane_id origin queue j)))
+        let entries : unbroken_entries posts (lane_id origin queue j) ≡ [] = rw p_there rw q_there rw broken refl in
+        ap (entries_transfers limits (lane_id origin queue j)) (sym entries) ∙ sym (append-nil (unbroken_transfers limits posts (lane_id origin queue j)))
 
     of_queue : (origin queue : ℕ) (p : Posts) (q : Queue) → slice_get posts origin ≡ Some p → slice_get p.queues queue ≡ Some q
-        → queue_transfers origin limits (queue, q) ≡ flat_map (open_transfers limits posts) (queue_named origin (queue, q))
+        → queue_transfers origin limits (queue, q) ≡ flat_map (unbroken_transfers limits posts) (queue_nonempty_lanes origin (queue, q))
     of_queue origin queue p q p_there q_there = by_broken (is_none q.broken) refl
       where
-        by_broken : (b : Bool) → is_none q.broken ≡ b → queue_transfers origin limits (queue, q) ≡ flat_map (open_transfers limits posts) (queue_named origin (queue, q))
+        by_broken : (b : Bool) → is_none q.broken ≡ b → queue_transfers origin limits (queue, q) ≡ flat_map (unbroken_transfers limits posts) (queue_nonempty_lanes origin (queue, q))
         by_broken true whole =
-            rw whole (nested (lane_transfers origin queue limits) (open_transfers limits posts) (lane_named origin queue) 0 q.lanes
+            rw whole (nested (lane_transfers origin queue limits) (unbroken_transfers limits posts) (lane_if_nonempty origin queue) 0 q.lanes
             (λ target k lane at there. of_lane origin queue target p q lane p_there q_there whole (place q.lanes target k lane at there)))
         by_broken false broken =
             let none = flat_map-none no_transfers (enumerate_from 0 q.lanes) (λ x. refl) in
             rw broken (sym none
-            ∙ nested no_transfers (open_transfers limits posts) (lane_named origin queue) 0 q.lanes
+            ∙ nested no_transfers (unbroken_transfers limits posts) (lane_if_nonempty origin queue) 0 q.lanes
             (λ target k lane at there. nothing origin queue p q p_there q_there broken target lane))
 
-    of_rank : (origin : ℕ) (p : Posts) → slice_get posts origin ≡ Some p → rank_transfers limits (origin, p) ≡ flat_map (open_transfers limits posts) (rank_named (origin, p))
+    of_rank : (origin : ℕ) (p : Posts) → slice_get posts origin ≡ Some p → rank_transfers limits (origin, p) ≡ flat_map (unbroken_transfers limits posts) (rank_nonempty_lanes (origin, p))
     of_rank origin p there =
-        nested (queue_transfers origin limits) (open_transfers limits posts) (queue_named origin) 0 p.queues
+        nested (queue_transfers origin limits) (unbroken_transfers limits posts) (queue_nonempty_lanes origin) 0 p.queues
         (λ queue k q at q_there. of_queue origin queue p q there (place p.queues queue k q at q_there))
 
 -- How many there are: each entry that may move owes an event.
@@ -200,9 +200,9 @@ sum_by-same {X} (x ∷ xs) =
 
 pub few_transfers : (limits : Limits) (posts : List Posts) → are_limits limits ≡ true → length posts ≤ 16
     → ((rank : ℕ) (p : Posts) → slice_get posts rank ≡ Some p → IsSoundPosts limits p)
-    → length (flat_map (open_transfers limits posts) (standing_lanes posts)) < 2 ^ 32
+    → length (flat_map (unbroken_transfers limits posts) (nonempty_lanes posts)) < 2 ^ 32
 few_transfers limits posts limited ranks sound =
-    rw (← transfers-standing limits posts)
+    rw (← transfers-nonempty limits posts)
     (let events : limits.events ≤ 65536 = grind (arith, nat_tests) in
     let all = bounded (rank_transfers limits) (λ (p : Posts). 65536) 0 posts (λ origin k p there. of_rank origin p events (sound k p there)) in
     let sum = sum_by-same posts in

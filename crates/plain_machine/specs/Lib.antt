@@ -1,6 +1,6 @@
 pub mod Entries
 pub mod Looking
 pub mod Machine
-pub mod Reaching
-pub mod Standing
+pub mod Footprints
+pub mod NonemptyLanes
 pub mod Words

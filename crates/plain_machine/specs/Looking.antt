@@ -12,34 +12,34 @@ use Rattle.gaspi_types.specs.Replies.{is_idle}
 use Rattle.gaspi_model.specs.Calls.{charge, recorded_reply}
 use Rattle.gaspi_model.specs.CollectiveCalls.{collective_answer, is_join_of, is_joining, join_event, joining_call}
 use Rattle.gaspi_model.specs.State.{owed, thread_at}
-use Rattle.gaspi_model.specs.Step.{answer_in, call_memory, call_brought, group_in, is_declared, is_there, step}
+use Rattle.gaspi_model.specs.Step.{answer_in, call_memory, call_message, group_in, is_declared, is_there, step}
 use Rattle.gaspi_model.specs.declared.states.Posts.{Posts}
 use Rattle.gaspi_model.specs.declared.states.Memory.{Memory}
 use Rattle.gaspi_model.specs.declared.states.State.{State}
-use Rattle.plain_calls.specs.Looks.{BringsMessage, IsFinding}
-use Rattle.plain_calls.specs.Room.{purged_queue}
-use Rattle.plain_calls.specs.declared.looks.Finding.{Finding}
-use Rattle.plain_machine.specs.Standing.{call_lane}
-use Rattle.plain_machine.specs.declared.standing.LaneId.{LaneId}
+use Rattle.plain_calls.specs.Looks.{HasMessage, IsEvaluation}
+use Rattle.plain_calls.specs.NumberBounds.{purged_queue}
+use Rattle.plain_calls.specs.declared.looks.Evaluation.{Evaluation}
+use Rattle.plain_machine.specs.NonemptyLanes.{call_lane}
+use Rattle.plain_machine.specs.declared.nonempty_lanes.LaneId.{LaneId}
 
 -- This is what a look at this call of this caller finds in this state: a collective meets its group, and any other call works on a
 -- memory.
-pub record IsFindingIn (look : Finding) (s : State) (c : CallerId) (call : Call) : Type 0 where
-  pub finds : (posts : Posts) → slice_get s.posts c.rank ≡ Some posts → (row_of call).group ≡ None → IsFinding look s.limits c.rank posts (call_memory s c.rank posts call) c.thread call
+pub record IsEvaluationIn (look : Evaluation) (s : State) (c : CallerId) (call : Call) : Type 0 where
+  pub finds : (posts : Posts) → slice_get s.posts c.rank ≡ Some posts → (row_of call).group ≡ None → IsEvaluation look s.limits c.rank posts (call_memory s c.rank posts call) c.thread call
   pub meets : (posts : Posts) (id : ℕ) → slice_get s.posts c.rank ≡ Some posts → (row_of call).group ≡ Some id → look.ready ≡ collective_answer posts (group_in s id) c.rank c.thread id call
-  pub message : BringsMessage look (call_brought s c.rank call)
+  pub message : HasMessage look (call_message s c.rank call)
 
 -- the same on the posts of its rank and the memory that it works on; and its caller has a section
-pub record IsFindingOn (look : Finding) (limits : Limits) (posts : Posts) (memory : Memory) (c : CallerId) (call : Call) : Type 0 where
+pub record IsEvaluationOn (look : Evaluation) (limits : Limits) (posts : Posts) (memory : Memory) (c : CallerId) (call : Call) : Type 0 where
   pub there : is_there (thread_at posts c.thread) ≡ true
-  pub finds : IsFinding look limits c.rank posts memory c.thread call
+  pub finds : IsEvaluation look limits c.rank posts memory c.thread call
 
 -- the lane to which a call posts whose look is recorded
-abbrev pub look_lane : ℕ → Call → Finding → Option LaneId
+abbrev pub look_lane : ℕ → Call → Evaluation → Option LaneId
 look_lane rank call look = if is_idle (recorded_reply look.ready) then None else call_lane rank call
 
 -- the queue that a call purges whose look is recorded
-abbrev pub look_purge : Call → Finding → Option ℕ
+abbrev pub look_purge : Call → Evaluation → Option ℕ
 look_purge call look = if is_idle (recorded_reply look.ready) then None else purged_queue call
 
 -- whether a collective of a caller may join a group with these arguments in a state
@@ -62,16 +62,16 @@ HasJoinRoom limits all rank = (posts : Posts) → slice_get all rank ≡ Some po
 
 -- This is what a look at this call of this caller finds in this state, its caller has a section, and its rank has room for the event that
 -- records it, which takes so much of it.
-pub record IsFindingWithRoom (look : Finding) (s : State) (c : CallerId) (call : Call) (amount : ℕ) : Type 0 where
+pub record IsFindingWithRoom (look : Evaluation) (s : State) (c : CallerId) (call : Call) (amount : ℕ) : Type 0 where
   pub declared : is_declared s c.rank c.thread ≡ true
-  pub finds : IsFindingIn look s c call
+  pub finds : IsEvaluationIn look s c call
   pub charge : IsCharge amount s.posts c call look.ready
   pub room : HasEventRoom s.limits s.posts c call look.ready
 
 -- It may be recorded: it is what a look at this call of this caller finds in this state, it is no join, and its event is a step.
-pub record MayRecord (look : Finding) (s : State) (c : CallerId) (call : Call) : Type 0 where
+pub record MayRecord (look : Evaluation) (s : State) (c : CallerId) (call : Call) : Type 0 where
   pub declared : is_declared s c.rank c.thread ≡ true
-  pub finds : IsFindingIn look s c call
+  pub finds : IsEvaluationIn look s c call
   pub unjoined : is_joining look.ready ≡ false
   pub steps : IsOk (step s (Called c call (recorded_reply look.ready)))
 

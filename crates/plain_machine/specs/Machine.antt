@@ -15,40 +15,40 @@ use Rattle.gaspi_model.specs.declared.states.Posts.{Posts}
 use Rattle.gaspi_model.specs.declared.states.Memory.{Memory}
 use Rattle.gaspi_model.specs.declared.states.State.{State}
 use Rattle.gaspi_model.specs.declared.states.StepFault.{StepFault}
-use Rattle.plain_calls.specs.Room.{purged_queue}
-use Rattle.plain_machine.specs.Standing.{standing_lanes}
-use Rattle.plain_machine.specs.declared.ranks.Ranks.{Ranks}
-use Rattle.plain_machine.specs.declared.standing.LaneId.{LaneId}
+use Rattle.plain_calls.specs.NumberBounds.{purged_queue}
+use Rattle.plain_machine.specs.NonemptyLanes.{nonempty_lanes}
+use Rattle.plain_machine.specs.declared.ranks.RankTables.{RankTables}
+use Rattle.plain_machine.specs.declared.nonempty_lanes.LaneId.{LaneId}
 
 abbrev pub state_of : Limits → List Posts → List Memory → List Group → State
 state_of limits posts memories groups = record { limits = limits; posts = posts; memories = memories; groups = groups }
 
 -- the state of the ranks and their memories
-abbrev pub state_in : Ranks → List Memory → State
+abbrev pub state_in : RankTables → List Memory → State
 state_in ranks memories = state_of ranks.limits ranks.posts memories ranks.groups
 
 -- the room that a rank has taken: what it has recorded, and what it owes
-abbrev pub taken_of : Posts → ℕ
-taken_of posts = posts.events + owed posts
+abbrev pub used_room_of : Posts → ℕ
+used_room_of posts = posts.events + owed posts
 
 -- ranks and queues have numbers in their ranges, and each rank has a memory
-pub record IsFitting (s : State) : Type 0 where
+pub record HasBoundedNumbers (s : State) : Type 0 where
   pub ranks : length s.posts ≤ 16
   pub memories : length s.memories ≡ length s.posts
   pub queues : (rank : ℕ) (posts : Posts) → slice_get s.posts rank ≡ Some posts → length posts.queues ≤ 8
 
 -- what holds of the ranks and their memories between steps
-pub record AreWhole (ranks : Ranks) (memories : List Memory) : Type 0 where
+pub record IsStateOf (ranks : RankTables) (memories : List Memory) : Type 0 where
   pub sound : IsSound (state_in ranks memories)
-  pub fitting : IsFitting (state_in ranks memories)
-  pub taken : ranks.taken ≡ map taken_of ranks.posts
+  pub fitting : HasBoundedNumbers (state_in ranks memories)
+  pub used : ranks.used ≡ map used_room_of ranks.posts
 
 -- and with the lanes that have an entry
 pub record IsMachine (s : State) (rooms : List ℕ) (standing : List LaneId) : Type 0 where
   pub sound : IsSound s
-  pub fitting : IsFitting s
-  pub taken : rooms ≡ map taken_of s.posts
-  pub named : standing ≡ standing_lanes s.posts
+  pub fitting : HasBoundedNumbers s
+  pub used : rooms ≡ map used_room_of s.posts
+  pub named : standing ≡ nonempty_lanes s.posts
 
 -- what a function that steps by an event has done
 abbrev pub StepsBy : Result (Unit {0}) StepFault → State → State → Event → Type 0

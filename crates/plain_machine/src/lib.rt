@@ -1,13 +1,13 @@
 //! The reference machine of the runtime: one state, and each event a step of it.
 #![tactic(auto)]
 
+mod footprints;
 mod listing;
 mod looking;
 mod machine;
+mod nonempty_lanes;
 mod opening;
 mod ranks;
-mod reaching;
-mod standing;
 mod steps;
 mod transfers;
 

@@ -8,18 +8,18 @@ ghost use Rattle.std.specs.Option.{option_to_list};
 ghost use Rattle.gaspi_types.specs.Lanes.{may_put};
 ghost use Rattle.gaspi_types.specs.declared.entries.Entry.{Entry};
 ghost use Rattle.gaspi_model.specs.Transfers.{transfer_of};
-ghost use Rattle.plain_machine.specs.Standing.{is_over, IsSummary, Seeks, entries_transfers, open_transfers};
+ghost use Rattle.plain_machine.specs.NonemptyLanes.{is_over, AreLaneCounts, IsSearchOf, entries_transfers, unbroken_transfers};
 
-use crate::standing::{LaneId, open_entries};
+use crate::nonempty_lanes::{LaneId, open_entries};
 use gaspi_model::Posts;
-use gaspi_types::{Entry, Kind, Limits, NoMemory, Rows, Transfer};
+use gaspi_types::{Entry, Kind, Limits, NoMemory, Sequence, Transfer};
 use plain_calls::{is_carried, is_posted, is_read, is_write};
 use std::alloc::Global;
 
 /// What decides which entries of a lane may move: how many of them have taken their bytes, and the least number of a
 /// write and of a read among them.
 #[derive(Clone, Copy, Debug, PartialEq, Eq)]
-pub struct LaneSummary {
+pub struct LaneCounts {
     pub carried: usize,
     pub first_write: Option<u32>,
     pub first_read: Option<u32>,
@@ -27,7 +27,7 @@ pub struct LaneSummary {
 
 /// A transfer that was sought by its place, or how far the place is over the end of the list.
 #[derive(Clone, Copy, Debug, PartialEq, Eq)]
-pub enum Sought {
+pub enum TransferSearch {
     Found(Transfer),
     Left(usize),
 }
@@ -46,8 +46,8 @@ fn lesser(least: Option<u32>, counts: bool, other: u32) -> Option<u32>
 }
 
 /// The summary of a lane, in one pass.
-fn summary_of(entries: &[Entry]) -> LaneSummary
-    ensures { IsSummary entries.now result }
+fn summary_of(entries: &[Entry]) -> LaneCounts
+    ensures { AreLaneCounts entries.now result }
 {
     let mut carried = 0;
     let mut first_write = None;
@@ -59,7 +59,7 @@ fn summary_of(entries: &[Entry]) -> LaneSummary
         first_write = lesser(first_write, is_write(entry), entry.number);
         first_read = lesser(first_read, is_read(entry), entry.number);
     }
-    LaneSummary {
+    LaneCounts {
         carried,
         first_write,
         first_read,
@@ -77,8 +77,8 @@ fn is_over(least: Option<u32>, number: u32) -> bool
 }
 
 /// Whether an entry may be put, by the summary of its lane. (GASPI: notification order)
-fn may_put(summary: LaneSummary, entry: &Entry) -> bool
-    ensures { (lane : List Entry) → IsSummary lane summary → result ≡ may_put lane entry.now }
+fn may_put(summary: LaneCounts, entry: &Entry) -> bool
+    ensures { (lane : List Entry) → AreLaneCounts lane summary → result ≡ may_put lane entry.now }
 {
     is_carried(entry)
         && match entry.kind {
@@ -89,13 +89,8 @@ fn may_put(summary: LaneSummary, entry: &Entry) -> bool
 }
 
 /// The transfer of an entry that may come next, by the summary of its lane.
-fn transfer_of(
-    limits: &Limits,
-    id: &LaneId,
-    summary: LaneSummary,
-    entry: &Entry,
-) -> Option<Transfer>
-    ensures { (lane : List Entry) → IsSummary lane summary → option_to_list result ≡ transfer_of id.now.origin id.now.queue id.now.target limits.now lane entry.now }
+fn transfer_of(limits: &Limits, id: &LaneId, summary: LaneCounts, entry: &Entry) -> Option<Transfer>
+    ensures { (lane : List Entry) → AreLaneCounts lane summary → option_to_list result ≡ transfer_of id.now.origin id.now.queue id.now.target limits.now lane entry.now }
 {
     let takes = is_posted(entry) && summary.carried < limits.depth as usize;
     if takes || may_put(summary, entry) {
@@ -126,25 +121,25 @@ fn entries_count(limits: &Limits, id: &LaneId, entries: &[Entry]) -> usize
 }
 
 /// Seeks the transfer at a place among those of a lane.
-fn entries_transfer(limits: &Limits, id: &LaneId, entries: &[Entry], place: usize) -> Sought
-    ensures { Seeks result (entries_transfers limits.now id.now entries.now) place }
+fn entries_transfer(limits: &Limits, id: &LaneId, entries: &[Entry], place: usize) -> TransferSearch
+    ensures { IsSearchOf result (entries_transfers limits.now id.now entries.now) place }
 {
     let summary = summary_of(entries);
     let mut left = place;
     for entry in entries {
         if let Some(transfer) = transfer_of(limits, id, summary, entry) {
             if left == 0 {
-                return Sought::Found(transfer);
+                return TransferSearch::Found(transfer);
             }
             left -= 1;
         }
     }
-    Sought::Left(left)
+    TransferSearch::Left(left)
 }
 
 /// Adds the transfers of a lane.
 fn push_transfers(
-    found: &mut Rows<Transfer>,
+    found: &mut Sequence<Transfer>,
     limits: &Limits,
     id: &LaneId,
     entries: &[Entry],
@@ -161,9 +156,9 @@ fn push_transfers(
 }
 
 /// How many transfers may come next in lanes.
-pub fn transfer_count(limits: &Limits, posts: &Rows<Posts>, lanes: &[LaneId]) -> usize
-    requires { length (flat_map (open_transfers limits.now posts.now) lanes.now) < 2 ^ 32 }
-    ensures { result ≡ length (flat_map (open_transfers limits.now posts.now) lanes.now) }
+pub fn transfer_count(limits: &Limits, posts: &Sequence<Posts>, lanes: &[LaneId]) -> usize
+    requires { length (flat_map (unbroken_transfers limits.now posts.now) lanes.now) < 2 ^ 32 }
+    ensures { result ≡ length (flat_map (unbroken_transfers limits.now posts.now) lanes.now) }
 {
     let mut count = 0;
     for id in lanes {
@@ -175,17 +170,17 @@ pub fn transfer_count(limits: &Limits, posts: &Rows<Posts>, lanes: &[LaneId]) ->
 /// The transfer at a place among those that may come next in lanes.
 pub fn transfer_at(
     limits: &Limits,
-    posts: &Rows<Posts>,
+    posts: &Sequence<Posts>,
     lanes: &[LaneId],
     place: usize,
 ) -> Option<Transfer>
-    ensures { result ≡ slice_get (flat_map (open_transfers limits.now posts.now) lanes.now) place }
+    ensures { result ≡ slice_get (flat_map (unbroken_transfers limits.now posts.now) lanes.now) place }
 {
     let mut left = place;
     for id in lanes {
         match entries_transfer(limits, id, open_entries(posts, id), left) {
-            Sought::Found(transfer) => return Some(transfer),
-            Sought::Left(rest) => left = rest,
+            TransferSearch::Found(transfer) => return Some(transfer),
+            TransferSearch::Left(rest) => left = rest,
         }
     }
     None
@@ -195,12 +190,12 @@ pub fn transfer_at(
 pub fn transfers(
     alloc: Global,
     limits: &Limits,
-    posts: &Rows<Posts>,
+    posts: &Sequence<Posts>,
     lanes: &[LaneId],
-) -> Result<Rows<Transfer>, NoMemory>
-    ensures { IfOk result (λ found. found ≡ flat_map (open_transfers limits.now posts.now) lanes.now) }
+) -> Result<Sequence<Transfer>, NoMemory>
+    ensures { IfOk result (λ found. found ≡ flat_map (unbroken_transfers limits.now posts.now) lanes.now) }
 {
-    let mut found = Rows::new(alloc);
+    let mut found = Sequence::new(alloc);
     for id in lanes {
         push_transfers(&mut found, limits, id, open_entries(posts, id))?;
     }

@@ -3,7 +3,7 @@
 ghost use Rattle.std.specs.Prelude.{◌≡◌, ◌≢◌, ◌+◌, ◌<◌, ◌≤◌, ◌||◌, List, nat_le, length, map, slice_get, IfOk, IsOk, Ok, Err, true, false, Some, None};
 ghost use Rattle.gaspi_types.specs.CallRows.{row_of};
 ghost use Rattle.gaspi_types.specs.Replies.{is_idle};
-ghost use Rattle.gaspi_types.specs.Tables.{entry_at};
+ghost use Rattle.gaspi_types.specs.Tables.{item_at};
 ghost use Rattle.gaspi_types.specs.declared.events.Event.TheVariants.{Called, Joined};
 ghost use Rattle.gaspi_types.specs.declared.replies.Ready.{Ready};
 ghost use Rattle.gaspi_model.specs.Calls.{recorded_reply};
@@ -14,27 +14,31 @@ ghost use Rattle.gaspi_model.specs.declared.states.Memory.{Memory};
 ghost use Rattle.gaspi_model.specs.declared.states.Posts.{Posts};
 ghost use Rattle.plain_calls.specs.Looks.{recorded_of};
 ghost use Rattle.plain_calls.specs.Memory.{is_send, is_allreduce, looks_with_memory, keeps_memory};
-ghost use Rattle.plain_machine.specs.Looking.{IsFindingIn, IsFindingOn, IsFindingWithRoom, IsCharge, MayJoin, MayJoinWith, HasEventRoom, HasJoinRoom, look_purge};
-ghost use Rattle.plain_machine.specs.Machine.{AreWhole, IsMachine, StepsBy, state_in, taken_of};
-ghost use Rattle.plain_machine.specs.Reaching.{Lent, call_lent, group_at, AreRanks};
-ghost use Rattle.plain_machine.specs.Standing.{standing_lanes};
+ghost use Rattle.plain_machine.specs.Looking.{IsEvaluationIn, IsEvaluationOn, IsFindingWithRoom, IsCharge, MayJoin, MayJoinWith, HasEventRoom, HasJoinRoom, look_purge};
+ghost use Rattle.plain_machine.specs.Machine.{IsStateOf, IsMachine, StepsBy, state_in, used_room_of};
+ghost use Rattle.plain_machine.specs.Footprints.{PostsAndLentMemory, call_lent, group_at, AreRanks};
+ghost use Rattle.plain_machine.specs.NonemptyLanes.{nonempty_lanes};
 
-use crate::ranks::Ranks;
-use crate::reaching::{call_reach, group_in, no_group, no_memory, own_memory, worked_memory};
-use crate::standing::{LaneId, has_entry, look_lane, look_purge, name_lane, unname_queue};
+use crate::footprints::{
+    call_reach, empty_group, empty_memory, group_in, own_memory, worked_memory,
+};
+use crate::nonempty_lanes::{
+    LaneId, has_entry, insert_lane, look_lane, look_purge, remove_queue_lanes,
+};
+use crate::ranks::RankTables;
 use gaspi_model::{Memory, Posts, StepFault, Why};
 use gaspi_types::{
-    Args, Call, CallerId, Event, GroupId, Invocation, NoMemory, RankId, Reach, Ready, Reply, Rows,
-    ThreadId,
+    Args, Call, CallerId, Event, Footprint, GroupId, Invocation, NoMemory, RankId, Ready, Reply,
+    Sequence, ThreadId,
 };
 use plain_calls::{
-    Finding, Joining, charge, collective_look, complete, is_there, join, look, may_join, news,
-    pending_on, record, tell, thread_at,
+    Evaluation, Joining, charge, collective_look, complete, is_there, join, look, may_join,
+    pending_on, record, register_at_peer, registration, thread_at,
 };
 use std::alloc::Global;
 
 /// Whether a caller has a section.
-pub fn has_section(ranks: &Ranks, caller: &CallerId) -> bool
+pub fn has_section(ranks: &RankTables, caller: &CallerId) -> bool
     ensures { (memories : List Memory) → result ≡ is_declared (state_in ranks.now memories) caller.now.rank caller.now.thread }
 {
     match ranks.posts.get(caller.rank.index()) {
@@ -45,7 +49,7 @@ pub fn has_section(ranks: &Ranks, caller: &CallerId) -> bool
 
 /// Whether a collective of a thread is pending on a group.
 fn is_pending_at(posts: &Posts, thread: ThreadId, id: u64) -> bool
-    ensures { result ≡ is_pending_of thread (entry_at posts.now.pending id) }
+    ensures { result ≡ is_pending_of thread (item_at posts.now.pending id) }
 {
     match pending_on(&posts.pending, id) {
         Some(pending) => pending.thread.number() == thread.number(),
@@ -56,19 +60,19 @@ fn is_pending_at(posts: &Posts, thread: ThreadId, id: u64) -> bool
 /// Looks at a call of a caller that is no collective. Only a load, the post of a list and a send take memory; of sends only one
 /// that is done.
 fn look_plain(
-    ranks: &Ranks,
-    memories: &Rows<Memory>,
+    ranks: &RankTables,
+    memories: &Sequence<Memory>,
     alloc: Global,
     invocation: &Invocation<'_>,
-) -> Result<Finding, NoMemory>
-    requires whole { AreWhole ranks.now memories.now }
+) -> Result<Evaluation, NoMemory>
+    requires whole { IsStateOf ranks.now memories.now }
     requires there { invocation.now.caller.rank < length ranks.now.posts }
     requires plain { (row_of invocation.now.call.now).group ≡ None }
-    ensures look { IfOk result (λ look. IsFindingIn look (state_in ranks.now memories.now) invocation.now.caller invocation.now.call.now) }
+    ensures look { IfOk result (λ look. IsEvaluationIn look (state_in ranks.now memories.now) invocation.now.caller invocation.now.call.now) }
     ensures ample { looks_with_memory invocation.now.call.now ≡ false → IsOk result }
     ensures idle { (ready : Ready) → is_send invocation.now.call.now ≡ true → answer_in (state_in ranks.now memories.now) invocation.now.caller.rank invocation.now.caller.thread invocation.now.call.now ≡ Some ready → is_idle (recorded_reply ready) ≡ true → IsOk result }
 {
-    let none = no_memory(alloc);
+    let none = empty_memory(alloc);
     let rank = invocation.caller.rank;
     let reach = call_reach(&ranks.limits, invocation);
     let own = own_memory(memories, &none, rank, &reach);
@@ -85,18 +89,18 @@ fn look_plain(
 
 /// Looks at a collective of a caller. Only an allreduce takes memory.
 fn look_collective(
-    ranks: &Ranks,
+    ranks: &RankTables,
     alloc: Global,
     caller: &CallerId,
     id: u64,
     call: &Call,
 ) -> Result<Ready, NoMemory>
-    requires whole { (memories : List Memory) × AreWhole ranks.now memories }
+    requires whole { (memories : List Memory) × IsStateOf ranks.now memories }
     requires there { caller.now.rank < length ranks.now.posts }
     ensures look { IfOk result (λ ready. (posts : Posts) → slice_get ranks.now.posts caller.now.rank ≡ Some posts → ready ≡ collective_answer posts (group_at ranks.now.groups id) caller.now.rank caller.now.thread id call.now) }
     ensures ample { is_allreduce call.now ≡ false → IsOk result }
 {
-    let none = no_group(alloc);
+    let none = empty_group(alloc);
     collective_look(
         alloc,
         ranks.posts.at(caller.rank.index()),
@@ -110,28 +114,28 @@ fn look_collective(
 
 /// Looks at a call of a caller. Only a load, the post of a list, a send and an allreduce take memory; of sends only one that is done.
 pub fn look_in(
-    ranks: &Ranks,
-    memories: &Rows<Memory>,
+    ranks: &RankTables,
+    memories: &Sequence<Memory>,
     alloc: Global,
     invocation: &Invocation<'_>,
-) -> Result<Finding, NoMemory>
-    requires whole { AreWhole ranks.now memories.now }
+) -> Result<Evaluation, NoMemory>
+    requires whole { IsStateOf ranks.now memories.now }
     requires there { invocation.now.caller.rank < length ranks.now.posts }
-    ensures look { IfOk result (λ look. IsFindingIn look (state_in ranks.now memories.now) invocation.now.caller invocation.now.call.now) }
+    ensures look { IfOk result (λ look. IsEvaluationIn look (state_in ranks.now memories.now) invocation.now.caller invocation.now.call.now) }
     ensures ample { looks_with_memory invocation.now.call.now ≡ false → IsOk result }
     ensures idle { (ready : Ready) → is_send invocation.now.call.now ≡ true → answer_in (state_in ranks.now memories.now) invocation.now.caller.rank invocation.now.caller.thread invocation.now.call.now ≡ Some ready → is_idle (recorded_reply ready) ≡ true → IsOk result }
 {
     match invocation.row.group {
         Some(id) => {
             let ready = look_collective(ranks, alloc, &invocation.caller, id, invocation.call)?;
-            Ok(Finding::plain(ready))
+            Ok(Evaluation::plain(ready))
         }
         None => look_plain(ranks, memories, alloc, invocation),
     }
 }
 
 /// Whether a collective is pending for a caller on the group that its call names.
-pub fn is_pending_in(ranks: &Ranks, invocation: &Invocation<'_>) -> bool
+pub fn is_pending_in(ranks: &RankTables, invocation: &Invocation<'_>) -> bool
     ensures { (memories : List Memory) → result ≡ is_pending (state_in ranks.now memories) invocation.now.caller.rank invocation.now.caller.thread invocation.now.call.now }
 {
     let caller = invocation.caller;
@@ -141,33 +145,33 @@ pub fn is_pending_in(ranks: &Ranks, invocation: &Invocation<'_>) -> bool
     }
 }
 
-/// Records a look at a call, on the posts of its rank and the memory that it works on. This and the calls up to `record_named`
+/// Records a look at a call, on the posts of its rank and the memory that it works on. This and the calls up to `record_with_lanes`
 /// are put into their callers, so that what was found is not moved from hand to hand.
 #[inline(always)]
 fn record_on(
-    ranks: &mut Ranks,
+    ranks: &mut RankTables,
     memory: &mut Memory,
     alloc: Global,
     invocation: &Invocation<'_>,
-    look: Finding,
+    look: Evaluation,
     charge: u32,
 ) -> Result<Reply, NoMemory>
     requires ranks { AreRanks ranks.old.limits ranks.old.posts }
-    requires taken { ranks.old.taken ≡ map taken_of ranks.old.posts }
+    requires taken { ranks.old.used ≡ map used_room_of ranks.old.posts }
     requires there { invocation.now.caller.rank < length ranks.old.posts }
-    requires look { (posts : Posts) → slice_get ranks.old.posts invocation.now.caller.rank ≡ Some posts → IsFindingOn look ranks.old.limits posts memory.old invocation.now.caller invocation.now.call.now }
+    requires look { (posts : Posts) → slice_get ranks.old.posts invocation.now.caller.rank ≡ Some posts → IsEvaluationOn look ranks.old.limits posts memory.old invocation.now.caller invocation.now.call.now }
     requires charge { IsCharge charge ranks.old.posts invocation.now.caller invocation.now.call.now look.ready }
     requires room { HasEventRoom ranks.old.limits ranks.old.posts invocation.now.caller invocation.now.call.now look.ready }
     ensures reply { IfOk result (λ reply. reply ≡ recorded_reply look.ready) }
-    ensures step { Steps {S = Lent} (recorded_of result) (record { posts = ranks.old.posts; memory = memory.old }) (record { posts = ranks.new.posts; memory = memory.new }) (call_lent ranks.old.limits ranks.old.posts look.message memory.old invocation.now.caller invocation.now.call.now (recorded_reply look.ready)) }
+    ensures step { Steps {S = PostsAndLentMemory} (recorded_of result) (record { posts = ranks.old.posts; memory = memory.old }) (record { posts = ranks.new.posts; memory = memory.new }) (call_lent ranks.old.limits ranks.old.posts look.message memory.old invocation.now.caller invocation.now.call.now (recorded_reply look.ready)) }
     ensures ranks { length ranks.new.posts ≡ length ranks.old.posts }
     ensures limits { ranks.new.limits ≡ ranks.old.limits }
     ensures groups { ranks.new.groups ≡ ranks.old.groups }
-    ensures taken { ranks.new.taken ≡ map taken_of ranks.new.posts }
+    ensures taken { ranks.new.used ≡ map used_room_of ranks.new.posts }
     ensures ample { keeps_memory invocation.now.call.now ≡ false → IsOk result }
 {
     let rank = invocation.caller.rank.index();
-    let taken = *ranks.taken.at(rank);
+    let taken = *ranks.used.at(rank);
     let used = taken + charge;
     let recorded = record(
         alloc,
@@ -178,60 +182,60 @@ fn record_on(
         used,
         look,
     )?;
-    *ranks.taken.at_mut(rank) = recorded.used;
+    *ranks.used.at_mut(rank) = recorded.used;
     Ok(recorded.reply)
 }
 
 /// Records a look at a call that is no collective.
 #[inline(always)]
 fn record_plain(
-    ranks: &mut Ranks,
-    memories: &mut Rows<Memory>,
+    ranks: &mut RankTables,
+    memories: &mut Sequence<Memory>,
     alloc: Global,
     invocation: &Invocation<'_>,
-    look: Finding,
+    look: Evaluation,
     charge: u32,
 ) -> Result<Reply, NoMemory>
-    requires whole { AreWhole ranks.old memories.old }
+    requires whole { IsStateOf ranks.old memories.old }
     requires found { IsFindingWithRoom look (state_in ranks.old memories.old) invocation.now.caller invocation.now.call.now charge }
     requires plain { (row_of invocation.now.call.now).group ≡ None }
     ensures reply { IfOk result (λ reply. reply ≡ recorded_reply look.ready) }
     ensures step { StepsBy (recorded_of result) (state_in ranks.old memories.old) (state_in ranks.new memories.new) (Called invocation.now.caller invocation.now.call.now (recorded_reply look.ready)) }
-    ensures taken { ranks.new.taken ≡ map taken_of ranks.new.posts }
+    ensures taken { ranks.new.used ≡ map used_room_of ranks.new.posts }
     ensures ample { keeps_memory invocation.now.call.now ≡ false → IsOk result }
 {
     let rank = invocation.caller.rank;
     match call_reach(&ranks.limits, invocation) {
-        Reach::Alone => {
-            let mut none = no_memory(alloc);
+        Footprint::Alone => {
+            let mut none = empty_memory(alloc);
             record_on(ranks, &mut none, alloc, invocation, look, charge)
         }
-        Reach::OwnMemory => {
+        Footprint::OwnMemory => {
             let memory = memories.at_mut(rank.index());
             record_on(ranks, memory, alloc, invocation, look, charge)
         }
-        Reach::PeerMemory(peer) => {
+        Footprint::PeerMemory(peer) => {
             let memory = memories.at_mut(peer.index());
             record_on(ranks, memory, alloc, invocation, look, charge)
         }
-        Reach::BothMemories(peer) => {
+        Footprint::BothMemories(peer) => {
             let target = memories.at_mut(peer.index());
             record_on(ranks, target, alloc, invocation, look, charge)
         }
-        Reach::Group(_) => {
-            let mut none = no_memory(alloc);
+        Footprint::Group(_) => {
+            let mut none = empty_memory(alloc);
             record_on(ranks, &mut none, alloc, invocation, look, charge)
         }
-        Reach::GroupAndMemory(_) => {
+        Footprint::GroupAndMemory(_) => {
             let memory = memories.at_mut(rank.index());
             record_on(ranks, memory, alloc, invocation, look, charge)
         }
-        Reach::PeerPosts(peer) => {
+        Footprint::PeerPosts(peer) => {
             let own = ranks.posts.at(rank.index());
-            let news = news(rank, own, invocation.call, &look);
-            let mut none = no_memory(alloc);
+            let news = registration(rank, own, invocation.call, &look);
+            let mut none = empty_memory(alloc);
             let reply = record_on(ranks, &mut none, alloc, invocation, look, charge)?;
-            tell(ranks.posts.at_mut(peer.index()), news);
+            register_at_peer(ranks.posts.at_mut(peer.index()), news);
             Ok(reply)
         }
     }
@@ -239,13 +243,13 @@ fn record_plain(
 
 /// Completes a collective that was looked at, or records its refusal or its timeout. It takes no memory.
 fn record_collective(
-    ranks: &mut Ranks,
+    ranks: &mut RankTables,
     alloc: Global,
     invocation: &Invocation<'_>,
     id: u64,
     ready: Ready,
 ) -> Reply
-    requires whole { (memories : List Memory) × AreWhole ranks.old memories }
+    requires whole { (memories : List Memory) × IsStateOf ranks.old memories }
     requires declared { (memories : List Memory) → is_declared (state_in ranks.old memories) invocation.now.caller.rank invocation.now.caller.thread ≡ true }
     requires there { invocation.now.caller.rank < length ranks.old.posts }
     requires group { (row_of invocation.now.call.now).group ≡ Some id }
@@ -254,7 +258,7 @@ fn record_collective(
     requires room { HasEventRoom ranks.old.limits ranks.old.posts invocation.now.caller invocation.now.call.now ready }
     ensures reply { result ≡ recorded_reply ready }
     ensures step { (memories : List Memory) → step (state_in ranks.old memories) (Called invocation.now.caller invocation.now.call.now (recorded_reply ready)) ≡ Ok (state_in ranks.new memories) }
-    ensures taken { ranks.new.taken ≡ map taken_of ranks.new.posts }
+    ensures taken { ranks.new.used ≡ map used_room_of ranks.new.posts }
 {
     let rank = invocation.caller.rank.index();
     if id < 8 {
@@ -263,17 +267,17 @@ fn record_collective(
             id,
             ranks.posts.at_mut(rank),
             ranks.groups.at_mut(id as usize),
-            ranks.taken.at_mut(rank),
+            ranks.used.at_mut(rank),
             ready,
         );
     }
-    let mut none = no_group(alloc);
+    let mut none = empty_group(alloc);
     complete(
         invocation,
         id,
         ranks.posts.at_mut(rank),
         &mut none,
-        ranks.taken.at_mut(rank),
+        ranks.used.at_mut(rank),
         ready,
     )
 }
@@ -281,22 +285,22 @@ fn record_collective(
 /// Records a look at a call that purges nothing, and names the lane to which it posts.
 #[inline(always)]
 fn record_posting(
-    ranks: &mut Ranks,
-    memories: &mut Rows<Memory>,
+    ranks: &mut RankTables,
+    memories: &mut Sequence<Memory>,
     standing: &mut Vec<LaneId>,
     alloc: Global,
     invocation: &Invocation<'_>,
-    look: Finding,
+    look: Evaluation,
     charge: u32,
 ) -> Result<Reply, NoMemory>
-    requires machine { IsMachine (state_in ranks.old memories.old) ranks.old.taken standing.old.items }
+    requires machine { IsMachine (state_in ranks.old memories.old) ranks.old.used standing.old.items }
     requires found { IsFindingWithRoom look (state_in ranks.old memories.old) invocation.now.caller invocation.now.call.now charge }
     requires plain { (row_of invocation.now.call.now).group ≡ None }
     requires unpurged { look_purge invocation.now.call.now look ≡ None }
     ensures reply { IfOk result (λ reply. reply ≡ recorded_reply look.ready) }
     ensures step { StepsBy (recorded_of result) (state_in ranks.old memories.old) (state_in ranks.new memories.new) (Called invocation.now.caller invocation.now.call.now (recorded_reply look.ready)) }
-    ensures taken { ranks.new.taken ≡ map taken_of ranks.new.posts }
-    ensures named { standing.new.items ≡ standing_lanes ranks.new.posts }
+    ensures taken { ranks.new.used ≡ map used_room_of ranks.new.posts }
+    ensures named { standing.new.items ≡ nonempty_lanes ranks.new.posts }
     ensures ample { keeps_memory invocation.now.call.now ≡ false → IsOk result }
 {
     let Some(id) = look_lane(invocation, &look) else {
@@ -309,7 +313,7 @@ fn record_posting(
         return Err(NoMemory);
     }
     let reply = record_plain(ranks, memories, alloc, invocation, look, charge)?;
-    name_lane(standing, id);
+    insert_lane(standing, id);
     Ok(reply)
 }
 
@@ -317,22 +321,22 @@ fn record_posting(
 /// gives the reply with which the call was recorded. The look is one of this very call in this very state, and found no join, and
 /// the rank has room for its event, so nothing is looked for or tested again.
 #[inline(always)]
-pub fn record_named(
-    ranks: &mut Ranks,
-    memories: &mut Rows<Memory>,
+pub fn record_with_lanes(
+    ranks: &mut RankTables,
+    memories: &mut Sequence<Memory>,
     standing: &mut Vec<LaneId>,
     alloc: Global,
     invocation: &Invocation<'_>,
-    look: Finding,
+    look: Evaluation,
     charge: u32,
 ) -> Result<Reply, NoMemory>
-    requires machine { IsMachine (state_in ranks.old memories.old) ranks.old.taken standing.old.items }
+    requires machine { IsMachine (state_in ranks.old memories.old) ranks.old.used standing.old.items }
     requires found { IsFindingWithRoom look (state_in ranks.old memories.old) invocation.now.caller invocation.now.call.now charge }
     requires unjoined { is_joining look.ready ≡ false }
     ensures reply { IfOk result (λ reply. reply ≡ recorded_reply look.ready) }
     ensures step { StepsBy (recorded_of result) (state_in ranks.old memories.old) (state_in ranks.new memories.new) (Called invocation.now.caller invocation.now.call.now (recorded_reply look.ready)) }
-    ensures taken { ranks.new.taken ≡ map taken_of ranks.new.posts }
-    ensures named { standing.new.items ≡ standing_lanes ranks.new.posts }
+    ensures taken { ranks.new.used ≡ map used_room_of ranks.new.posts }
+    ensures named { standing.new.items ≡ nonempty_lanes ranks.new.posts }
     ensures ample { keeps_memory invocation.now.call.now ≡ false → IsOk result }
 {
     if let Some(id) = invocation.row.group {
@@ -343,12 +347,12 @@ pub fn record_named(
         return record_posting(ranks, memories, standing, alloc, invocation, look, charge);
     };
     let reply = record_plain(ranks, memories, alloc, invocation, look, charge)?;
-    unname_queue(standing, invocation.caller.rank, queue);
+    remove_queue_lanes(standing, invocation.caller.rank, queue);
     Ok(reply)
 }
 
 /// What the event that records what a look found takes of its rank's room.
-pub fn event_charge(ranks: &Ranks, invocation: &Invocation<'_>, ready: &Ready) -> u32
+pub fn event_charge(ranks: &RankTables, invocation: &Invocation<'_>, ready: &Ready) -> u32
     requires { invocation.now.caller.rank < length ranks.now.posts }
     ensures charge { IsCharge result ranks.now.posts invocation.now.caller invocation.now.call.now ready.now }
     ensures bound { result ≤ 515 }
@@ -359,30 +363,30 @@ pub fn event_charge(ranks: &Ranks, invocation: &Invocation<'_>, ready: &Ready) -
 }
 
 /// Whether a rank has room for an event that takes so much of it.
-fn has_room(ranks: &Ranks, rank: RankId, charge: u32) -> bool
-    requires whole { (memories : List Memory) × AreWhole ranks.now memories }
+fn has_room(ranks: &RankTables, rank: RankId, charge: u32) -> bool
+    requires whole { (memories : List Memory) × IsStateOf ranks.now memories }
     requires there { rank < length ranks.now.posts }
     requires charge { charge ≤ 515 }
     ensures { (posts : Posts) → slice_get ranks.now.posts rank ≡ Some posts → result ≡ nat_le (posts.events + owed posts + charge) ranks.now.limits.events }
 {
-    let taken = *ranks.taken.at(rank.index());
+    let taken = *ranks.used.at(rank.index());
     taken + charge <= ranks.limits.events
 }
 
 /// Steps by a call with its reply: its caller has a section, the reply is the one that may be recorded, and its rank has
 /// room.
 pub fn step_called(
-    ranks: &mut Ranks,
-    memories: &mut Rows<Memory>,
+    ranks: &mut RankTables,
+    memories: &mut Sequence<Memory>,
     standing: &mut Vec<LaneId>,
     alloc: Global,
     invocation: &Invocation<'_>,
     reply: &Reply,
 ) -> Result<(), StepFault>
-    requires { IsMachine (state_in ranks.old memories.old) ranks.old.taken standing.old.items }
+    requires { IsMachine (state_in ranks.old memories.old) ranks.old.used standing.old.items }
     ensures step { StepsBy result (state_in ranks.old memories.old) (state_in ranks.new memories.new) (Called invocation.now.caller invocation.now.call.now reply.now) }
-    ensures taken { ranks.new.taken ≡ map taken_of ranks.new.posts }
-    ensures named { standing.new.items ≡ standing_lanes ranks.new.posts }
+    ensures taken { ranks.new.used ≡ map used_room_of ranks.new.posts }
+    ensures named { standing.new.items ≡ nonempty_lanes ranks.new.posts }
     ensures ample { (looks_with_memory invocation.now.call.now || keeps_memory invocation.now.call.now) ≡ false → result ≢ Err StepFault.NoMemory }
 {
     if !has_section(ranks, &invocation.caller) {
@@ -399,20 +403,20 @@ pub fn step_called(
     if !has_room(ranks, invocation.caller.rank, charge) {
         return Err(StepFault::Illegal(Why::Limit));
     }
-    match record_named(ranks, memories, standing, alloc, invocation, look, charge) {
+    match record_with_lanes(ranks, memories, standing, alloc, invocation, look, charge) {
         Ok(_) => Ok(()),
         Err(NoMemory) => Err(StepFault::NoMemory),
     }
 }
 
 /// Whether a collective of a caller may join a group with these arguments.
-fn may_join_in(ranks: &Ranks, alloc: Global, joining: &Joining<'_>) -> Result<bool, NoMemory>
-    requires whole { (memories : List Memory) × AreWhole ranks.now memories }
+fn may_join_in(ranks: &RankTables, alloc: Global, joining: &Joining<'_>) -> Result<bool, NoMemory>
+    requires whole { (memories : List Memory) × IsStateOf ranks.now memories }
     requires there { joining.now.caller.rank < length ranks.now.posts }
     ensures { IfOk result (λ may. (posts : Posts) → slice_get ranks.now.posts joining.now.caller.rank ≡ Some posts
         → may ≡ is_join_of (collective_answer posts (group_at ranks.now.groups joining.now.group) joining.now.caller.rank joining.now.caller.thread joining.now.group (joining_call joining.now.group joining.now.args.now)) joining.now.args.now) }
 {
-    let none = no_group(alloc);
+    let none = empty_group(alloc);
     let number = u64::from(joining.group.number());
     may_join(
         alloc,
@@ -425,18 +429,18 @@ fn may_join_in(ranks: &Ranks, alloc: Global, joining: &Joining<'_>) -> Result<bo
 /// Joins: the step by the join of a collective of a caller to a group with these arguments, which it may join, and its rank has
 /// room for the event.
 fn join_in(
-    ranks: &mut Ranks,
-    memories: &mut Rows<Memory>,
+    ranks: &mut RankTables,
+    memories: &mut Sequence<Memory>,
     alloc: Global,
     joining: &Joining<'_>,
 ) -> Result<(), NoMemory>
-    requires whole { AreWhole ranks.old memories.old }
+    requires whole { IsStateOf ranks.old memories.old }
     requires declared { is_declared (state_in ranks.old memories.old) joining.now.caller.rank joining.now.caller.thread ≡ true }
     requires there { joining.now.caller.rank < length ranks.old.posts }
     requires joins { MayJoin (state_in ranks.old memories.old) joining.now.caller joining.now.group joining.now.args.now }
     requires room { HasJoinRoom ranks.old.limits ranks.old.posts joining.now.caller.rank }
     ensures step { StepsBy (recorded_of result) (state_in ranks.old memories.old) (state_in ranks.new memories.new) (Joined joining.now.caller joining.now.group joining.now.args.now) }
-    ensures taken { ranks.new.taken ≡ map taken_of ranks.new.posts }
+    ensures taken { ranks.new.used ≡ map used_room_of ranks.new.posts }
 {
     let rank = joining.caller.rank.index();
     join(
@@ -446,20 +450,20 @@ fn join_in(
         ranks.posts.at_mut(rank),
         memories.at_mut(rank),
         ranks.groups.at_mut(joining.group.index()),
-        ranks.taken.at_mut(rank),
+        ranks.used.at_mut(rank),
     )
 }
 
 /// Steps by a join: its caller has a section, its collective may join with these arguments, and its rank has room.
 pub fn step_joined(
-    ranks: &mut Ranks,
-    memories: &mut Rows<Memory>,
+    ranks: &mut RankTables,
+    memories: &mut Sequence<Memory>,
     alloc: Global,
     joining: &Joining<'_>,
 ) -> Result<(), StepFault>
-    requires { AreWhole ranks.old memories.old }
+    requires { IsStateOf ranks.old memories.old }
     ensures step { StepsBy result (state_in ranks.old memories.old) (state_in ranks.new memories.new) (Joined joining.now.caller joining.now.group joining.now.args.now) }
-    ensures taken { ranks.new.taken ≡ map taken_of ranks.new.posts }
+    ensures taken { ranks.new.used ≡ map used_room_of ranks.new.posts }
 {
     if !has_section(ranks, &joining.caller) {
         return Err(StepFault::Illegal(Why::Caller));
@@ -482,17 +486,17 @@ pub fn step_joined(
 
 /// Joins where a look at a collective found that it may, with these arguments, and the join is a step. It gives the event.
 pub fn join_found(
-    ranks: &mut Ranks,
-    memories: &mut Rows<Memory>,
+    ranks: &mut RankTables,
+    memories: &mut Sequence<Memory>,
     alloc: Global,
     invocation: &Invocation<'_>,
     args: Args,
 ) -> Result<Event, NoMemory>
-    requires whole { AreWhole ranks.old memories.old }
+    requires whole { IsStateOf ranks.old memories.old }
     requires joins { MayJoinWith args (state_in ranks.old memories.old) invocation.now.caller invocation.now.call.now }
     ensures event { IfOk result (λ event. event ≡ join_event invocation.now.caller invocation.now.call.now args) }
     ensures step { StepsBy (recorded_of result) (state_in ranks.old memories.old) (state_in ranks.new memories.new) (join_event invocation.now.caller invocation.now.call.now args) }
-    ensures taken { ranks.new.taken ≡ map taken_of ranks.new.posts }
+    ensures taken { ranks.new.used ≡ map used_room_of ranks.new.posts }
 {
     let id = GroupId::of(invocation.row.group.unwrap_or(0) as u32);
     let joining = Joining {

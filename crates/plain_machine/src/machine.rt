@@ -5,7 +5,7 @@ ghost use Rattle.gaspi_types.specs.CallRows.{need_of};
 ghost use Rattle.gaspi_model.specs.CollectiveCalls.{is_joining, join_event};
 ghost use Rattle.gaspi_model.specs.Sound.{IsSound};
 ghost use Rattle.gaspi_model.specs.State.{opening};
-ghost use Rattle.gaspi_model.specs.Step.{step, Steps, answer_in, is_declared, is_active, is_pending, is_full_in, room_taken, transfer_event};
+ghost use Rattle.gaspi_model.specs.Step.{step, Steps, answer_in, is_declared, is_active, is_pending, lacks_room_in, used_room, transfer_event};
 ghost use Rattle.gaspi_model.specs.Transfers.{transfers};
 ghost use Rattle.gaspi_types.specs.Replies.{is_idle};
 ghost use Rattle.gaspi_types.specs.declared.events.Event.TheVariants.{Called};
@@ -14,34 +14,36 @@ ghost use Rattle.gaspi_types.specs.declared.replies.Ready.TheVariants.{Join};
 ghost use Rattle.gaspi_model.specs.Calls.{recorded_reply};
 ghost use Rattle.plain_calls.specs.Looks.{made_of, recorded_of};
 ghost use Rattle.plain_calls.specs.Memory.{is_send, looks_with_memory, keeps_memory, takes_memory};
-ghost use Rattle.plain_machine.specs.Looking.{IsFindingIn};
+ghost use Rattle.plain_machine.specs.Looking.{IsEvaluationIn};
 ghost use Rattle.plain_machine.specs.Machine.{is_still};
 ghost use Rattle.plain_machine.specs.Words.{word_in};
 
 use crate::listing::{transfer_at, transfer_count, transfers};
-use crate::looking::{event_charge, has_section, is_pending_in, join_found, look_in, record_named};
-use crate::opening::{all_groups, all_memories, all_posts, all_taken};
-use crate::ranks::Ranks;
-use crate::standing::LaneId;
+use crate::looking::{
+    event_charge, has_section, is_pending_in, join_found, look_in, record_with_lanes,
+};
+use crate::nonempty_lanes::LaneId;
+use crate::opening::{all_groups, all_memories, all_posts, all_used};
+use crate::ranks::RankTables;
 use crate::steps::{make, step};
 use gaspi_model::{Memory, StepFault, soundness};
 use gaspi_types::{
-    Args, Call, CallerId, Event, Invocation, Limits, NoMemory, RankId, Ready, Reply, Rows, Shape,
-    Transfer,
+    Args, Call, CallerId, Event, Invocation, Limits, NoMemory, RankId, Ready, Reply, Sequence,
+    Shape, Transfer,
 };
-use plain_calls::{Finding, bytes_of, is_running, thread_at};
+use plain_calls::{Evaluation, bytes_of, is_running, thread_at};
 use segment_store::{is_within, word_at};
 use std::alloc::Global;
 use std::marker::Model;
 
 /// Transfers that may come next.
-pub type Transfers = Rows<Transfer>;
+pub type Transfers = Sequence<Transfer>;
 
 /// The machine. Contracts see it as its state.
 #[derive(Debug, Drop)]
 pub struct Machine {
-    ranks: Ranks,
-    memories: Rows<Memory>,
+    ranks: RankTables,
+    memories: Sequence<Memory>,
     /// The lanes that have an entry, by origin, queue and target.
     standing: Vec<LaneId>,
     /// How many transfers may come next, where they were counted since they last changed.
@@ -57,7 +59,7 @@ impl Model for Machine {
 
     ghost view = { λ m. state_in m.ranks m.memories };
 
-    ghost invariant = { λ m. IsMachine (state_in m.ranks m.memories) m.ranks.taken m.standing.items × IsCounted (state_in m.ranks m.memories) m.counted };
+    ghost invariant = { λ m. IsMachine (state_in m.ranks m.memories) m.ranks.used m.standing.items × IsCounted (state_in m.ranks m.memories) m.counted };
 }
 
 /// What is left of a count of transfers where a call is recorded: all, where the call posts nothing and purges nothing.
@@ -87,10 +89,10 @@ impl Machine {
         soundness();
         let limits = shape.limits();
         Ok(Machine {
-            ranks: Ranks {
+            ranks: RankTables {
                 limits,
                 posts: all_posts(alloc, shape)?,
-                taken: all_taken(alloc, shape)?,
+                used: all_used(alloc, shape)?,
                 groups: all_groups(alloc, shape)?,
             },
             memories: all_memories(alloc, shape)?,
@@ -121,9 +123,9 @@ impl Machine {
     /// ready; and what it asks to be appended. Only a load takes memory, for the bytes that it reads, the post of a list, for its
     /// entries, an allreduce, for its numbers, and a send that is done, for its message: a look at one that is refused or not ready
     /// takes none.
-    pub fn look(&self, alloc: Global, invocation: &Invocation<'_>) -> Result<Finding, NoMemory>
+    pub fn look(&self, alloc: Global, invocation: &Invocation<'_>) -> Result<Evaluation, NoMemory>
         requires { is_declared self.now invocation.now.caller.rank invocation.now.caller.thread ≡ true }
-        ensures look { IfOk result (λ look. IsFindingIn look self.now invocation.now.caller invocation.now.call.now) }
+        ensures look { IfOk result (λ look. IsEvaluationIn look self.now invocation.now.caller invocation.now.call.now) }
         ensures answer { IfOk result (λ look. answer_in self.now invocation.now.caller.rank invocation.now.caller.thread invocation.now.call.now ≡ Some look.ready) }
         ensures ample { looks_with_memory invocation.now.call.now ≡ false → IsOk result }
         ensures idle { (ready : Ready) → is_send invocation.now.call.now ≡ true → answer_in self.now invocation.now.caller.rank invocation.now.caller.thread invocation.now.call.now ≡ Some ready → is_idle (recorded_reply ready) ≡ true → IsOk result }
@@ -140,10 +142,10 @@ impl Machine {
         &mut self,
         alloc: Global,
         invocation: &Invocation<'_>,
-        look: Finding,
+        look: Evaluation,
     ) -> Result<Reply, NoMemory>
         requires declared { is_declared self.old invocation.now.caller.rank invocation.now.caller.thread ≡ true }
-        requires look { IsFindingIn look self.old invocation.now.caller invocation.now.call.now }
+        requires look { IsEvaluationIn look self.old invocation.now.caller invocation.now.call.now }
         requires unjoined { is_joining look.ready ≡ false }
         requires steps { IsOk (step self.old (Called invocation.now.caller invocation.now.call.now (recorded_reply look.ready))) }
         ensures reply { IfOk result (λ reply. reply ≡ recorded_reply look.ready) }
@@ -153,7 +155,7 @@ impl Machine {
         soundness();
         self.counted = kept_count(self.counted, invocation.call);
         let charge = event_charge(&self.ranks, invocation, &look.ready);
-        record_named(
+        record_with_lanes(
             &mut self.ranks,
             &mut self.memories,
             &mut self.standing,
@@ -253,9 +255,9 @@ impl Machine {
     /// How many events of a rank have room yet, none for what it owes.
     pub fn room(&self, rank: RankId) -> u64
         requires { rank < length self.now.posts }
-        ensures { result + room_taken self.now rank ≡ self.now.limits.events }
+        ensures { result + used_room self.now rank ≡ self.now.limits.events }
     {
-        u64::from(self.ranks.limits.events) - u64::from(*self.ranks.taken.at(rank.index()))
+        u64::from(self.ranks.limits.events) - u64::from(*self.ranks.used.at(rank.index()))
     }
 
     /// Whether a rank is there.
@@ -286,7 +288,7 @@ impl Machine {
     /// Whether the rank of a caller has no room for the events that its call needs. (own choice)
     pub fn is_full(&self, invocation: &Invocation<'_>) -> bool
         requires { is_declared self.now invocation.now.caller.rank invocation.now.caller.thread ≡ true }
-        ensures { result ≡ is_full_in self.now invocation.now.caller invocation.now.call.now }
+        ensures { result ≡ lacks_room_in self.now invocation.now.caller invocation.now.call.now }
     {
         self.room(invocation.caller.rank) < self.needed(invocation)
     }

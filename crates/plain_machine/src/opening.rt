@@ -8,13 +8,16 @@ ghost use Rattle.gaspi_model.specs.State.{declared_size, opening_thread, opening
 use gaspi_model::{
     Memory, Posts, declared_size, opening_corrupt, opening_table, opening_thread, opening_threads,
 };
-use gaspi_types::{Entry, Group, Handles, NoMemory, Part, Pending, Queue, Rows, Shape, all_below};
+use gaspi_types::{
+    Entry, Group, Handles, NoMemory, PendingCollective, Queue, RankContributions, Sequence, Shape,
+    all_below,
+};
 use plain_calls::{is_running, new_slots, opening_segments};
 use std::alloc::Global;
 
 /// The room that a rank has taken at the start: the ends of its threads.
 #[tactic(auto, using(gaspi_model::proofs::Ranges::map_range_more))]
-fn opening_taken(shape: &Shape, rank: u32) -> u32
+fn opening_used(shape: &Shape, rank: u32) -> u32
     ensures { result ≡ count_by is_running (map (opening_thread shape.now rank) (range_with_len 0 4)) }
 {
     let mut running = 0;
@@ -27,21 +30,21 @@ fn opening_taken(shape: &Shape, rank: u32) -> u32
 }
 
 /// An empty lane to each rank.
-fn opening_lanes(alloc: Global, ranks: u32) -> Result<Rows<Rows<Entry>>, NoMemory>
+fn opening_lanes(alloc: Global, ranks: u32) -> Result<Sequence<Sequence<Entry>>, NoMemory>
     ensures { IfOk result (λ lanes. lanes ≡ replicate ranks []) }
 {
-    let mut lanes = Rows::new(alloc);
+    let mut lanes = Sequence::new(alloc);
     for _rank in 0..ranks {
-        lanes.push(Rows::new(alloc))?;
+        lanes.push(Sequence::new(alloc))?;
     }
     Ok(lanes)
 }
 
 /// The queues of a rank, with no entry.
-fn opening_queues(alloc: Global, queues: u32, ranks: u32) -> Result<Rows<Queue>, NoMemory>
+fn opening_queues(alloc: Global, queues: u32, ranks: u32) -> Result<Sequence<Queue>, NoMemory>
     ensures { IfOk result (λ rows. rows ≡ replicate queues (opening_queue ranks)) }
 {
-    let mut rows = Rows::new(alloc);
+    let mut rows = Sequence::new(alloc);
     for _queue in 0..queues {
         rows.push(Queue {
             open_count: 0,
@@ -53,10 +56,10 @@ fn opening_queues(alloc: Global, queues: u32, ranks: u32) -> Result<Rows<Queue>,
 }
 
 /// No collective is pending on any group.
-fn opening_pending(alloc: Global) -> Result<Rows<Option<Pending>>, NoMemory>
+fn opening_pending(alloc: Global) -> Result<Sequence<Option<PendingCollective>>, NoMemory>
     ensures { IfOk result (λ pending. pending ≡ replicate 8 None) }
 {
-    let mut pending = Rows::new(alloc);
+    let mut pending = Sequence::new(alloc);
     for _group in 0..8u32 {
         pending.push(None)?;
     }
@@ -86,7 +89,7 @@ fn opening_slots_at(
     shape: &Shape,
     rank: u32,
     segment: u32,
-) -> Result<Option<Rows<u32>>, NoMemory>
+) -> Result<Option<Sequence<u32>>, NoMemory>
     ensures { IfOk result (λ slots. slots ≡ option_map (λ size. new_slots shape.now.limits.notes) (declared_size shape.now rank segment)) }
 {
     match declared_size(shape, rank, segment) {
@@ -101,10 +104,10 @@ fn opening_slots(
     alloc: Global,
     shape: &Shape,
     rank: u32,
-) -> Result<Rows<Option<Rows<u32>>>, NoMemory>
+) -> Result<Sequence<Option<Sequence<u32>>>, NoMemory>
     ensures { IfOk result (λ slots. slots ≡ opening_slots shape.now rank) }
 {
-    let mut slots = Rows::new(alloc);
+    let mut slots = Sequence::new(alloc);
     for segment in 0..32 {
         slots.push(opening_slots_at(alloc, shape, rank, segment)?)?;
     }
@@ -118,16 +121,16 @@ fn opening_memory(alloc: Global, shape: &Shape, rank: u32) -> Result<Memory, NoM
     Ok(Memory {
         segments: opening_segments(alloc, shape, rank)?,
         slots: opening_slots(alloc, shape, rank)?,
-        inbox: Rows::with_room(alloc, shape.inbox() as usize)?,
+        inbox: Sequence::with_capacity(alloc, shape.inbox() as usize)?,
     })
 }
 
 /// The posts of each rank.
 #[tactic(auto, using(gaspi_model::proofs::Ranges::map_range_more))]
-pub fn all_posts(alloc: Global, shape: &Shape) -> Result<Rows<Posts>, NoMemory>
+pub fn all_posts(alloc: Global, shape: &Shape) -> Result<Sequence<Posts>, NoMemory>
     ensures { IfOk result (λ posts. posts ≡ map (opening_posts shape.now) (range_with_len 0 shape.now.limits.ranks)) }
 {
-    let mut posts = Rows::new(alloc);
+    let mut posts = Sequence::new(alloc);
     for rank in 0..shape.ranks() {
         posts.push(opening_posts(alloc, shape, rank)?)?;
     }
@@ -136,10 +139,10 @@ pub fn all_posts(alloc: Global, shape: &Shape) -> Result<Rows<Posts>, NoMemory>
 
 /// The memory of each rank.
 #[tactic(auto, using(gaspi_model::proofs::Ranges::map_range_more))]
-pub fn all_memories(alloc: Global, shape: &Shape) -> Result<Rows<Memory>, NoMemory>
+pub fn all_memories(alloc: Global, shape: &Shape) -> Result<Sequence<Memory>, NoMemory>
     ensures { IfOk result (λ memories. memories ≡ map (opening_memory shape.now) (range_with_len 0 shape.now.limits.ranks)) }
 {
-    let mut memories = Rows::new(alloc);
+    let mut memories = Sequence::new(alloc);
     for rank in 0..shape.ranks() {
         memories.push(opening_memory(alloc, shape, rank)?)?;
     }
@@ -148,24 +151,24 @@ pub fn all_memories(alloc: Global, shape: &Shape) -> Result<Rows<Memory>, NoMemo
 
 /// The room that each rank has taken.
 #[tactic(auto, using(gaspi_model::proofs::Ranges::map_range_more))]
-pub fn all_taken(alloc: Global, shape: &Shape) -> Result<Rows<u32>, NoMemory>
+pub fn all_used(alloc: Global, shape: &Shape) -> Result<Sequence<u32>, NoMemory>
     ensures { IfOk result (λ taken. taken ≡ map (λ rank. count_by is_running (map (opening_thread shape.now rank) (range_with_len 0 4))) (range_with_len 0 shape.now.limits.ranks)) }
 {
-    let mut taken = Rows::new(alloc);
+    let mut taken = Sequence::new(alloc);
     for rank in 0..shape.ranks() {
-        taken.push(opening_taken(shape, rank))?;
+        taken.push(opening_used(shape, rank))?;
     }
     Ok(taken)
 }
 
 /// The part of each rank in a group, to which none has contributed.
-fn opening_parts(alloc: Global, ranks: u32) -> Result<Rows<Part>, NoMemory>
+fn opening_parts(alloc: Global, ranks: u32) -> Result<Sequence<RankContributions>, NoMemory>
     ensures { IfOk result (λ parts. parts ≡ replicate ranks opening_part) }
 {
-    let mut parts = Rows::new(alloc);
+    let mut parts = Sequence::new(alloc);
     for _rank in 0..ranks {
-        parts.push(Part {
-            contributions: Rows::new(alloc),
+        parts.push(RankContributions {
+            contributions: Sequence::new(alloc),
             completed: 0,
         })?;
     }
@@ -184,17 +187,17 @@ fn opening_group(alloc: Global, ranks: u32, group: u32) -> Result<Group, NoMemor
     };
     Ok(Group {
         members,
-        parts: opening_parts(alloc, ranks)?,
+        contributions: opening_parts(alloc, ranks)?,
     })
 }
 
 /// Each group.
 #[tactic(auto, using(gaspi_model::proofs::Ranges::map_range_more))]
-pub fn all_groups(alloc: Global, shape: &Shape) -> Result<Rows<Group>, NoMemory>
+pub fn all_groups(alloc: Global, shape: &Shape) -> Result<Sequence<Group>, NoMemory>
     ensures { IfOk result (λ groups. groups ≡ map (opening_group shape.now.limits.ranks) (range_with_len 0 8)) }
 {
     let ranks = shape.limits().ranks;
-    let mut groups = Rows::new(alloc);
+    let mut groups = Sequence::new(alloc);
     for group in 0..8 {
         groups.push(opening_group(alloc, ranks, group)?)?;
     }

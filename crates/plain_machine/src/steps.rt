@@ -2,28 +2,28 @@
 
 ghost use Rattle.std.specs.Prelude.{◌≡◌, ◌≢◌, ◌<◌, ℕ, List, length, map, IfOk, Err, true, false};
 ghost use Rattle.gaspi_types.specs.declared.events.Event.TheVariants.{Take, Put};
-ghost use Rattle.gaspi_types.specs.declared.touches.Reach.TheVariants.{PeerMemory, BothMemories};
+ghost use Rattle.gaspi_types.specs.declared.footprints.Footprint.TheVariants.{PeerMemory, BothMemories};
 ghost use Rattle.gaspi_model.specs.Step.{Steps, transfer_event};
 ghost use Rattle.gaspi_model.specs.declared.states.Memory.{Memory};
 ghost use Rattle.plain_calls.specs.Looks.{made_of};
 ghost use Rattle.plain_calls.specs.Memory.{takes_memory};
-ghost use Rattle.plain_machine.specs.Machine.{AreWhole, IsMachine, StepsBy, state_in, taken_of, take_event, put_event};
-ghost use Rattle.plain_machine.specs.Entries.{found_at, reached_outcome, memories_after_put, spared};
-ghost use Rattle.plain_machine.specs.Standing.{standing_lanes};
+ghost use Rattle.plain_machine.specs.Machine.{IsStateOf, IsMachine, StepsBy, state_in, used_room_of, take_event, put_event};
+ghost use Rattle.plain_machine.specs.Entries.{found_at, reached_outcome, memories_after_put, released_by_take};
+ghost use Rattle.plain_machine.specs.NonemptyLanes.{nonempty_lanes};
 
+use crate::footprints::{empty_memory, worked_memory};
 use crate::looking::{step_called, step_joined};
-use crate::ranks::Ranks;
-use crate::reaching::{no_memory, worked_memory};
-use crate::standing::{LaneId, has_entry, unname_lane};
-use crate::transfers::{FoundEntry, find_entry, put_bytes, set_put, set_taken, take_bytes};
+use crate::nonempty_lanes::{LaneId, has_entry, remove_lane};
+use crate::ranks::RankTables;
+use crate::transfers::{LaneEntry, find_entry, put_bytes, set_put, set_take, take_bytes};
 use gaspi_model::{Memory, StepFault, Why};
-use gaspi_types::{Event, Invocation, Outcome, RankId, Reach, Rows, Transfer};
+use gaspi_types::{Event, Footprint, Invocation, Outcome, RankId, Sequence, Transfer};
 use plain_calls::Joining;
 use std::alloc::Global;
 
 /// A take that failed spares its rank the event of the entry's put.
-fn spare(rooms: &mut Rows<u32>, rank: usize, outcome: Outcome)
-    ensures { rooms.new ≡ spared rooms.old rank outcome }
+fn release(rooms: &mut Sequence<u32>, rank: usize, outcome: Outcome)
+    ensures { rooms.new ≡ released_by_take rooms.old rank outcome }
 {
     if matches!(outcome, Outcome::Failed) && rank < rooms.len() {
         let room = rooms.at_mut(rank);
@@ -34,17 +34,17 @@ fn spare(rooms: &mut Rows<u32>, rank: usize, outcome: Outcome)
 /// Steps by a take, with the outcome that is given, or else the machine's: a write takes its bytes from its origin's memory,
 /// a read from its target's. It gives the outcome.
 fn step_take(
-    ranks: &mut Ranks,
-    memories: &Rows<Memory>,
+    ranks: &mut RankTables,
+    memories: &Sequence<Memory>,
     alloc: Global,
     id: &LaneId,
     number: u32,
     given: Option<Outcome>,
 ) -> Result<Outcome, StepFault>
-    requires { AreWhole ranks.old memories.now }
+    requires { IsStateOf ranks.old memories.now }
     ensures outcome { IfOk result (λ outcome. take_event (state_in ranks.old memories.now) id.now number given ≡ Take id.now.origin id.now.queue id.now.target number outcome) }
     ensures step { StepsBy (made_of result) (state_in ranks.old memories.now) (state_in ranks.new memories.now) (take_event (state_in ranks.old memories.now) id.now number given) }
-    ensures taken { ranks.new.taken ≡ map taken_of ranks.new.posts }
+    ensures taken { ranks.new.used ≡ map used_room_of ranks.new.posts }
 {
     let rank = id.origin.index();
     if rank >= ranks.posts.len() {
@@ -54,7 +54,7 @@ fn step_take(
         Ok(at) => at,
         Err(why) => return Err(StepFault::Illegal(why)),
     };
-    let none = no_memory(alloc);
+    let none = empty_memory(alloc);
     let reach = at
         .entry
         .kind
@@ -64,9 +64,9 @@ fn step_take(
     match take_bytes(alloc, &ranks.limits, memory, &at, given) {
         Ok(taken) => {
             let outcome = taken.outcome();
-            let place = at.place;
-            set_taken(ranks.posts.at_mut(rank), id, place, taken);
-            spare(&mut ranks.taken, rank, outcome);
+            let place = at.position;
+            set_take(ranks.posts.at_mut(rank), id, place, taken);
+            release(&mut ranks.used, rank, outcome);
             Ok(outcome)
         }
         Err(fault) => Err(fault),
@@ -76,11 +76,11 @@ fn step_take(
 /// Puts an entry that was found into the memory that it reaches, with the outcome that is given, or else the machine's. It
 /// gives the outcome, and takes no memory.
 fn put_reached(
-    memories: &mut Rows<Memory>,
+    memories: &mut Sequence<Memory>,
     alloc: Global,
     me: RankId,
-    reach: Reach,
-    at: &FoundEntry<'_>,
+    reach: Footprint,
+    at: &LaneEntry<'_>,
     given: Option<Outcome>,
 ) -> Result<Outcome, StepFault>
     requires own { me < length memories.old }
@@ -91,12 +91,12 @@ fn put_reached(
     ensures ample { result ≢ Err StepFault.NoMemory }
 {
     match reach {
-        Reach::OwnMemory => put_bytes(memories.at_mut(me.index()), at, given),
-        Reach::PeerMemory(peer) => put_bytes(memories.at_mut(peer.index()), at, given),
-        Reach::BothMemories(peer) => put_bytes(memories.at_mut(peer.index()), at, given),
-        Reach::GroupAndMemory(_) => put_bytes(memories.at_mut(me.index()), at, given),
-        Reach::Alone | Reach::PeerPosts(_) | Reach::Group(_) => {
-            let mut none = no_memory(alloc);
+        Footprint::OwnMemory => put_bytes(memories.at_mut(me.index()), at, given),
+        Footprint::PeerMemory(peer) => put_bytes(memories.at_mut(peer.index()), at, given),
+        Footprint::BothMemories(peer) => put_bytes(memories.at_mut(peer.index()), at, given),
+        Footprint::GroupAndMemory(_) => put_bytes(memories.at_mut(me.index()), at, given),
+        Footprint::Alone | Footprint::PeerPosts(_) | Footprint::Group(_) => {
+            let mut none = empty_memory(alloc);
             put_bytes(&mut none, at, given)
         }
     }
@@ -105,17 +105,17 @@ fn put_reached(
 /// Steps by a put, on the memory of its target, with the outcome that is given, or else the machine's. It gives the outcome,
 /// and takes no memory.
 fn step_put(
-    ranks: &mut Ranks,
-    memories: &mut Rows<Memory>,
+    ranks: &mut RankTables,
+    memories: &mut Sequence<Memory>,
     alloc: Global,
     id: &LaneId,
     number: u32,
     given: Option<Outcome>,
 ) -> Result<Outcome, StepFault>
-    requires { AreWhole ranks.old memories.old }
+    requires { IsStateOf ranks.old memories.old }
     ensures outcome { IfOk result (λ outcome. put_event (state_in ranks.old memories.old) id.now number given ≡ Put id.now.origin id.now.queue id.now.target number outcome) }
     ensures step { StepsBy (made_of result) (state_in ranks.old memories.old) (state_in ranks.new memories.new) (put_event (state_in ranks.old memories.old) id.now number given) }
-    ensures taken { ranks.new.taken ≡ map taken_of ranks.new.posts }
+    ensures taken { ranks.new.used ≡ map used_room_of ranks.new.posts }
     ensures ample { result ≢ Err StepFault.NoMemory }
 {
     let rank = id.origin.index();
@@ -133,7 +133,7 @@ fn step_put(
         .reach(ranks.limits.ranks, id.origin);
     match put_reached(memories, alloc, id.origin, reach, &at, given) {
         Ok(outcome) => {
-            let place = at.place;
+            let place = at.position;
             set_put(ranks.posts.at_mut(rank), id, place, outcome);
             Ok(outcome)
         }
@@ -144,24 +144,24 @@ fn step_put(
 /// Steps by a put, with the outcome that is given, or else the machine's. Where it empties its lane, that is named no more.
 /// It gives the outcome, and takes no memory.
 fn step_leaving(
-    ranks: &mut Ranks,
-    memories: &mut Rows<Memory>,
+    ranks: &mut RankTables,
+    memories: &mut Sequence<Memory>,
     standing: &mut Vec<LaneId>,
     alloc: Global,
     id: &LaneId,
     number: u32,
     given: Option<Outcome>,
 ) -> Result<Outcome, StepFault>
-    requires { IsMachine (state_in ranks.old memories.old) ranks.old.taken standing.old.items }
+    requires { IsMachine (state_in ranks.old memories.old) ranks.old.used standing.old.items }
     ensures outcome { IfOk result (λ outcome. put_event (state_in ranks.old memories.old) id.now number given ≡ Put id.now.origin id.now.queue id.now.target number outcome) }
     ensures step { StepsBy (made_of result) (state_in ranks.old memories.old) (state_in ranks.new memories.new) (put_event (state_in ranks.old memories.old) id.now number given) }
-    ensures taken { ranks.new.taken ≡ map taken_of ranks.new.posts }
-    ensures named { standing.new.items ≡ standing_lanes ranks.new.posts }
+    ensures taken { ranks.new.used ≡ map used_room_of ranks.new.posts }
+    ensures named { standing.new.items ≡ nonempty_lanes ranks.new.posts }
     ensures ample { result ≢ Err StepFault.NoMemory }
 {
     let outcome = step_put(ranks, memories, alloc, id, number, given)?;
     if !has_entry(&ranks.posts, id) {
-        unname_lane(standing, id);
+        remove_lane(standing, id);
     }
     Ok(outcome)
 }
@@ -169,16 +169,16 @@ fn step_leaving(
 /// Steps by an event, and names the lanes that have an entry then: at Ok the step's state stands; an illegal event is
 /// none, for that cause, and changed nothing; without memory nothing changed.
 pub fn step(
-    ranks: &mut Ranks,
-    memories: &mut Rows<Memory>,
+    ranks: &mut RankTables,
+    memories: &mut Sequence<Memory>,
     standing: &mut Vec<LaneId>,
     alloc: Global,
     event: &Event,
 ) -> Result<(), StepFault>
-    requires { IsMachine (state_in ranks.old memories.old) ranks.old.taken standing.old.items }
+    requires { IsMachine (state_in ranks.old memories.old) ranks.old.used standing.old.items }
     ensures step { StepsBy result (state_in ranks.old memories.old) (state_in ranks.new memories.new) event.now }
-    ensures taken { ranks.new.taken ≡ map taken_of ranks.new.posts }
-    ensures named { standing.new.items ≡ standing_lanes ranks.new.posts }
+    ensures taken { ranks.new.used ≡ map used_room_of ranks.new.posts }
+    ensures named { standing.new.items ≡ nonempty_lanes ranks.new.posts }
     ensures ample { takes_memory event.now ≡ false → result ≢ Err StepFault.NoMemory }
 {
     match event {
@@ -219,17 +219,17 @@ pub fn step(
 
 /// Makes a transfer, with the machine's outcome, as a step by its take or put. It gives the event.
 pub fn make(
-    ranks: &mut Ranks,
-    memories: &mut Rows<Memory>,
+    ranks: &mut RankTables,
+    memories: &mut Sequence<Memory>,
     standing: &mut Vec<LaneId>,
     alloc: Global,
     transfer: &Transfer,
 ) -> Result<Event, StepFault>
-    requires { IsMachine (state_in ranks.old memories.old) ranks.old.taken standing.old.items }
+    requires { IsMachine (state_in ranks.old memories.old) ranks.old.used standing.old.items }
     ensures event { IfOk result (λ event. event ≡ transfer_event (state_in ranks.old memories.old) transfer.now) }
     ensures step { StepsBy (made_of result) (state_in ranks.old memories.old) (state_in ranks.new memories.new) (transfer_event (state_in ranks.old memories.old) transfer.now) }
-    ensures taken { ranks.new.taken ≡ map taken_of ranks.new.posts }
-    ensures named { standing.new.items ≡ standing_lanes ranks.new.posts }
+    ensures taken { ranks.new.used ≡ map used_room_of ranks.new.posts }
+    ensures named { standing.new.items ≡ nonempty_lanes ranks.new.posts }
     ensures ample { transfer.now.put ≡ true → result ≢ Err StepFault.NoMemory }
 {
     let id = LaneId {

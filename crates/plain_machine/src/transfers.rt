@@ -2,16 +2,16 @@
 
 ghost use Rattle.std.specs.Prelude.{◌≡◌, ◌≢◌, ◌+◌, ◌<◌, ◌^◌, IfOk, Err};
 ghost use Rattle.std.specs.Option.{unwrap_or};
-ghost use Rattle.gaspi_model.specs.Transfers.{same_outcome, find_entry, lane_phase, queue_phase, posts_phase, outcome_at, take_outcome, put_outcome, taken_bytes, bytes_taken, carried_bytes, memory_put, memory_after_put, queue_without, posts_without, queue_failed, posts_failed, posts_after_put};
+ghost use Rattle.gaspi_model.specs.Transfers.{same_outcome, find_entry, lane_phase, queue_phase, posts_phase, outcome_at, take_outcome, put_outcome, source_bytes, take_result, carried_bytes, memory_put, memory_after_put, queue_without, posts_without, queue_failed, posts_failed, posts_after_put};
 ghost use Rattle.gaspi_model.specs.Step.{Steps};
 ghost use Rattle.plain_calls.specs.Looks.{made_of};
 ghost use Rattle.gaspi_model.specs.declared.states.Memory.{Memory};
-ghost use Rattle.plain_machine.specs.Entries.{Finds, GivesTaken, found_at, outcome_of_taken, posts_taken};
+ghost use Rattle.plain_machine.specs.Entries.{Finds, IsTakeResult, found_at, take_result_outcome, posts_after_take_result};
 
-use crate::standing::LaneId;
+use crate::nonempty_lanes::LaneId;
 use gaspi_model::{Memory, Posts, StepFault, Why};
 use gaspi_types::{
-    Bytes, Destination, Entry, Kind, Limits, NoMemory, Outcome, Phase, Queue, RankId, Rows,
+    Bytes, Destination, Entry, Kind, Limits, NoMemory, Outcome, Phase, Queue, RankId, Sequence,
 };
 use plain_calls::{bytes_of, may_put, may_take, place_of, segment_at, set_slot};
 use segment_store::{is_generation, range_of, store_bytes};
@@ -19,10 +19,10 @@ use std::alloc::Global;
 
 /// Where an entry stands: its queue, its lane, its place there and itself.
 #[derive(Drop)]
-pub struct FoundEntry<'a> {
+pub struct LaneEntry<'a> {
     pub queue: &'a Queue,
-    pub lane: &'a Rows<Entry>,
-    pub place: usize,
+    pub lane: &'a Sequence<Entry>,
+    pub position: usize,
     pub entry: &'a Entry,
 }
 
@@ -32,17 +32,17 @@ pub fn find_entry<'a>(
     id: &LaneId,
     number: u32,
     why: Why,
-) -> Result<FoundEntry<'a>, Why>
+) -> Result<LaneEntry<'a>, Why>
     ensures { Finds result (find_entry posts.now id.now.queue id.now.target number why) }
 {
     let queue = posts.queues.get(id.queue.index()).ok_or(why)?;
     let lane = queue.lanes.get(id.target.index()).ok_or(why)?;
     let place = place_of(lane, number).ok_or(why)?;
     let entry = lane.get(place).ok_or(why)?;
-    Ok(FoundEntry {
+    Ok(LaneEntry {
         queue,
         lane,
-        place,
+        position: place,
         entry,
     })
 }
@@ -93,23 +93,23 @@ fn put_outcome(memory: &Memory, kind: &Kind) -> Outcome
 }
 
 /// The bytes that an entry takes.
-fn taken_bytes(alloc: Global, memory: &Memory, kind: &Kind) -> Result<Bytes, NoMemory>
-    ensures { IfOk result (λ bytes. bytes ≡ taken_bytes memory.now kind.now) }
+fn source_bytes(alloc: Global, memory: &Memory, kind: &Kind) -> Result<Bytes, NoMemory>
+    ensures { IfOk result (λ bytes. bytes ≡ source_bytes memory.now kind.now) }
 {
     match kind.source() {
         Some(range) => {
             let bytes = bytes_of(memory, u64::from(range.segment));
-            Rows::copied_from(
+            Sequence::copied_from(
                 alloc,
                 range_of(bytes, range.offset as usize, range.size as usize),
             )
         }
-        None => Ok(Rows::new(alloc)),
+        None => Ok(Sequence::new(alloc)),
     }
 }
 
 /// Gives an entry of a lane a phase.
-fn set_lane_phase(lane: &mut Rows<Entry>, place: usize, phase: Phase)
+fn set_lane_phase(lane: &mut Sequence<Entry>, place: usize, phase: Phase)
     ensures { lane.new ≡ lane_phase lane.old place phase }
 {
     if place < lane.len() {
@@ -184,19 +184,19 @@ fn remove_entry(posts: &mut Posts, id: &LaneId, place: usize)
 
 /// What the take of an entry gives: its bytes, or that it failed.
 #[derive(Debug, Drop)]
-pub enum Taken {
+pub enum TakeResult {
     Bytes(Bytes),
     Failed,
 }
 
-impl Taken {
+impl TakeResult {
     /// How the take ends.
     pub fn outcome(&self) -> Outcome
-        ensures { result ≡ outcome_of_taken self.now }
+        ensures { result ≡ take_result_outcome self.now }
     {
         match self {
-            Taken::Bytes(_) => Outcome::Applied,
-            Taken::Failed => Outcome::Failed,
+            TakeResult::Bytes(_) => Outcome::Applied,
+            TakeResult::Failed => Outcome::Failed,
         }
     }
 }
@@ -208,11 +208,11 @@ pub fn take_bytes(
     alloc: Global,
     limits: &Limits,
     memory: &Memory,
-    at: &FoundEntry<'_>,
+    at: &LaneEntry<'_>,
     given: Option<Outcome>,
-) -> Result<Taken, StepFault>
-    ensures outcome { IfOk result (λ taken. outcome_of_taken taken ≡ unwrap_or given (take_outcome memory.now (found_at at.now).entry.kind)) }
-    ensures bytes { GivesTaken result (bytes_taken limits.now memory.now (found_at at.now) (unwrap_or given (take_outcome memory.now (found_at at.now).entry.kind))) }
+) -> Result<TakeResult, StepFault>
+    ensures outcome { IfOk result (λ taken. take_result_outcome taken ≡ unwrap_or given (take_outcome memory.now (found_at at.now).entry.kind)) }
+    ensures bytes { IsTakeResult result (take_result limits.now memory.now (found_at at.now) (unwrap_or given (take_outcome memory.now (found_at at.now).entry.kind))) }
 {
     let fitting = take_outcome(memory, &at.entry.kind);
     let outcome = given.unwrap_or(fitting);
@@ -223,22 +223,22 @@ pub fn take_bytes(
         return Err(StepFault::Illegal(Why::Take));
     }
     if matches!(outcome, Outcome::Failed) {
-        return Ok(Taken::Failed);
+        return Ok(TakeResult::Failed);
     }
-    match taken_bytes(alloc, memory, &at.entry.kind) {
-        Ok(bytes) => Ok(Taken::Bytes(bytes)),
+    match source_bytes(alloc, memory, &at.entry.kind) {
+        Ok(bytes) => Ok(TakeResult::Bytes(bytes)),
         Err(NoMemory) => Err(StepFault::NoMemory),
     }
 }
 
 /// Gives the entry at a place the bytes that it takes, or marks it as failed, and counts the event.
-pub fn set_taken(posts: &mut Posts, id: &LaneId, place: usize, taken: Taken)
+pub fn set_take(posts: &mut Posts, id: &LaneId, place: usize, taken: TakeResult)
     requires { posts.old.events + 1 < 2 ^ 32 }
-    ensures { posts.new ≡ posts_taken posts.old id.now.queue id.now.target place taken }
+    ensures { posts.new ≡ posts_after_take_result posts.old id.now.queue id.now.target place taken }
 {
     match taken {
-        Taken::Bytes(bytes) => set_phase(posts, id, place, Phase::Carried(bytes)),
-        Taken::Failed => fail_entry(posts, id, place),
+        TakeResult::Bytes(bytes) => set_phase(posts, id, place, Phase::Carried(bytes)),
+        TakeResult::Failed => fail_entry(posts, id, place),
     }
     posts.events += 1;
 }
@@ -275,7 +275,7 @@ fn memory_put(memory: &mut Memory, entry: &Entry)
 /// machine's. It takes no memory.
 pub fn put_bytes(
     memory: &mut Memory,
-    at: &FoundEntry<'_>,
+    at: &LaneEntry<'_>,
     given: Option<Outcome>,
 ) -> Result<Outcome, StepFault>
     ensures outcome { IfOk result (λ outcome. outcome ≡ unwrap_or given (put_outcome memory.old (found_at at.now).entry.kind)) }

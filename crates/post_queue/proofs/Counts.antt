@@ -16,8 +16,8 @@ use Rattle.gaspi_types.specs.declared.entries.Phase.TheVariants.{Posted, Carried
 use Rattle.gaspi_types.proofs.Items.{sum_by-changed, changed_at-found, length-changed_at, same-or-not, there-within}
 use Rattle.post_queue.specs.Kinds as kinds
 use Rattle.post_queue.specs.Kinds.{one_if, progress_of, used_segment, is_awaited_entry, events_owed}
-use Rattle.post_queue.specs.Tallies.{counted, total, raised, lowered, raised_users, lowered_users, IsTally}
-use Rattle.post_queue.specs.declared.tallies.Tally.{Tally}
+use Rattle.post_queue.specs.QueueCounts.{counted, total, with_entry, without_entry, with_user, without_user, AreQueueCounts}
+use Rattle.post_queue.specs.declared.queue_counts.QueueCounts.{QueueCounts}
 
 -- a number of an entry, or nothing
 abbrev pub weigh : (Entry → ℕ) → Option Entry → ℕ
@@ -87,7 +87,7 @@ at-same users s change less =
     let read = get_or_from_slice_get users s there.0 0 there.1 in
     rw (changed_at-found users s there.0 change there.1, get_or-set_same users s (change there.0) 0 less) (sym (ap change read))
 
-raise-user : (u : Option ℕ) (users : List ℕ) (segment : ℕ) → segment < length users → get_or (raised_users u users) segment 0 ≡ get_or users segment 0 + one_if (names segment u)
+raise-user : (u : Option ℕ) (users : List ℕ) (segment : ℕ) → segment < length users → get_or (with_user u users) segment 0 ≡ get_or users segment 0 + one_if (names segment u)
 raise-user None users segment less = omega arith
 raise-user (Some s) users segment less = same-or-not s segment
     (λ same. let yes : (s == segment) ≡ true = eq-eqb s segment same in rw (same, eq-eqb segment segment refl) (at-same users segment (λ (n : ℕ). n + 1) less))
@@ -100,7 +100,7 @@ raise-user (Some s) users segment less = same-or-not s segment
         go true is = absurd (apart (eqb-true a b is))
         go false is = refl
 
-lower-user : (u : Option ℕ) (users : List ℕ) (segment : ℕ) → segment < length users → get_or (lowered_users u users) segment 0 ≡ get_or users segment 0 - one_if (names segment u)
+lower-user : (u : Option ℕ) (users : List ℕ) (segment : ℕ) → segment < length users → get_or (without_user u users) segment 0 ≡ get_or users segment 0 - one_if (names segment u)
 lower-user None users segment less = omega arith
 lower-user (Some s) users segment less = same-or-not s segment
     (λ same. rw (same, eq-eqb segment segment refl) (at-same users segment (λ (n : ℕ). n - 1) less))
@@ -113,11 +113,11 @@ lower-user (Some s) users segment less = same-or-not s segment
         go true is = absurd (apart (eqb-true a b is))
         go false is = refl
 
-raised-length : (u : Option ℕ) (users : List ℕ) → length (raised_users u users) ≡ length users
+raised-length : (u : Option ℕ) (users : List ℕ) → length (with_user u users) ≡ length users
 raised-length None users = refl
 raised-length (Some s) users = length-changed_at users s (λ (n : ℕ). n + 1)
 
-lowered-length : (u : Option ℕ) (users : List ℕ) → length (lowered_users u users) ≡ length users
+lowered-length : (u : Option ℕ) (users : List ℕ) → length (without_user u users) ≡ length users
 lowered-length None users = refl
 lowered-length (Some s) users = length-changed_at users s (λ (n : ℕ). n - 1)
 
@@ -126,7 +126,7 @@ lowered-length (Some s) users = length-changed_at users s (λ (n : ℕ). n - 1)
 user-count : (segment : ℕ) (e : Entry) → counted (is_user segment) e ≡ one_if (names segment (used_segment e.kind (progress_of e.phase)))
 user-count segment e = ap one_if (user-same segment e.kind e.phase)
 
-pub raised-is : (t : Tally) (F G : (Entry → ℕ) → ℕ) (e : Entry) → IsTally t F → ((f : Entry → ℕ) → G f ≡ F f + f e) → IsTally (raised t e.kind (progress_of e.phase)) G
+pub raised-is : (t : QueueCounts) (F G : (Entry → ℕ) → ℕ) (e : Entry) → AreQueueCounts t F → ((f : Entry → ℕ) → G f ≡ F f + f e) → AreQueueCounts (with_entry t e.kind (progress_of e.phase)) G
 raised-is t F G e is more = record {
   awaited = (let here = more (counted is_awaited_entry) in let was = is.awaited in omega arith);
   owed = (let here = more entry_owed in let was = is.owed in let same = owed-same e.phase in omega arith);
@@ -141,7 +141,7 @@ raised-is t F G e is more = record {
       omega arith;
 }
 
-pub lowered-is : (t : Tally) (F G : (Entry → ℕ) → ℕ) (e : Entry) → IsTally t F → ((f : Entry → ℕ) → G f + f e ≡ F f) → IsTally (lowered t e.kind (progress_of e.phase)) G
+pub lowered-is : (t : QueueCounts) (F G : (Entry → ℕ) → ℕ) (e : Entry) → AreQueueCounts t F → ((f : Entry → ℕ) → G f + f e ≡ F f) → AreQueueCounts (without_entry t e.kind (progress_of e.phase)) G
 lowered-is t F G e is less = record {
   awaited = (let here = less (counted is_awaited_entry) in let was = is.awaited in omega arith);
   owed = (let here = less entry_owed in let was = is.owed in let same = owed-same e.phase in omega arith);
@@ -157,18 +157,18 @@ lowered-is t F G e is less = record {
 }
 
 -- one entry less, and one more
-abbrev pub stepped : Tally → Option Entry → Option Entry → Tally
+abbrev pub stepped : QueueCounts → Option Entry → Option Entry → QueueCounts
 stepped t before after = lower_by (raise_by t after) before
   where
-    raise_by : Tally → Option Entry → Tally
+    raise_by : QueueCounts → Option Entry → QueueCounts
     raise_by t None = t
-    raise_by t (Some e) = raised t e.kind (progress_of e.phase)
+    raise_by t (Some e) = with_entry t e.kind (progress_of e.phase)
 
-    lower_by : Tally → Option Entry → Tally
+    lower_by : QueueCounts → Option Entry → QueueCounts
     lower_by t None = t
-    lower_by t (Some e) = lowered t e.kind (progress_of e.phase)
+    lower_by t (Some e) = without_entry t e.kind (progress_of e.phase)
 
-same-sums : (t : Tally) (F G : (Entry → ℕ) → ℕ) → IsTally t F → ((f : Entry → ℕ) → G f ≡ F f) → IsTally t G
+same-sums : (t : QueueCounts) (F G : (Entry → ℕ) → ℕ) → AreQueueCounts t F → ((f : Entry → ℕ) → G f ≡ F f) → AreQueueCounts t G
 same-sums t F G is same = record {
   awaited = is.awaited ∙ sym (same (counted is_awaited_entry));
   owed = is.owed ∙ sym (same entry_owed);
@@ -176,12 +176,12 @@ same-sums t F G is same = record {
   users = λ segment less. is.users segment less ∙ sym (same (counted (is_user segment)));
 }
 
-pub stepped-is : (t : Tally) (F G : (Entry → ℕ) → ℕ) (before after : Option Entry) → IsTally t F → ((f : Entry → ℕ) → G f + weigh f before ≡ F f + weigh f after) → IsTally (stepped t before after) G
+pub stepped-is : (t : QueueCounts) (F G : (Entry → ℕ) → ℕ) (before after : Option Entry) → AreQueueCounts t F → ((f : Entry → ℕ) → G f + weigh f before ≡ F f + weigh f after) → AreQueueCounts (stepped t before after) G
 stepped-is t F G None None is step = same-sums t F G is (λ f. let here = step f in omega arith)
 stepped-is t F G None (Some a) is step = raised-is t F G a is (λ f. let here = step f in omega arith)
 stepped-is t F G (Some b) None is step = lowered-is t F G b is (λ f. let here = step f in omega arith)
 stepped-is t F G (Some b) (Some a) is step =
-    lowered-is (raised t a.kind (progress_of a.phase)) (λ f. F f + f a) G b (raised-is t F (λ f. F f + f a) a is (λ f. refl)) step
+    lowered-is (with_entry t a.kind (progress_of a.phase)) (λ f. F f + f a) G b (raised-is t F (λ f. F f + f a) a is (λ f. refl)) step
 
 -- Sums over lanes.
 

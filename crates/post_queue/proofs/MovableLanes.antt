@@ -13,14 +13,14 @@ use Rattle.gaspi_types.specs.declared.entries.Phase.TheVariants.{Carried, Failed
 use Rattle.gaspi_types.specs.declared.entries.Queue.{Queue}
 use Rattle.gaspi_types.proofs.Chains.{both}
 use Rattle.gaspi_types.proofs.Items.{same-or-not, slice_get-set_same, slice_get-set_other, length-changed_at}
-use Rattle.post_queue.specs.LaneStates.{LaneState}
+use Rattle.post_queue.specs.LaneStates.{LaneValue}
 use Rattle.post_queue.specs.LanesStates.{LanesState, empty_queue, queue_in}
 use Rattle.post_queue.specs.LeastFrom.{IsLeastFrom, AnswersLeast}
 use Rattle.post_queue.specs.MovableLanes.{is_nonempty_lane, is_movable_to, is_movable_lane, is_movable, is_movable_in, is_movable_queue, is_movable_state, AreMarked, IsBefore, IsPassed, IsNextLane}
 use Rattle.post_queue.specs.Nonempty.{is_nonempty, is_nonempty_at, IsNonempty}
 use Rattle.post_queue.specs.QueueStates.{QueueState, entries_of, queue_of, state_of}
-use Rattle.post_queue.specs.Places.{posted_place, with_phase}
-use Rattle.post_queue.specs.Steps.{lane_head, taken_in, removed_in, posted_failed_in, head_failed_in, no_entries, purged_queue}
+use Rattle.post_queue.specs.Places.{posted_position, with_phase}
+use Rattle.post_queue.specs.Steps.{lane_head, carried_in, put_done_in, posted_failed_in, head_failed_in, no_entries, purged_queue}
 use Rattle.post_queue.proofs.Heads.{lane-there, lane-none}
 use Rattle.post_queue.proofs.Queues.{queues-alike}
 
@@ -146,14 +146,14 @@ lane-answered queues first from (Some queue) start later none =
 
 -- What the sets of targets and of queues tell.
 
-lane-of : (lanes : List LaneState) (target : ℕ) → is_nonempty_lane (slice_get (map entries_of lanes) target) ≡ is_nonempty_at (slice_get lanes target)
+lane-of : (lanes : List LaneValue) (target : ℕ) → is_nonempty_lane (slice_get (map entries_of lanes) target) ≡ is_nonempty_at (slice_get lanes target)
 lane-of lanes target = ap is_nonempty_lane (slice_get-map entries_of lanes target) ∙ go (slice_get lanes target)
   where
-    go : (o : Option LaneState) → is_nonempty_lane (option_map entries_of o) ≡ is_nonempty_at o
+    go : (o : Option LaneValue) → is_nonempty_lane (option_map entries_of o) ≡ is_nonempty_at o
     go None = refl
     go (Some lane) = refl
 
-past-lanes : (lanes : List LaneState) (target : ℕ) → length lanes ≤ target → is_nonempty_at (slice_get lanes target) ≡ false
+past-lanes : (lanes : List LaneValue) (target : ℕ) → length lanes ≤ target → is_nonempty_at (slice_get lanes target) ≡ false
 past-lanes [] target past = refl
 past-lanes (x ∷ lanes) zero past = absurd (let no : ⊥ = omega arith in no)
 past-lanes (x ∷ lanes) (suc target) past = past-lanes lanes target (omega arith)
@@ -172,27 +172,27 @@ least-same mask from test (Some n) same past bound is = record {
   none_before = λ other low less. sym (same other (omega arith)) ∙ is.none_before other low less;
 }
 
-pub lanes-answer : (depth open_count : ℕ) (broken : Option ℕ) (lanes : List LaneState) (nonempty from : ℕ) (s : QueueState) (answer : Option ℕ) → state_of depth (queue_of open_count broken lanes) ≡ s → broken ≡ None → length (map entries_of lanes) ≤ 16
+pub lanes-answer : (depth open_count : ℕ) (broken : Option ℕ) (lanes : List LaneValue) (nonempty from : ℕ) (s : QueueState) (answer : Option ℕ) → state_of depth (queue_of open_count broken lanes) ≡ s → broken ≡ None → length (map entries_of lanes) ≤ 16
     → IsNonempty nonempty lanes → IfSome answer (λ (n : ℕ). n < 32) → AnswersLeast (is_member nonempty) from answer → AnswersLeast (is_movable_to (Some s.queue)) from answer
 lanes-answer depth open_count broken lanes nonempty from s answer is none few marks bound least =
     let size = length-map lanes entries_of in
     rw (← is) (rw none (least-same nonempty from (λ (target : ℕ). is_nonempty_lane (slice_get (map entries_of lanes) target)) answer (λ n less. marks n less ∙ sym (lane-of lanes n))
     (λ n past. lane-of lanes n ∙ past-lanes lanes n (omega arith)) bound least))
 
-pub lanes-broken : (depth open_count : ℕ) (broken : Option ℕ) (lanes : List LaneState) (from : ℕ) (s : QueueState) → state_of depth (queue_of open_count broken lanes) ≡ s → is_some broken ≡ true
+pub lanes-broken : (depth open_count : ℕ) (broken : Option ℕ) (lanes : List LaneValue) (from : ℕ) (s : QueueState) → state_of depth (queue_of open_count broken lanes) ≡ s → is_some broken ≡ true
     → AnswersLeast (is_movable_to (Some s.queue)) from None
 lanes-broken depth open_count None lanes from s is some = absurd (let no : ⊥ = cc in no)
 lanes-broken depth open_count (Some rank) lanes from s is some = λ other low. rw (← is) refl
 
 -- a target that is a member is below the number of lanes
-lane-within : (lanes : List LaneState) (target : ℕ) → is_nonempty_at (slice_get lanes target) ≡ true → target < length lanes
+lane-within : (lanes : List LaneValue) (target : ℕ) → is_nonempty_at (slice_get lanes target) ≡ true → target < length lanes
 lane-within lanes target some = go (slice_get lanes target) refl some
   where
-    go : (o : Option LaneState) → slice_get lanes target ≡ o → is_nonempty_at o ≡ true → target < length lanes
+    go : (o : Option LaneValue) → slice_get lanes target ≡ o → is_nonempty_at o ≡ true → target < length lanes
     go None at some = absurd (let no : ⊥ = cc in no)
     go (Some lane) at some = slice_get_within lanes target lane at
 
-pub member-within : (lanes : List LaneState) (nonempty from target : ℕ) → length (map entries_of lanes) ≤ 16 → IsNonempty nonempty lanes → target < 32 → AnswersLeast (is_member nonempty) from (Some target) → target < 16
+pub member-within : (lanes : List LaneValue) (nonempty from target : ℕ) → length (map entries_of lanes) ≤ 16 → IsNonempty nonempty lanes → target < 32 → AnswersLeast (is_member nonempty) from (Some target) → target < 16
 member-within lanes nonempty from target few marks bound least =
     let size = length-map lanes entries_of in
     let within = lane-within lanes target (sym (marks target bound) ∙ least.passes) in
@@ -294,14 +294,14 @@ new-marks depth ranks n queues deep few is = rw is (record {
 })
 
 -- no step takes or makes a lane
-pub width-taken : (target : ℕ) (bytes : List ℕ) (q : Queue) → length (taken_in target bytes q).lanes ≡ length q.lanes
-width-taken target bytes q = length-changed_at q.lanes target (λ (lane : List Entry). with_phase lane (posted_place lane) (Carried bytes))
+pub width-taken : (target : ℕ) (bytes : List ℕ) (q : Queue) → length (carried_in target bytes q).lanes ≡ length q.lanes
+width-taken target bytes q = length-changed_at q.lanes target (λ (lane : List Entry). with_phase lane (posted_position lane) (Carried bytes))
 
-pub width-removed : (target : ℕ) (q : Queue) → length (removed_in target q).lanes ≡ length q.lanes
+pub width-removed : (target : ℕ) (q : Queue) → length (put_done_in target q).lanes ≡ length q.lanes
 width-removed target q = length-changed_at q.lanes target (λ (lane : List Entry). drop 1 lane)
 
 pub width-posted_failed : (target : ℕ) (q : Queue) → length (posted_failed_in target q).lanes ≡ length q.lanes
-width-posted_failed target q = length-changed_at q.lanes target (λ (lane : List Entry). with_phase lane (posted_place lane) Failed)
+width-posted_failed target q = length-changed_at q.lanes target (λ (lane : List Entry). with_phase lane (posted_position lane) Failed)
 
 pub width-head_failed : (target : ℕ) (q : Queue) → length (head_failed_in target q).lanes ≡ length q.lanes
 width-head_failed target q = length-changed_at q.lanes target (λ (lane : List Entry). with_phase lane 0 Failed)

@@ -10,12 +10,12 @@ use Rattle.gaspi_types.specs.declared.entries.Entry.{Entry}
 use Rattle.gaspi_types.specs.declared.entries.Phase.{Phase}
 use Rattle.gaspi_types.proofs.Items.{same-or-not, slice_get-set_same, slice_get-set_other}
 use Rattle.post_queue.specs.Nonempty.{is_nonempty, is_nonempty_at, IsNonempty}
-use Rattle.post_queue.specs.LaneStates.{LaneState}
+use Rattle.post_queue.specs.LaneStates.{LaneValue}
 use Rattle.post_queue.specs.Places.{with_phase}
-use Rattle.post_queue.specs.QueueStates.{cleared_front, entries_of}
+use Rattle.post_queue.specs.QueueStates.{cleared_prefix, entries_of}
 
 -- one lane changed
-pub nonempty-set : (nonempty nonempty' : ℕ) (lanes : List LaneState) (place target : ℕ) (x y : LaneState) → place ≡ target → target < 32 → IsNonempty nonempty lanes → slice_get lanes place ≡ Some x → is_member nonempty' target ≡ is_nonempty y.entries
+pub nonempty-set : (nonempty nonempty' : ℕ) (lanes : List LaneValue) (place target : ℕ) (x y : LaneValue) → place ≡ target → target < 32 → IsNonempty nonempty lanes → slice_get lanes place ≡ Some x → is_member nonempty' target ≡ is_nonempty y.entries
     → ((other : ℕ) → other < 32 → other ≢ target → is_member nonempty' other ≡ is_member nonempty other) → IsNonempty nonempty' (slice_set lanes place y)
 nonempty-set nonempty nonempty' lanes place target x y same within was at here others t less =
     same-or-not t place
@@ -24,7 +24,7 @@ nonempty-set nonempty nonempty' lanes place target x y same within was at here o
     (λ apart. rw (slice_get-set_other lanes place t y (λ e. apart (sym e))) (others t less (λ e. apart (e ∙ sym same)) ∙ was t less))
 
 -- a lane changed that stays nonempty, or stays empty
-pub nonempty-kept : (nonempty : ℕ) (lanes : List LaneState) (place target : ℕ) (x y : LaneState) → place ≡ target → target < 32 → IsNonempty nonempty lanes → slice_get lanes place ≡ Some x → is_nonempty y.entries ≡ is_nonempty x.entries → IsNonempty nonempty (slice_set lanes place y)
+pub nonempty-kept : (nonempty : ℕ) (lanes : List LaneValue) (place target : ℕ) (x y : LaneValue) → place ≡ target → target < 32 → IsNonempty nonempty lanes → slice_get lanes place ≡ Some x → is_nonempty y.entries ≡ is_nonempty x.entries → IsNonempty nonempty (slice_set lanes place y)
 nonempty-kept nonempty lanes place target x y same within was at stays =
     nonempty-set nonempty nonempty lanes place target x y same within was at
     (subst (λ (k : ℕ). is_member nonempty k ≡ is_nonempty y.entries) same (was place (omega arith) ∙ (ap is_nonempty_at at ∙ sym stays)))
@@ -44,22 +44,22 @@ nonempty-post [] e = refl
 nonempty-post (x ∷ lane) e = refl
 
 -- no lane is nonempty
-pub nonempty-none : (lanes : List LaneState) → ((target : ℕ) → is_nonempty_at (slice_get lanes target) ≡ false) → IsNonempty 0 lanes
+pub nonempty-none : (lanes : List LaneValue) → ((target : ℕ) → is_nonempty_at (slice_get lanes target) ≡ false) → IsNonempty 0 lanes
 nonempty-none lanes none target less = let zero' = bit_at-zero target in rw zero' (sym (none target))
 
-pub none-fresh : (n depth target : ℕ) → is_nonempty_at (slice_get (replicate n (let x : LaneState = record { depth = depth; entries = [] } in x)) target) ≡ false
+pub none-fresh : (n depth target : ℕ) → is_nonempty_at (slice_get (replicate n (let x : LaneValue = record { depth = depth; entries = [] } in x)) target) ≡ false
 none-fresh zero depth target = refl
 none-fresh (suc n) depth zero = refl
 none-fresh (suc n) depth (suc target) = none-fresh n depth target
 
-pub none-cleared : (lanes : List LaneState) (target : ℕ) → is_nonempty_at (slice_get (cleared_front (length lanes) lanes) target) ≡ false
+pub none-cleared : (lanes : List LaneValue) (target : ℕ) → is_nonempty_at (slice_get (cleared_prefix (length lanes) lanes) target) ≡ false
 none-cleared [] target = refl
 none-cleared (x ∷ lanes) zero = refl
 none-cleared (x ∷ lanes) (suc target) = none-cleared lanes target
 
 -- what stands where a lane was set
-pub at-set : (lanes : List LaneState) (place : ℕ) (x y z : LaneState) → slice_get lanes place ≡ Some x → slice_get (slice_set lanes place y) place ≡ Some z → z ≡ y
-at-set lanes place x y z at there = let both : ◌≡◌ {A = Option LaneState} (Some y) (Some z) = sym (slice_get-set_same lanes place x y at) ∙ there in let same : y ≡ z = cc in sym same
+pub at-set : (lanes : List LaneValue) (place : ℕ) (x y z : LaneValue) → slice_get lanes place ≡ Some x → slice_get (slice_set lanes place y) place ≡ Some z → z ≡ y
+at-set lanes place x y z at there = let both : ◌≡◌ {A = Option LaneValue} (Some y) (Some z) = sym (slice_get-set_same lanes place x y at) ∙ there in let same : y ≡ z = cc in sym same
 
 -- two rings, of which one has an item
 pub nonempty-front : (a b : List Entry) → not (length a == 0) ≡ true → is_nonempty (a ++ b) ≡ true
@@ -68,7 +68,7 @@ nonempty-front (x ∷ a) b some = refl
 
 -- The least of them.
 
-position-of : (lanes : List LaneState) (place : ℕ) → place ≤ length lanes → ((other : ℕ) → other < place → is_nonempty_at (slice_get lanes other) ≡ false)
+position-of : (lanes : List LaneValue) (place : ℕ) → place ≤ length lanes → ((other : ℕ) → other < place → is_nonempty_at (slice_get lanes other) ≡ false)
     → (place < length lanes → is_nonempty_at (slice_get lanes place) ≡ true) → position_or_len is_nonempty (map entries_of lanes) ≡ place
 position-of [] place less none some = omega arith
 position-of (x ∷ lanes) zero less none some = let here : is_nonempty x.entries ≡ true = some (omega arith) in rw here refl
@@ -77,7 +77,7 @@ position-of (x ∷ lanes) (suc place) less none some =
     let rest = position-of lanes place (omega arith) (λ other before. none (suc other) (omega arith)) (λ within. some (omega arith)) in
     rw here (ap (λ (n : ℕ). 1 + n) rest ∙ omega arith)
 
-within : (lanes : List LaneState) (place : ℕ) → is_nonempty_at (slice_get lanes place) ≡ true → place < length lanes
+within : (lanes : List LaneValue) (place : ℕ) → is_nonempty_at (slice_get lanes place) ≡ true → place < length lanes
 within [] place some = absurd (let no : ⊥ = cc in no)
 within (x ∷ lanes) zero some = omega arith
 within (x ∷ lanes) (suc place) some = let less = within lanes place some in omega arith
@@ -86,7 +86,7 @@ not-below : (n : ℕ) → nat_lt n n ≡ false
 not-below n = grind arith
 
 -- the least member of the set is the least target whose lane has an entry
-pub least-nonempty : (lanes : List LaneState) (nonempty : ℕ) (answer : Option ℕ) → length lanes ≤ 16 → IsNonempty nonempty lanes
+pub least-nonempty : (lanes : List LaneValue) (nonempty : ℕ) (answer : Option ℕ) → length lanes ≤ 16 → IsNonempty nonempty lanes
     → IfSome answer (λ (target : ℕ). target < 16) → IfSome answer (λ (target : ℕ). is_member nonempty target ≡ true)
     → IfSome answer (λ (target : ℕ). (other : ℕ) → other < target → is_member nonempty other ≡ false)
     → IfNone answer ((target : ℕ) → is_member nonempty target ≡ false) → answer ≡ position is_nonempty (map entries_of lanes)

@@ -18,15 +18,15 @@ use Rattle.gaspi_types.specs.declared.entries.Queue.{Queue}
 use Rattle.gaspi_types.specs.declared.replies.Refusal.{Refusal}
 use Rattle.gaspi_types.proofs.Items.{sum_by-changed, changed_at-found, set-there, length-changed_at}
 use Rattle.post_queue.specs.Kinds.{one_if, progress_of, is_awaited_entry}
-use Rattle.post_queue.specs.LaneStates.{LaneState}
+use Rattle.post_queue.specs.LaneStates.{LaneValue}
 use Rattle.post_queue.specs.Places.{first_posted, first_carried, with_phase}
-use Rattle.post_queue.specs.QueueStates.{cleared, cleared_front, QueueState, entries_of, queue_of, state_of, IsCounted, IsQueue}
+use Rattle.post_queue.specs.QueueStates.{cleared, cleared_prefix, QueueState, entries_of, queue_of, state_of, IsCounted, IsQueue}
 use Rattle.post_queue.specs.LanesStates.{LanesState, queue_in, with_queue, with_posted, IsLanes}
-use Rattle.post_queue.specs.Steps.{lane_take, take_in, put_in, lane_head, head_in, wait_in, no_entries, purged_queue}
-use Rattle.post_queue.specs.Tallies.{counted, total, no_tally, raised, lowered, IsSmall}
-use Rattle.post_queue.specs.declared.kinds.Progress.{Progress}
-use Rattle.post_queue.specs.declared.kinds.Progress.TheVariants as progress
-use Rattle.post_queue.specs.declared.tallies.Tally.{Tally}
+use Rattle.post_queue.specs.Steps.{lane_front_posted, front_posted_in, front_carried_in, lane_head, head_in, wait_in, no_entries, purged_queue}
+use Rattle.post_queue.specs.QueueCounts.{counted, total, no_counts, with_entry, without_entry, AreBounded}
+use Rattle.post_queue.specs.declared.kinds.PhaseKind.{PhaseKind}
+use Rattle.post_queue.specs.declared.kinds.PhaseKind.TheVariants as progress
+use Rattle.post_queue.specs.declared.queue_counts.QueueCounts.{QueueCounts}
 use Rattle.post_queue.proofs.Counts.{weigh, stepped, stepped-is, total-set, total-bound, total-none, lane-le, any-total, total-same, small-weight, small-owed, total-le, posted-awaited, awaited-same}
 use Rattle.post_queue.proofs.Rings.{in_phase}
 
@@ -38,16 +38,16 @@ pub record TakeAt (depth : ℕ) (broken : Option ℕ) (lane : List Entry) (P : E
   pub there : IsSomeAnd (first_posted lane) P
 
 pub take-at : (depth target open_count : ℕ) (broken : Option ℕ) (lanes : List (List Entry)) (lane : List Entry) (P : Entry → Type 0) → slice_get lanes target ≡ Some lane
-    → IsSomeAnd (take_in depth target (record { open_count = open_count; broken = broken; lanes = lanes })) P → TakeAt depth broken lane P
+    → IsSomeAnd (front_posted_in depth target (record { open_count = open_count; broken = broken; lanes = lanes })) P → TakeAt depth broken lane P
 take-at depth target open_count (Some rank) lanes lane P at h = absurd h
-take-at depth target open_count None lanes lane P at h = go (nat_lt (carried_count lane) depth) refl (subst (λ (o : Option (List Entry)). IsSomeAnd (option_and_then (lane_take depth) o) P) at h)
+take-at depth target open_count None lanes lane P at h = go (nat_lt (carried_count lane) depth) refl (subst (λ (o : Option (List Entry)). IsSomeAnd (option_and_then (lane_front_posted depth) o) P) at h)
   where
-    go : (t : Bool) → nat_lt (carried_count lane) depth ≡ t → IsSomeAnd (lane_take depth lane) P → TakeAt depth None lane P
+    go : (t : Bool) → nat_lt (carried_count lane) depth ≡ t → IsSomeAnd (lane_front_posted depth lane) P → TakeAt depth None lane P
     go true is h = record { unbroken = refl; room = ltb-true (carried_count lane) depth is; there = rw is at h }
     go false is h = absurd (rw is at h)
 
 pub put-at : (target open_count : ℕ) (broken : Option ℕ) (lanes : List (List Entry)) (lane : List Entry) → slice_get lanes target ≡ Some lane
-    → IsSome (put_in target (record { open_count = open_count; broken = broken; lanes = lanes })) → (broken ≡ None) × IsSome (first_carried lane)
+    → IsSome (front_carried_in target (record { open_count = open_count; broken = broken; lanes = lanes })) → (broken ≡ None) × IsSome (first_carried lane)
 put-at target open_count (Some rank) lanes lane at h = absurd (let no : ⊥ = cc in no)
 put-at target open_count None lanes lane at h = (refl, subst (λ (o : Option (List Entry)). IsSome (option_and_then first_carried o)) at h)
 
@@ -83,10 +83,10 @@ carried-progress lane e at = go e.phase (passes-at is_carried lane e at)
 
 -- Lanes with their room, and as lists of entries.
 
-pub lane-at : (lanes : List LaneState) (target : ℕ) (x : LaneState) → slice_get lanes target ≡ Some x → slice_get (map entries_of lanes) target ≡ Some x.entries
+pub lane-at : (lanes : List LaneValue) (target : ℕ) (x : LaneValue) → slice_get lanes target ≡ Some x → slice_get (map entries_of lanes) target ≡ Some x.entries
 lane-at lanes target x at = slice_get-map entries_of lanes target ∙ ap (option_map entries_of) at
 
-lanes-changed : (lanes : List LaneState) (target : ℕ) (x y : LaneState) (change : List Entry → List Entry) → slice_get lanes target ≡ Some x → y.entries ≡ change x.entries
+lanes-changed : (lanes : List LaneValue) (target : ℕ) (x y : LaneValue) (change : List Entry → List Entry) → slice_get lanes target ≡ Some x → y.entries ≡ change x.entries
     → map entries_of (slice_set lanes target y) ≡ changed_at (map entries_of lanes) target change
 lanes-changed lanes target x y change at new =
     map-set entries_of lanes target y
@@ -97,23 +97,23 @@ lanes-changed lanes target x y change at new =
 abbrev pub laned : ℕ → ℕ → Option ℕ → List (List Entry) → QueueState
 laned depth open_count broken lanes = state_of depth (record { open_count = open_count; broken = broken; lanes = lanes })
 
-pub state-changed : (depth open_count : ℕ) (broken : Option ℕ) (lanes : List LaneState) (place target : ℕ) (x y : LaneState) (change : List Entry → List Entry) → place ≡ target → slice_get lanes place ≡ Some x → y.entries ≡ change x.entries
+pub state-changed : (depth open_count : ℕ) (broken : Option ℕ) (lanes : List LaneValue) (place target : ℕ) (x y : LaneValue) (change : List Entry → List Entry) → place ≡ target → slice_get lanes place ≡ Some x → y.entries ≡ change x.entries
     → laned depth open_count broken (map entries_of (slice_set lanes place y)) ≡ laned depth open_count broken (changed_at (map entries_of lanes) target change)
 state-changed depth open_count broken lanes place target x y change same at new =
     ap (λ (ls : List (List Entry)). laned depth open_count broken ls) (rw (← same) (lanes-changed lanes place x y change at new))
 
 -- a lane that the code holds, and what may come next in it
-pub taking : (depth open_count : ℕ) (broken : Option ℕ) (lanes : List LaneState) (place target : ℕ) (x : LaneState) (s : QueueState) (P : Entry → Type 0) → place ≡ target → slice_get lanes place ≡ Some x
-    → state_of depth (queue_of open_count broken lanes) ≡ s → IsSomeAnd (take_in s.depth target s.queue) P → TakeAt depth broken x.entries P
+pub taking : (depth open_count : ℕ) (broken : Option ℕ) (lanes : List LaneValue) (place target : ℕ) (x : LaneValue) (s : QueueState) (P : Entry → Type 0) → place ≡ target → slice_get lanes place ≡ Some x
+    → state_of depth (queue_of open_count broken lanes) ≡ s → IsSomeAnd (front_posted_in s.depth target s.queue) P → TakeAt depth broken x.entries P
 taking depth open_count broken lanes place target x s P same at is h =
     take-at depth target open_count broken (map entries_of lanes) x.entries P (rw (← same) (lane-at lanes place x at))
-    (subst (λ (s : QueueState). IsSomeAnd (take_in s.depth target s.queue) P) (sym is) h)
+    (subst (λ (s : QueueState). IsSomeAnd (front_posted_in s.depth target s.queue) P) (sym is) h)
 
-pub putting : (depth open_count : ℕ) (broken : Option ℕ) (lanes : List LaneState) (place target : ℕ) (x : LaneState) (s : QueueState) → place ≡ target → slice_get lanes place ≡ Some x
-    → state_of depth (queue_of open_count broken lanes) ≡ s → IsSome (put_in target s.queue) → (broken ≡ None) × IsSome (first_carried x.entries)
+pub putting : (depth open_count : ℕ) (broken : Option ℕ) (lanes : List LaneValue) (place target : ℕ) (x : LaneValue) (s : QueueState) → place ≡ target → slice_get lanes place ≡ Some x
+    → state_of depth (queue_of open_count broken lanes) ≡ s → IsSome (front_carried_in target s.queue) → (broken ≡ None) × IsSome (first_carried x.entries)
 putting depth open_count broken lanes place target x s same at is h =
     put-at target open_count broken (map entries_of lanes) x.entries (rw (← same) (lane-at lanes place x at))
-    (subst (λ (s : QueueState). IsSome (put_in target s.queue)) (sym is) h)
+    (subst (λ (s : QueueState). IsSome (front_carried_in target s.queue)) (sym is) h)
 
 pub at-if : (P : Entry → Type 0) (o : Option Entry) (x : Entry) → o ≡ Some x → IfSome o P → P x
 at-if P o x is h = let at = subst (λ (o : Option Entry). IfSome o P) is h in at
@@ -121,23 +121,23 @@ at-if P o x is h = let at = subst (λ (o : Option Entry). IfSome o P) is h in at
 all-at : {A : Type 0} (P : A → Type 0) (xs : List A) (i : ℕ) (x : A) → slice_get xs i ≡ Some x → All P xs → P x
 all-at P xs i x at all = subst P (get_or_from_slice_get xs i x x at) (all i x (slice_get_within xs i x at))
 
-pub room-at : {depth open_count : ℕ} {broken : Option ℕ} {t : Tally} (lanes : List LaneState) (target : ℕ) (x : LaneState) → IsQueue depth open_count broken lanes t → slice_get lanes target ≡ Some x → x.depth ≡ depth
-room-at {depth} lanes target x inv at = all-at (λ (lane : LaneState). lane.depth ≡ depth) lanes target x at inv.rooms
+pub room-at : {depth open_count : ℕ} {broken : Option ℕ} {t : QueueCounts} (lanes : List LaneValue) (target : ℕ) (x : LaneValue) → IsQueue depth open_count broken lanes t → slice_get lanes target ≡ Some x → x.depth ≡ depth
+room-at {depth} lanes target x inv at = all-at (λ (lane : LaneValue). lane.depth ≡ depth) lanes target x at inv.rooms
 
-pub whole-at : {depth open_count : ℕ} {broken : Option ℕ} {t : Tally} (lanes : List LaneState) (target : ℕ) (x : LaneState) → IsQueue depth open_count broken lanes t → broken ≡ None → slice_get lanes target ≡ Some x → count_by is_failed x.entries ≡ 0
+pub whole-at : {depth open_count : ℕ} {broken : Option ℕ} {t : QueueCounts} (lanes : List LaneValue) (target : ℕ) (x : LaneValue) → IsQueue depth open_count broken lanes t → broken ≡ None → slice_get lanes target ≡ Some x → count_by is_failed x.entries ≡ 0
 whole-at lanes target x inv unbroken at =
     let none = inv.counts.whole unbroken in
     let le = lane-le (counted is_failed) (map entries_of lanes) target x.entries (lane-at lanes target x at) in
     omega arith
 
-pub posted-at : {depth open_count : ℕ} {broken : Option ℕ} {t : Tally} (lanes : List LaneState) (target : ℕ) (x : LaneState) → IsQueue depth open_count broken lanes t → slice_get lanes target ≡ Some x → count_by is_posted x.entries ≤ open_count
+pub posted-at : {depth open_count : ℕ} {broken : Option ℕ} {t : QueueCounts} (lanes : List LaneValue) (target : ℕ) (x : LaneValue) → IsQueue depth open_count broken lanes t → slice_get lanes target ≡ Some x → count_by is_posted x.entries ≤ open_count
 posted-at lanes target x inv at =
     let posted = inv.counts.posted in
     let le = lane-le (counted is_posted) (map entries_of lanes) target x.entries (lane-at lanes target x at) in
     omega arith
 
 -- the counts are small
-pub small-tally : {depth open_count : ℕ} {broken : Option ℕ} {lanes : List LaneState} {t : Tally} → IsQueue depth open_count broken lanes t → IsSmall t
+pub small-tally : {depth open_count : ℕ} {broken : Option ℕ} {lanes : List LaneValue} {t : QueueCounts} → IsQueue depth open_count broken lanes t → AreBounded t
 small-tally {depth} {open_count} {broken} {lanes} {t} inv =
     let counts = inv.counts in
     record {
@@ -159,7 +159,7 @@ small-tally {depth} {open_count} {broken} {lanes} {t} inv =
         omega arith
 
 -- One step of one lane.
-pub queue-step : {depth open_count : ℕ} {broken : Option ℕ} {t : Tally} (lanes : List LaneState) (open' : ℕ) (broken' : Option ℕ) (target : ℕ) (x y : LaneState) (before after : Option Entry) (t' : Tally)
+pub queue-step : {depth open_count : ℕ} {broken : Option ℕ} {t : QueueCounts} (lanes : List LaneValue) (open' : ℕ) (broken' : Option ℕ) (target : ℕ) (x y : LaneValue) (before after : Option Entry) (t' : QueueCounts)
     → IsQueue depth open_count broken lanes t → slice_get lanes target ≡ Some x → y.depth ≡ x.depth → length y.entries ≤ 2 * y.depth
     → ((f : Entry → ℕ) → sum_by f y.entries + weigh f before ≡ sum_by f x.entries + weigh f after)
     → t' ≡ stepped t before after → open' ≤ depth
@@ -170,7 +170,7 @@ queue-step {depth} {open_count} {broken} {t} lanes open' broken' target x y befo
     let room = room-at lanes target x inv at in
     let same = map-set entries_of lanes target y in
     record {
-      rooms = All-set (λ (lane : LaneState). lane.depth ≡ depth) lanes target y (deep ∙ room) inv.rooms;
+      rooms = All-set (λ (lane : LaneValue). lane.depth ≡ depth) lanes target y (deep ∙ room) inv.rooms;
       counts = record {
         deep = inv.counts.deep;
         few = rw (same, length-set (map entries_of lanes) target y.entries) inv.counts.few;
@@ -193,15 +193,15 @@ pub phase-moved : (lane : List Entry) (place : ℕ) (e : Entry) (phase : Phase) 
 phase-moved lane place e phase at f =
     rw (changed_at-found lane place e (λ (e : Entry). in_phase e phase) at) (sum_by-changed f lane place e (in_phase e phase) at)
 
-pub phase-step : {depth open_count : ℕ} {broken : Option ℕ} {t : Tally} (lanes : List LaneState) (broken' : Option ℕ) (target : ℕ) (x y : LaneState) (place : ℕ) (e : Entry) (phase : Phase) (kind : Kind) (was : Progress) (t1 t2 : Tally)
+pub phase-step : {depth open_count : ℕ} {broken : Option ℕ} {t : QueueCounts} (lanes : List LaneValue) (broken' : Option ℕ) (target : ℕ) (x y : LaneValue) (place : ℕ) (e : Entry) (phase : Phase) (kind : Kind) (was : PhaseKind) (t1 t2 : QueueCounts)
     → IsQueue depth open_count broken lanes t → slice_get lanes target ≡ Some x → slice_get x.entries place ≡ Some e → progress_of e.phase ≡ was → kind ≡ e.kind
     → y ≡ record { depth = x.depth; entries = with_phase x.entries place phase } → length y.entries ≤ 2 * y.depth
-    → t1 ≡ raised t kind (progress_of phase) → t2 ≡ lowered t1 kind was
+    → t1 ≡ with_entry t kind (progress_of phase) → t2 ≡ without_entry t1 kind was
     → counted is_posted (in_phase e phase) ≡ 0 → (broken' ≡ None → (broken ≡ None) × (counted is_failed (in_phase e phase) ≡ 0))
     → IsQueue depth open_count broken' (slice_set lanes target y) t2
 phase-step {depth} {open_count} {broken} {t} lanes broken' target x y place e phase kind was t1 t2 inv at there progress kinds new long one two unposted whole =
-    queue-step lanes open_count broken' target x y (Some e) (Some (in_phase e phase)) t2 inv at (ap (λ (l : LaneState). l.depth) new) long
-    (λ f. rw (ap (λ (l : LaneState). l.entries) new) (phase-moved x.entries place e phase there f))
+    queue-step lanes open_count broken' target x y (Some e) (Some (in_phase e phase)) t2 inv at (ap (λ (l : LaneValue). l.depth) new) long
+    (λ f. rw (ap (λ (l : LaneValue). l.entries) new) (phase-moved x.entries place e phase there f))
     (two ∙ rw (one, kinds, ← progress) refl)
     inv.counts.within (omega arith) whole
 
@@ -221,27 +221,27 @@ unposted-at lane e at = go e.phase (passes-at is_carried lane e at)
     go (Carried bytes) h = refl
     go Failed h = refl
 
-pub head-step : {depth open_count : ℕ} {broken : Option ℕ} {t : Tally} (lanes : List LaneState) (target : ℕ) (x y : LaneState) (e : Entry) (kind : Kind) (was : Progress) (t' : Tally)
+pub head-step : {depth open_count : ℕ} {broken : Option ℕ} {t : QueueCounts} (lanes : List LaneValue) (target : ℕ) (x y : LaneValue) (e : Entry) (kind : Kind) (was : PhaseKind) (t' : QueueCounts)
     → IsQueue depth open_count broken lanes t → slice_get lanes target ≡ Some x → slice_get x.entries 0 ≡ Some e → progress_of e.phase ≡ was → kind ≡ e.kind
     → broken ≡ None → counted is_posted e ≡ 0
     → y ≡ record { depth = x.depth; entries = drop 1 x.entries } → length y.entries ≤ 2 * y.depth
-    → t' ≡ lowered t kind was
+    → t' ≡ without_entry t kind was
     → IsQueue depth open_count broken (slice_set lanes target y) t'
 head-step {depth} {open_count} {broken} {t} lanes target x y e kind was t' inv at there progress kinds unbroken unposted new long lower =
-    queue-step lanes open_count broken target x y (Some e) None t' inv at (ap (λ (l : LaneState). l.depth) new) long
-    (λ f. rw (ap (λ (l : LaneState). l.entries) new) (head-moved x.entries e there f ∙ omega arith))
+    queue-step lanes open_count broken target x y (Some e) None t' inv at (ap (λ (l : LaneValue). l.depth) new) long
+    (λ f. rw (ap (λ (l : LaneValue). l.entries) new) (head-moved x.entries e there f ∙ omega arith))
     (lower ∙ rw (kinds, ← progress) refl)
     inv.counts.within (omega arith) (λ same. (same, refl))
 
 -- an entry comes to the end of a lane
-pub post-step : {depth open_count : ℕ} {broken : Option ℕ} {t : Tally} (lanes : List LaneState) (target : ℕ) (x y : LaneState) (number : ℕ) (kind : Kind) (t' : Tally)
+pub post-step : {depth open_count : ℕ} {broken : Option ℕ} {t : QueueCounts} (lanes : List LaneValue) (target : ℕ) (x y : LaneValue) (number : ℕ) (kind : Kind) (t' : QueueCounts)
     → IsQueue depth open_count broken lanes t → slice_get lanes target ≡ Some x → open_count < depth
     → y ≡ record { depth = x.depth; entries = x.entries ++ record { number = number; kind = kind; phase = Posted } ∷ [] } → length y.entries ≤ 2 * y.depth
-    → t' ≡ raised t kind progress.Posted
+    → t' ≡ with_entry t kind progress.Posted
     → IsQueue depth (open_count + 1) broken (slice_set lanes target y) t'
 post-step {depth} {open_count} {broken} {t} lanes target x y number kind t' inv at room new long raise =
-    queue-step lanes (open_count + 1) broken target x y None (Some (record { number = number; kind = kind; phase = Posted })) t' inv at (ap (λ (l : LaneState). l.depth) new) long
-    (λ f. rw (ap (λ (l : LaneState). l.entries) new) (let step = sum_by_push f x.entries (record { number = number; kind = kind; phase = Posted }) in omega arith))
+    queue-step lanes (open_count + 1) broken target x y None (Some (record { number = number; kind = kind; phase = Posted })) t' inv at (ap (λ (l : LaneValue). l.depth) new) long
+    (λ f. rw (ap (λ (l : LaneValue). l.entries) new) (let step = sum_by_push f x.entries (record { number = number; kind = kind; phase = Posted }) in omega arith))
     raise (omega arith) (omega arith) (λ same. (same, refl))
 
 -- what a queue's functions read
@@ -250,19 +250,19 @@ not-broken None h = refl
 not-broken (Some x) h = absurd (let no : ⊥ = cc in no)
 
 pub take-read : (depth target open_count : ℕ) (lanes : List (List Entry)) (lane : List Entry) → slice_get lanes target ≡ Some lane → carried_count lane < depth
-    → take_in depth target (record { open_count = open_count; broken = None; lanes = lanes }) ≡ first_posted lane
+    → front_posted_in depth target (record { open_count = open_count; broken = None; lanes = lanes }) ≡ first_posted lane
 take-read depth target open_count lanes lane at room = rw (at, lt-ltb (carried_count lane) depth room) refl
 
 pub take-none : (depth target open_count : ℕ) (lanes : List (List Entry)) (lane : List Entry) → slice_get lanes target ≡ Some lane → depth ≤ carried_count lane
-    → take_in depth target (record { open_count = open_count; broken = None; lanes = lanes }) ≡ None
+    → front_posted_in depth target (record { open_count = open_count; broken = None; lanes = lanes }) ≡ None
 take-none depth target open_count lanes lane at full = rw (at, le-ltb (carried_count lane) depth full) refl
 
 pub put-read : (target open_count : ℕ) (lanes : List (List Entry)) (lane : List Entry) → slice_get lanes target ≡ Some lane
-    → put_in target (record { open_count = open_count; broken = None; lanes = lanes }) ≡ first_carried lane
+    → front_carried_in target (record { open_count = open_count; broken = None; lanes = lanes }) ≡ first_carried lane
 put-read target open_count lanes lane at = rw at refl
 
 -- a queue with no entry
-pub empty-counts : (depth n : ℕ) → depth ≤ 256 → n ≤ 16 → IsCounted depth (record { open_count = 0; broken = None; lanes = replicate n [] }) no_tally
+pub empty-counts : (depth n : ℕ) → depth ≤ 256 → n ≤ 16 → IsCounted depth (record { open_count = 0; broken = None; lanes = replicate n [] }) no_counts
 empty-counts depth n deep few =
     let none = λ (f : Entry → ℕ). total-none f n in
     record {
@@ -311,22 +311,22 @@ wait-ready depth open_count awaited broken lanes s none is same = rw (← same) 
 
 -- Reads of a lane that the code holds.
 
-pub taken-read : (depth open_count : ℕ) (broken : Option ℕ) (lanes : List LaneState) (place target : ℕ) (x : LaneState) (s : QueueState) → place ≡ target → slice_get lanes place ≡ Some x → broken ≡ None
-    → state_of depth (queue_of open_count broken lanes) ≡ s → carried_count x.entries < depth → first_posted x.entries ≡ take_in s.depth target s.queue
+pub taken-read : (depth open_count : ℕ) (broken : Option ℕ) (lanes : List LaneValue) (place target : ℕ) (x : LaneValue) (s : QueueState) → place ≡ target → slice_get lanes place ≡ Some x → broken ≡ None
+    → state_of depth (queue_of open_count broken lanes) ≡ s → carried_count x.entries < depth → first_posted x.entries ≡ front_posted_in s.depth target s.queue
 taken-read depth open_count broken lanes place target x s same at none is room =
     rw (← is) (rw none (sym (take-read depth target open_count (map entries_of lanes) x.entries (rw (← same) (lane-at lanes place x at)) room)))
 
-pub taken-none : (depth open_count : ℕ) (broken : Option ℕ) (lanes : List LaneState) (place target : ℕ) (x : LaneState) (s : QueueState) → place ≡ target → slice_get lanes place ≡ Some x → broken ≡ None
-    → state_of depth (queue_of open_count broken lanes) ≡ s → depth ≤ carried_count x.entries → None ≡ take_in s.depth target s.queue
+pub taken-none : (depth open_count : ℕ) (broken : Option ℕ) (lanes : List LaneValue) (place target : ℕ) (x : LaneValue) (s : QueueState) → place ≡ target → slice_get lanes place ≡ Some x → broken ≡ None
+    → state_of depth (queue_of open_count broken lanes) ≡ s → depth ≤ carried_count x.entries → None ≡ front_posted_in s.depth target s.queue
 taken-none depth open_count broken lanes place target x s same at none is full =
     rw (← is) (rw none (sym (take-none depth target open_count (map entries_of lanes) x.entries (rw (← same) (lane-at lanes place x at)) full)))
 
-pub put-reads : (depth open_count : ℕ) (broken : Option ℕ) (lanes : List LaneState) (place target : ℕ) (x : LaneState) (s : QueueState) → place ≡ target → slice_get lanes place ≡ Some x → broken ≡ None
-    → state_of depth (queue_of open_count broken lanes) ≡ s → first_carried x.entries ≡ put_in target s.queue
+pub put-reads : (depth open_count : ℕ) (broken : Option ℕ) (lanes : List LaneValue) (place target : ℕ) (x : LaneValue) (s : QueueState) → place ≡ target → slice_get lanes place ≡ Some x → broken ≡ None
+    → state_of depth (queue_of open_count broken lanes) ≡ s → first_carried x.entries ≡ front_carried_in target s.queue
 put-reads depth open_count broken lanes place target x s same at none is =
     rw (← is) (rw none (sym (put-read target open_count (map entries_of lanes) x.entries (rw (← same) (lane-at lanes place x at)))))
 
-pub head-read : (depth open_count : ℕ) (broken : Option ℕ) (lanes : List LaneState) (place target : ℕ) (x : LaneState) (s : QueueState) → place ≡ target → slice_get lanes place ≡ Some x
+pub head-read : (depth open_count : ℕ) (broken : Option ℕ) (lanes : List LaneValue) (place target : ℕ) (x : LaneValue) (s : QueueState) → place ≡ target → slice_get lanes place ≡ Some x
     → state_of depth (queue_of open_count broken lanes) ≡ s → head_in target s.queue ≡ slice_get x.entries 0
 head-read depth open_count broken lanes place target x s same at is =
     let there : slice_get (map entries_of lanes) target ≡ Some x.entries = rw (← same) (lane-at lanes place x at) in
@@ -334,26 +334,26 @@ head-read depth open_count broken lanes place target x s same at is =
 
 -- Lanes whose entries go, one after another.
 
-pub cleared-length : (n : ℕ) (lanes : List LaneState) → length (cleared_front n lanes) ≡ length lanes
+pub cleared-length : (n : ℕ) (lanes : List LaneValue) → length (cleared_prefix n lanes) ≡ length lanes
 cleared-length zero lanes = refl
 cleared-length (suc n) [] = refl
 cleared-length (suc n) (x ∷ lanes) = ap (λ (m : ℕ). suc m) (cleared-length n lanes)
 
-pub cleared-more : (n : ℕ) (lanes : List LaneState) (x : LaneState) → slice_get (cleared_front n lanes) n ≡ Some x → slice_set (cleared_front n lanes) n (cleared x) ≡ cleared_front (suc n) lanes
+pub cleared-more : (n : ℕ) (lanes : List LaneValue) (x : LaneValue) → slice_get (cleared_prefix n lanes) n ≡ Some x → slice_set (cleared_prefix n lanes) n (cleared x) ≡ cleared_prefix (suc n) lanes
 cleared-more zero [] x at = refl
 cleared-more zero (y ∷ lanes) x at = let same : y ≡ x = cc in rw same refl
 cleared-more (suc n) [] x at = refl
-cleared-more (suc n) (y ∷ lanes) x at = ap (λ (rest : List LaneState). cleared y ∷ rest) (cleared-more n lanes x at)
+cleared-more (suc n) (y ∷ lanes) x at = ap (λ (rest : List LaneValue). cleared y ∷ rest) (cleared-more n lanes x at)
 
-pub cleared-all : (lanes : List LaneState) → map entries_of (cleared_front (length lanes) lanes) ≡ replicate (length lanes) []
+pub cleared-all : (lanes : List LaneValue) → map entries_of (cleared_prefix (length lanes) lanes) ≡ replicate (length lanes) []
 cleared-all [] = refl
 cleared-all (x ∷ lanes) = ap (λ (rest : List (List Entry)). [] ∷ rest) (cleared-all lanes)
 
-pub cleared-rooms : (P : LaneState → Type 0) (n : ℕ) (lanes : List LaneState) → ((x : LaneState) → P x → P (cleared x)) → All P lanes → All P (cleared_front n lanes)
+pub cleared-rooms : (P : LaneValue → Type 0) (n : ℕ) (lanes : List LaneValue) → ((x : LaneValue) → P x → P (cleared x)) → All P lanes → All P (cleared_prefix n lanes)
 cleared-rooms P zero lanes kept all = all
 cleared-rooms P (suc n) [] kept all = all
 cleared-rooms P (suc n) (x ∷ lanes) kept all =
-    All-cons P (cleared x) (cleared_front n lanes) (kept x (All-head P x lanes all)) (cleared-rooms P n lanes kept (All-tail P x lanes all))
+    All-cons P (cleared x) (cleared_prefix n lanes) (kept x (All-head P x lanes all)) (cleared-rooms P n lanes kept (All-tail P x lanes all))
 
 pub emptied : (lanes : List (List Entry)) → map no_entries lanes ≡ replicate (length lanes) []
 emptied [] = refl
@@ -364,21 +364,21 @@ pub fresh : (n depth : ℕ) → map entries_of (replicate n (record { depth = de
 fresh zero depth = refl
 fresh (suc n) depth = ap (λ (rest : List (List Entry)). [] ∷ rest) (fresh n depth)
 
-pub purged-queue : {depth open_count : ℕ} {broken : Option ℕ} {t : Tally} (lanes lanes' : List LaneState) (t' : Tally) → IsQueue depth open_count broken lanes t → lanes' ≡ cleared_front (length lanes) lanes → t' ≡ no_tally
+pub purged-queue : {depth open_count : ℕ} {broken : Option ℕ} {t : QueueCounts} (lanes lanes' : List LaneValue) (t' : QueueCounts) → IsQueue depth open_count broken lanes t → lanes' ≡ cleared_prefix (length lanes) lanes → t' ≡ no_counts
     → IsQueue depth 0 None lanes' t'
 purged-queue {depth} lanes lanes' t' inv is none = rw (is, none) (record {
-  rooms = cleared-rooms (λ (lane : LaneState). lane.depth ≡ depth) (length lanes) lanes (λ x same. same) inv.rooms;
+  rooms = cleared-rooms (λ (lane : LaneValue). lane.depth ≡ depth) (length lanes) lanes (λ x same. same) inv.rooms;
   counts = rw cleared-all (empty-counts depth (length lanes) inv.counts.deep (rw length-map at inv.counts.few));
 })
 
-pub purged-state : (depth open_count : ℕ) (broken : Option ℕ) (lanes lanes' : List LaneState) (s : QueueState) → state_of depth (queue_of open_count broken lanes) ≡ s → lanes' ≡ cleared_front (length lanes) lanes
+pub purged-state : (depth open_count : ℕ) (broken : Option ℕ) (lanes lanes' : List LaneValue) (s : QueueState) → state_of depth (queue_of open_count broken lanes) ≡ s → lanes' ≡ cleared_prefix (length lanes) lanes
     → state_of depth (queue_of 0 None lanes') ≡ state_of s.depth (purged_queue s.queue)
 purged-state depth open_count broken lanes lanes' s same is =
     rw (← same) (ap (λ (ls : List (List Entry)). laned depth 0 None ls) (rw is (cleared-all lanes ∙ (ap (λ (n : ℕ). replicate n []) (sym (length-map lanes entries_of)) ∙ sym (emptied (map entries_of lanes))))))
 
-pub new-queue : (depth n : ℕ) (lanes : List LaneState) (t : Tally) → depth ≤ 256 → n ≤ 16 → lanes ≡ replicate n (record { depth = depth; entries = [] }) → t ≡ no_tally → IsQueue depth 0 None lanes t
+pub new-queue : (depth n : ℕ) (lanes : List LaneValue) (t : QueueCounts) → depth ≤ 256 → n ≤ 16 → lanes ≡ replicate n (record { depth = depth; entries = [] }) → t ≡ no_counts → IsQueue depth 0 None lanes t
 new-queue depth n lanes t deep few is none = rw (is, none) (record {
-  rooms = All-replicate (λ (lane : LaneState). lane.depth ≡ depth) n (record { depth = depth; entries = [] }) refl;
+  rooms = All-replicate (λ (lane : LaneValue). lane.depth ≡ depth) n (record { depth = depth; entries = [] }) refl;
   counts = rw fresh (empty-counts depth n deep few);
 })
 

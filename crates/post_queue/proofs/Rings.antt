@@ -13,8 +13,8 @@ use Rattle.gaspi_types.specs.declared.entries.Phase.TheVariants.{Posted, Carried
 use Rattle.gaspi_types.proofs.Items.{changed_at-found, behind-of-joined}
 use Rattle.circular_buffer.specs.Buffer.{Buffer, buffer}
 use Rattle.post_queue.specs.Kinds.{one_if}
-use Rattle.post_queue.specs.LaneStates.{LaneState, lane_of, IsRings}
-use Rattle.post_queue.specs.Places.{posted_place, first_posted, first_carried, with_phase}
+use Rattle.post_queue.specs.LaneStates.{LaneValue, lane_of, AreRings}
+use Rattle.post_queue.specs.Places.{posted_position, first_posted, first_carried, with_phase}
 
 abbrev pub Taken : List Entry → Type 0
 Taken a = All (λ (e : Entry). is_posted e ≡ false) a
@@ -131,7 +131,7 @@ in_phase e phase = record { number = e.number; kind = e.kind; phase = phase }
 
 -- the first posted entry in another phase
 pub phase-seam : (a b : List Entry) (e : Entry) (phase : Phase) → Taken a → Waiting b → slice_get b 0 ≡ Some e
-    → with_phase (a ++ b) (posted_place (a ++ b)) phase ≡ (a ++ in_phase e phase ∷ []) ++ drop 1 b
+    → with_phase (a ++ b) (posted_position (a ++ b)) phase ≡ (a ++ in_phase e phase ∷ []) ++ drop 1 b
 phase-seam a [] e phase taken waiting at = absurd (let no : ⊥ = cc in no)
 phase-seam a (x ∷ b) e phase taken waiting at =
     let same : x ≡ e = cc in
@@ -151,31 +151,31 @@ drop-head (x ∷ a) b e at = refl
 
 -- Two rings as a lane.
 
-abbrev pub lane_state : ℕ → List Entry → LaneState
+abbrev pub lane_state : ℕ → List Entry → LaneValue
 lane_state depth entries = record { depth = depth; entries = entries }
 
-pub first-waits : {A B : Buffer Entry} {s : LaneState} → IsRings A B → lane_of A B ≡ s → first_posted s.entries ≡ slice_get B.items 0
-first-waits inv is = rw (← ap (λ (s : LaneState). s.entries) is) (first-posted _ _ inv.taken inv.waiting)
+pub first-waits : {A B : Buffer Entry} {s : LaneValue} → AreRings A B → lane_of A B ≡ s → first_posted s.entries ≡ slice_get B.items 0
+first-waits inv is = rw (← ap (λ (s : LaneValue). s.entries) is) (first-posted _ _ inv.taken inv.waiting)
 
-pub count-waits : {A B : Buffer Entry} {s : LaneState} → IsRings A B → lane_of A B ≡ s → count_by is_posted s.entries ≡ length B.items
-count-waits inv is = rw (← ap (λ (s : LaneState). s.entries) is) (count-posted _ _ inv.taken inv.waiting)
+pub count-waits : {A B : Buffer Entry} {s : LaneValue} → AreRings A B → lane_of A B ≡ s → count_by is_posted s.entries ≡ length B.items
+count-waits inv is = rw (← ap (λ (s : LaneValue). s.entries) is) (count-posted _ _ inv.taken inv.waiting)
 
-pub first-taken : {A B : Buffer Entry} {s : LaneState} → IsRings A B → lane_of A B ≡ s → count_by is_failed s.entries ≡ 0 → first_carried s.entries ≡ slice_get A.items 0
+pub first-taken : {A B : Buffer Entry} {s : LaneValue} → AreRings A B → lane_of A B ≡ s → count_by is_failed s.entries ≡ 0 → first_carried s.entries ≡ slice_get A.items 0
 first-taken inv is whole =
-    let entries = ap (λ (s : LaneState). s.entries) is in
+    let entries = ap (λ (s : LaneValue). s.entries) is in
     rw (← entries) (first-carried _ _ inv.taken inv.waiting (rw entries whole))
 
-pub count-taken : {A B : Buffer Entry} {s : LaneState} → IsRings A B → lane_of A B ≡ s → count_by is_failed s.entries ≡ 0 → carried_count s.entries ≡ length A.items
+pub count-taken : {A B : Buffer Entry} {s : LaneValue} → AreRings A B → lane_of A B ≡ s → count_by is_failed s.entries ≡ 0 → carried_count s.entries ≡ length A.items
 count-taken inv is whole =
-    let entries = ap (λ (s : LaneState). s.entries) is in
+    let entries = ap (λ (s : LaneValue). s.entries) is in
     rw (← entries) (count-carried _ _ inv.taken inv.waiting (rw entries whole))
 
-pub head-taken : (A B : Buffer Entry) {s : LaneState} → lane_of A B ≡ s → IsSome (slice_get A.items 0) → slice_get s.entries 0 ≡ slice_get A.items 0
-head-taken A B is there = rw (← ap (λ (s : LaneState). s.entries) is) (head-carried A.items B.items there)
+pub head-taken : (A B : Buffer Entry) {s : LaneValue} → lane_of A B ≡ s → IsSome (slice_get A.items 0) → slice_get s.entries 0 ≡ slice_get A.items 0
+head-taken A B is there = rw (← ap (λ (s : LaneValue). s.entries) is) (head-carried A.items B.items there)
 
 -- the front of the posted ring goes, in another phase, to the back of the other one
-pub rings-moved : {A B : Buffer Entry} (y : Entry) → IsRings A B → length A.items < A.capacity → is_posted y ≡ false
-    → IsRings (buffer (A.items ++ y ∷ []) A.capacity) (buffer (drop 1 B.items) B.capacity)
+pub rings-moved : {A B : Buffer Entry} (y : Entry) → AreRings A B → length A.items < A.capacity → is_posted y ≡ false
+    → AreRings (buffer (A.items ++ y ∷ []) A.capacity) (buffer (drop 1 B.items) B.capacity)
 rings-moved {A} {B} y inv room apart = record {
   same = inv.same;
   carried_fit = (let long = length-append A.items (y ∷ []) in omega arith);
@@ -184,13 +184,13 @@ rings-moved {A} {B} y inv room apart = record {
   waiting = All-drop (λ (e : Entry). is_posted e ≡ true) 1 B.items inv.waiting;
 }
 
-pub lane-moved : {A B : Buffer Entry} {s : LaneState} (w y : Entry) (phase : Phase) → IsRings A B → lane_of A B ≡ s → slice_get B.items 0 ≡ Some w → y ≡ in_phase w phase
-    → lane_of (buffer (A.items ++ y ∷ []) A.capacity) (buffer (drop 1 B.items) B.capacity) ≡ record { depth = s.depth; entries = with_phase s.entries (posted_place s.entries) phase }
+pub lane-moved : {A B : Buffer Entry} {s : LaneValue} (w y : Entry) (phase : Phase) → AreRings A B → lane_of A B ≡ s → slice_get B.items 0 ≡ Some w → y ≡ in_phase w phase
+    → lane_of (buffer (A.items ++ y ∷ []) A.capacity) (buffer (drop 1 B.items) B.capacity) ≡ record { depth = s.depth; entries = with_phase s.entries (posted_position s.entries) phase }
 lane-moved {A} {B} w y phase inv is at new =
     rw new (rw (← is) (ap (λ (es : List Entry). lane_state A.capacity es) (sym (phase-seam A.items B.items w phase inv.taken inv.waiting at))))
 
 -- the front of the carried ring goes
-pub rings-removed : {A B : Buffer Entry} → IsRings A B → IsRings (buffer (drop 1 A.items) A.capacity) B
+pub rings-removed : {A B : Buffer Entry} → AreRings A B → AreRings (buffer (drop 1 A.items) A.capacity) B
 rings-removed {A} {B} inv = record {
   same = inv.same;
   carried_fit = (let short = length-drop 1 A.items in let fit = inv.carried_fit in omega arith);
@@ -200,14 +200,14 @@ rings-removed {A} {B} inv = record {
 }
 
 -- the front of the carried ring in another phase
-pub lane-failed : (A B : Buffer Entry) {s : LaneState} (w y : Entry) (phase : Phase) → lane_of A B ≡ s → slice_get A.items 0 ≡ Some w → y ≡ in_phase w phase
+pub lane-failed : (A B : Buffer Entry) {s : LaneValue} (w y : Entry) (phase : Phase) → lane_of A B ≡ s → slice_get A.items 0 ≡ Some w → y ≡ in_phase w phase
     → lane_of (buffer (slice_set A.items 0 y) A.capacity) B ≡ record { depth = s.depth; entries = with_phase s.entries 0 phase }
 lane-failed A B w y phase is at new =
     rw new (rw (← is) (ap (λ (es : List Entry). lane_state A.capacity es) (sym (phase-head A.items B.items w phase at))))
 
 -- an entry comes to the back of the posted ring
-pub rings-posted : {A B : Buffer Entry} (y : Entry) → IsRings A B → length B.items < B.capacity → is_posted y ≡ true
-    → IsRings A (buffer (B.items ++ y ∷ []) B.capacity)
+pub rings-posted : {A B : Buffer Entry} (y : Entry) → AreRings A B → length B.items < B.capacity → is_posted y ≡ true
+    → AreRings A (buffer (B.items ++ y ∷ []) B.capacity)
 rings-posted {A} {B} y inv room posted = record {
   same = inv.same;
   carried_fit = inv.carried_fit;
@@ -217,7 +217,7 @@ rings-posted {A} {B} y inv room posted = record {
 }
 
 -- both together hold twice as many
-pub rings-bound : {A B : Buffer Entry} → IsRings A B → length (A.items ++ B.items) ≤ 2 * A.capacity
+pub rings-bound : {A B : Buffer Entry} → AreRings A B → length (A.items ++ B.items) ≤ 2 * A.capacity
 rings-bound {A} {B} inv =
     let long = length-append A.items B.items in
     let same = inv.same in
@@ -244,6 +244,6 @@ lent-some None h = h
 pub lent-at : (o : Option (MutBor Entry)) (r : MutBor Entry) (x : Option Entry) → o ≡ Some r → option_copied_mut o ≡ x → x ≡ Some r.now
 lent-at o r x is at = sym at ∙ ap option_copied_mut is
 
-pub head-lent : (A B : Buffer Entry) {s : LaneState} (o : Option (Bor Entry)) → lane_of A B ≡ s → option_copied o ≡ slice_get A.items 0 → IfSome o (λ (e : Bor Entry). slice_get s.entries 0 ≡ Some e.now)
+pub head-lent : (A B : Buffer Entry) {s : LaneValue} (o : Option (Bor Entry)) → lane_of A B ≡ s → option_copied o ≡ slice_get A.items 0 → IfSome o (λ (e : Bor Entry). slice_get s.entries 0 ≡ Some e.now)
 head-lent A B None is at = tt
 head-lent A B (Some e) is at = head-taken A B is (rw (← at) refl) ∙ sym at

@@ -5,7 +5,7 @@ use Rattle.std.proofs.lemmas.Bool.{eq-eqb, eqb-true, lt-ltb, le-ltb}
 use Rattle.std.proofs.lemmas.List.Sums.{position_or_len_is}
 use Rattle.std.proofs.lemmas.List.Folds.{list_any_none}
 use Rattle.std.proofs.lemmas.Option.{slice_get_within, get_or_from_slice_get}
-use Rattle.gaspi_types.specs.Lanes.{is_posted, is_carried, is_write, is_read, carried_count, may_take, may_put, may_put_kind, place_of}
+use Rattle.gaspi_types.specs.Lanes.{is_posted, is_carried, is_write, is_read, carried_count, may_take, may_put, may_put_kind, position_of}
 use Rattle.gaspi_types.specs.declared.entries.Entry.{Entry}
 use Rattle.gaspi_types.specs.declared.entries.Kind.{Kind}
 use Rattle.gaspi_types.specs.declared.entries.Kind.TheVariants.{Write, Read, Notify, ReadNote}
@@ -24,7 +24,7 @@ apart a b less = go (a == b) refl
     go false is = refl
 
 -- an entry is found by its number
-pub found-at : (lane : List Entry) (place : ℕ) (e : Entry) → IsRising lane → slice_get lane place ≡ Some e → place_of lane e.number ≡ Some place
+pub found-at : (lane : List Entry) (place : ℕ) (e : Entry) → IsRising lane → slice_get lane place ≡ Some e → position_of lane e.number ≡ Some place
 found-at lane place e rising at =
     let within = slice_get_within lane place e at in
     let here = get_or_from_slice_get lane place e e at in

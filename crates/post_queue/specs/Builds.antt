@@ -21,8 +21,8 @@ lane_checks limits (Some to) = do
   check (nat_lt to.queue limits.queues) BadQueue
 
 -- the entries of a call that posts, or its first refusal: its rank, its queue, and what it asks of the table of its caller
-abbrev pub build_finds : Limits → ℕ → SegmentTable → Call → Result (List Kind) Refusal
-build_finds limits me table call = do
+abbrev pub build_result : Limits → ℕ → SegmentTable → Call → Result (List Kind) Refusal
+build_result limits me table call = do
   there ← lane_checks limits (row_of call).posting
   call_kinds limits.notes me table call
 
@@ -33,7 +33,7 @@ Builds (Err (Refused refusal)) found = found ≡ Err refusal
 Builds (Err NoMemory) found = Unit {0}
 
 -- whether memory was wanting
-abbrev pub wants_memory : Result (List Kind) BuildStop → Bool
-wants_memory (Ok entries) = false
-wants_memory (Err (Refused refusal)) = false
-wants_memory (Err NoMemory) = true
+abbrev pub is_out_of_memory : Result (List Kind) BuildStop → Bool
+is_out_of_memory (Ok entries) = false
+is_out_of_memory (Err (Refused refusal)) = false
+is_out_of_memory (Err NoMemory) = true

@@ -6,32 +6,32 @@ use Rattle.gaspi_types.specs.declared.entries.Kind.{Kind}
 use Rattle.gaspi_types.specs.declared.entries.Kind.TheVariants.{Write, Read, Notify, ReadNote}
 use Rattle.gaspi_types.specs.declared.entries.Phase.{Phase}
 use Rattle.gaspi_types.specs.declared.entries.Phase.TheVariants as phases
-use Rattle.post_queue.specs.declared.kinds.Progress.{Progress}
-use Rattle.post_queue.specs.declared.kinds.Progress.TheVariants.{Posted, Carried, Failed}
+use Rattle.post_queue.specs.declared.kinds.PhaseKind.{PhaseKind}
+use Rattle.post_queue.specs.declared.kinds.PhaseKind.TheVariants.{Posted, Carried, Failed}
 
 abbrev pub one_if : Bool → ℕ
 one_if test = cond test 1 0
 
 -- a phase without its bytes
-abbrev pub progress_of : Phase → Progress
+abbrev pub progress_of : Phase → PhaseKind
 progress_of phases.Posted = Posted
 progress_of (phases.Carried bytes) = Carried
 progress_of phases.Failed = Failed
 
-abbrev pub is_posted_yet : Progress → Bool
+abbrev pub is_posted_yet : PhaseKind → Bool
 is_posted_yet Posted = true
 is_posted_yet Carried = false
 is_posted_yet Failed = false
 
 -- a wait waits for it: it has not taken its bytes, or is a read or the notification of one, as long as that stands
-abbrev pub is_awaited : Kind → Progress → Bool
+abbrev pub is_awaited : Kind → PhaseKind → Bool
 is_awaited (Write own target) progress = is_posted_yet progress
 is_awaited (Read own target) progress = true
 is_awaited (Notify target value) progress = is_posted_yet progress
 is_awaited (ReadNote own) progress = true
 
 -- the own segment that it has to read or write yet
-abbrev pub used_segment : Kind → Progress → Option ℕ
+abbrev pub used_segment : Kind → PhaseKind → Option ℕ
 used_segment (Write own target) Posted = Some own.segment
 used_segment (Write own target) Carried = None
 used_segment (Write own target) Failed = None
@@ -44,7 +44,7 @@ used_segment (ReadNote own) Carried = Some own.segment
 used_segment (ReadNote own) Failed = None
 
 -- the events for which room is kept
-abbrev pub events_owed : Progress → ℕ
+abbrev pub events_owed : PhaseKind → ℕ
 events_owed Posted = 2
 events_owed Carried = 1
 events_owed Failed = 0

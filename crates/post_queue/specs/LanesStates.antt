@@ -2,7 +2,7 @@
 -- (GASPI: one-sided communication)
 use Rattle.std.specs.Prelude.{◌≡◌, ℕ, Bool, ◌+◌, ◌≤◌, List, [], length, replicate, slice_get, Option, None, option_and_then, Result, Ok}
 use Rattle.std.specs.List.{All}
-use Rattle.gaspi_types.specs.Checks.{◌>>=◌, found}
+use Rattle.gaspi_types.specs.Checks.{◌>>=◌, ok_or}
 use Rattle.gaspi_types.specs.Lanes.{posted_entries}
 use Rattle.gaspi_types.specs.Queues.{with_entries}
 use Rattle.gaspi_types.specs.Tables.{changed_at}
@@ -13,7 +13,7 @@ use Rattle.gaspi_types.specs.declared.replies.Refusal.{Refusal}
 use Rattle.gaspi_types.specs.declared.replies.Refusal.TheVariants.{BadQueue}
 use Rattle.post_queue.specs.Nonempty.{nonempty_in}
 use Rattle.post_queue.specs.QueueStates.{QueueState}
-use Rattle.post_queue.specs.Steps.{take_in, put_in, head_in, room_checks, wait_in}
+use Rattle.post_queue.specs.Steps.{front_posted_in, front_carried_in, head_in, depth_checks, wait_in}
 
 -- the queues, how deep each is, to how many ranks each has a lane, and the number of the next entry
 pub record LanesState : Type 0 where
@@ -32,12 +32,12 @@ empty_queues queues ranks depth = record { depth = depth; ranks = ranks; next = 
 -- What may come next in a lane, first in first out. Where there is no such queue or lane, nothing.
 
 -- the entry that may take its bytes
-abbrev pub next_take : LanesState → ℕ → ℕ → Option Entry
-next_take s queue target = option_and_then (take_in s.depth target) (slice_get s.queues queue)
+abbrev pub front_posted_of : LanesState → ℕ → ℕ → Option Entry
+front_posted_of s queue target = option_and_then (front_posted_in s.depth target) (slice_get s.queues queue)
 
 -- the entry that may be put
-abbrev pub next_put : LanesState → ℕ → ℕ → Option Entry
-next_put s queue target = option_and_then (put_in target) (slice_get s.queues queue)
+abbrev pub front_carried_of : LanesState → ℕ → ℕ → Option Entry
+front_carried_of s queue target = option_and_then (front_carried_in target) (slice_get s.queues queue)
 
 -- the first entry of a lane, whatever its phase
 abbrev pub head_of : LanesState → ℕ → ℕ → Option Entry
@@ -51,25 +51,25 @@ nonempty_of s queue = option_and_then nonempty_in (slice_get s.queues queue)
 
 abbrev pub post_checks : LanesState → ℕ → ℕ → Result (Unit {0}) Refusal
 post_checks s queue need = do
-  q ← found (slice_get s.queues queue) BadQueue
-  room_checks s.depth need q
+  q ← ok_or (slice_get s.queues queue) BadQueue
+  depth_checks s.depth need q
 
 -- (wait)
 abbrev pub wait_checks : List Queue → ℕ → Result Bool Refusal
 wait_checks queues queue = do
-  q ← found (slice_get queues queue) BadQueue
+  q ← ok_or (slice_get queues queue) BadQueue
   wait_in q
 
 -- (queue_purge)
 abbrev pub purge_checks : List Queue → ℕ → Result (Unit {0}) Refusal
 purge_checks queues queue = do
-  q ← found (slice_get queues queue) BadQueue
+  q ← ok_or (slice_get queues queue) BadQueue
   Ok tt
 
 -- (queue_size)
 abbrev pub open_count_of : List Queue → ℕ → Result ℕ Refusal
 open_count_of queues queue = do
-  q ← found (slice_get queues queue) BadQueue
+  q ← ok_or (slice_get queues queue) BadQueue
   Ok q.open_count
 
 -- What a call leaves.

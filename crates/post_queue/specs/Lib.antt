@@ -10,4 +10,4 @@ pub mod Places
 pub mod QueueStates
 pub mod Rising
 pub mod Steps
-pub mod Tallies
+pub mod QueueCounts

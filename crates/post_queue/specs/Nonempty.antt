@@ -4,7 +4,7 @@ use Rattle.std.specs.List.{position}
 use Rattle.gaspi_types.specs.Masks.{is_member}
 use Rattle.gaspi_types.specs.declared.entries.Entry.{Entry}
 use Rattle.gaspi_types.specs.declared.entries.Queue.{Queue}
-use Rattle.post_queue.specs.LaneStates.{LaneState}
+use Rattle.post_queue.specs.LaneStates.{LaneValue}
 
 -- whether a lane has an entry
 abbrev pub is_nonempty : List Entry → Bool
@@ -16,10 +16,10 @@ abbrev pub nonempty_in : Queue → Option ℕ
 nonempty_in q = position is_nonempty q.lanes
 
 -- whether a lane is there and has an entry
-abbrev pub is_nonempty_at : Option LaneState → Bool
+abbrev pub is_nonempty_at : Option LaneValue → Bool
 is_nonempty_at None = false
 is_nonempty_at (Some lane) = is_nonempty lane.entries
 
 -- a set of targets is that of the nonempty lanes
-abbrev pub IsNonempty : ℕ → List LaneState → Type 0
+abbrev pub IsNonempty : ℕ → List LaneValue → Type 0
 IsNonempty nonempty lanes = (target : ℕ) → target < 32 → is_member nonempty target ≡ is_nonempty_at (slice_get lanes target)

@@ -7,11 +7,11 @@ use Rattle.gaspi_types.specs.declared.entries.Entry.{Entry}
 use Rattle.gaspi_types.specs.declared.entries.Phase.{Phase}
 
 -- where the first posted entry stands, or the length
-abbrev pub posted_place : List Entry → ℕ
-posted_place lane = position_or_len is_posted lane
+abbrev pub posted_position : List Entry → ℕ
+posted_position lane = position_or_len is_posted lane
 
 abbrev pub first_posted : List Entry → Option Entry
-first_posted lane = slice_get lane (posted_place lane)
+first_posted lane = slice_get lane (posted_position lane)
 
 abbrev pub first_carried : List Entry → Option Entry
 first_carried lane = slice_get lane (position_or_len is_carried lane)

@@ -1,7 +1,7 @@
 -- What the calls on a queue look at, and what they leave, in the words of the machine. (GASPI: one-sided communication)
 use Rattle.std.specs.Prelude.{ℕ, Bool, nat_lt, ◌+◌, not, nat_le, List, [], map, drop, slice_get, Option, None, Some, is_none, option_and_then, Result, Ok, if◌then◌else◌}
 use Rattle.std.specs.List.{list_any}
-use Rattle.gaspi_types.specs.Checks.{◌>>=◌, check, absent}
+use Rattle.gaspi_types.specs.Checks.{◌>>=◌, check, err_if_some}
 use Rattle.gaspi_types.specs.Lanes.{carried_count, has_awaited}
 use Rattle.gaspi_types.specs.Tables.{changed_at}
 use Rattle.gaspi_types.specs.declared.entries.Entry.{Entry}
@@ -9,20 +9,20 @@ use Rattle.gaspi_types.specs.declared.entries.Phase.TheVariants.{Carried, Failed
 use Rattle.gaspi_types.specs.declared.entries.Queue.{Queue}
 use Rattle.gaspi_types.specs.declared.replies.Refusal.{Refusal}
 use Rattle.gaspi_types.specs.declared.replies.Refusal.TheVariants.{QueueFull, QueueBroken}
-use Rattle.post_queue.specs.Places.{posted_place, first_posted, first_carried, with_phase}
+use Rattle.post_queue.specs.Places.{posted_position, first_posted, first_carried, with_phase}
 
 -- What may come next in a lane, first in first out.
 
 -- the first posted entry, where fewer than that many entries are carried
-abbrev pub lane_take : ℕ → List Entry → Option Entry
-lane_take depth lane = if nat_lt (carried_count lane) depth then first_posted lane else None
+abbrev pub lane_front_posted : ℕ → List Entry → Option Entry
+lane_front_posted depth lane = if nat_lt (carried_count lane) depth then first_posted lane else None
 
 -- none of a broken queue
-abbrev pub take_in : ℕ → ℕ → Queue → Option Entry
-take_in depth target q = if is_none q.broken then option_and_then (lane_take depth) (slice_get q.lanes target) else None
+abbrev pub front_posted_in : ℕ → ℕ → Queue → Option Entry
+front_posted_in depth target q = if is_none q.broken then option_and_then (lane_front_posted depth) (slice_get q.lanes target) else None
 
-abbrev pub put_in : ℕ → Queue → Option Entry
-put_in target q = if is_none q.broken then option_and_then first_carried (slice_get q.lanes target) else None
+abbrev pub front_carried_in : ℕ → Queue → Option Entry
+front_carried_in target q = if is_none q.broken then option_and_then first_carried (slice_get q.lanes target) else None
 
 -- the head of a lane
 abbrev pub lane_head : List Entry → Option Entry
@@ -38,16 +38,16 @@ abbrev pub in_lane : ℕ → (List Entry → List Entry) → Queue → Queue
 in_lane target change q = record q { lanes = changed_at q.lanes target change }
 
 -- the first posted entry of a lane has these bytes
-abbrev pub taken_in : ℕ → List ℕ → Queue → Queue
-taken_in target bytes q = in_lane target (λ (lane : List Entry). with_phase lane (posted_place lane) (Carried bytes)) q
+abbrev pub carried_in : ℕ → List ℕ → Queue → Queue
+carried_in target bytes q = in_lane target (λ (lane : List Entry). with_phase lane (posted_position lane) (Carried bytes)) q
 
 -- the head of a lane is gone
-abbrev pub removed_in : ℕ → Queue → Queue
-removed_in target q = in_lane target (λ (lane : List Entry). drop 1 lane) q
+abbrev pub put_done_in : ℕ → Queue → Queue
+put_done_in target q = in_lane target (λ (lane : List Entry). drop 1 lane) q
 
 -- the first posted entry of a lane, or its head, failed and broke the queue
 abbrev pub posted_failed_in : ℕ → Queue → Queue
-posted_failed_in target q = record (in_lane target (λ (lane : List Entry). with_phase lane (posted_place lane) Failed) q) { broken = Some target }
+posted_failed_in target q = record (in_lane target (λ (lane : List Entry). with_phase lane (posted_position lane) Failed) q) { broken = Some target }
 
 abbrev pub head_failed_in : ℕ → Queue → Queue
 head_failed_in target q = record (in_lane target (λ (lane : List Entry). with_phase lane 0 Failed) q) { broken = Some target }
@@ -66,13 +66,13 @@ purged_queue q = record { open_count = 0; broken = None; lanes = map no_entries 
 -- What a call on a queue is refused for.
 
 -- a post: the queue is not broken, and has room for all its entries
-abbrev pub room_checks : ℕ → ℕ → Queue → Result (Unit {0}) Refusal
-room_checks depth need q = do
-  whole ← absent q.broken QueueBroken
+abbrev pub depth_checks : ℕ → ℕ → Queue → Result (Unit {0}) Refusal
+depth_checks depth need q = do
+  whole ← err_if_some q.broken QueueBroken
   check (nat_le (q.open_count + need) depth) (QueueFull q.open_count need)
 
 -- a wait: the queue is not broken; it is ready where no entry is posted, and no read or notification of one stands
 abbrev pub wait_in : Queue → Result Bool Refusal
 wait_in q = do
-  whole ← absent q.broken QueueBroken
+  whole ← err_if_some q.broken QueueBroken
   Ok (not (list_any has_awaited q.lanes))

@@ -3,12 +3,12 @@
 ghost use Rattle.std.specs.Prelude.{◌≡◌, length, IfOk, IsOk};
 ghost use Rattle.post_queue.specs.Payloads.{payload_size};
 
-use gaspi_types::{Bytes, Kind, NoMemory, Rows};
+use gaspi_types::{Bytes, Kind, NoMemory, Sequence};
 use std::alloc::Global;
 use std::marker::Model;
 
 /// How many bytes an entry of that kind carries.
-pub fn payload_size(kind: &Kind) -> u32
+pub fn carried_size(kind: &Kind) -> u32
     ensures { result ≡ payload_size kind.now }
 {
     match kind {
@@ -43,16 +43,16 @@ impl Draft {
         ensures kind { IfOk result (λ draft. draft ≡ kind) }
         ensures bare { payload_size kind ≡ 0 → IsOk result }
     {
-        let size = payload_size(&kind) as usize;
+        let size = carried_size(&kind) as usize;
         if size == 0 {
             return Ok(Draft {
                 kind,
-                room: Rows::new(alloc),
+                room: Sequence::new(alloc),
             });
         }
         Ok(Draft {
             kind,
-            room: Rows::from_vec(vec![in alloc; 0; size]?),
+            room: Sequence::from_vec(vec![in alloc; 0; size]?),
         })
     }
 

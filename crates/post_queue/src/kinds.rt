@@ -8,54 +8,54 @@ use gaspi_types::Kind;
 
 /// How far an entry has come, without its bytes.
 #[derive(Clone, Copy, Debug, PartialEq, Eq)]
-pub enum Progress {
+pub enum PhaseKind {
     Posted,
     Carried,
     Failed,
 }
 
 /// 1 for an entry that a wait waits for, else 0.
-pub fn awaited_count(kind: &Kind, progress: Progress) -> u32
+pub fn awaited_count(kind: &Kind, progress: PhaseKind) -> u32
     ensures { result ≡ one_if (is_awaited kind.now progress) }
 {
     match kind {
         Kind::Read { .. } | Kind::ReadNote { .. } => 1,
         Kind::Write { .. } | Kind::Notify { .. } => match progress {
-            Progress::Posted => 1,
-            Progress::Carried => 0,
-            Progress::Failed => 0,
+            PhaseKind::Posted => 1,
+            PhaseKind::Carried => 0,
+            PhaseKind::Failed => 0,
         },
     }
 }
 
 /// The own segment that an entry has to read or write yet.
-pub fn used_segment(kind: &Kind, progress: Progress) -> Option<u32>
+pub fn used_segment(kind: &Kind, progress: PhaseKind) -> Option<u32>
     ensures { result ≡ used_segment kind.now progress }
 {
     match kind {
         Kind::Write { own, target: _ } => match progress {
-            Progress::Posted => Some(own.segment),
-            Progress::Carried | Progress::Failed => None,
+            PhaseKind::Posted => Some(own.segment),
+            PhaseKind::Carried | PhaseKind::Failed => None,
         },
         Kind::Read { own, target: _ } => match progress {
-            Progress::Posted | Progress::Carried => Some(own.segment),
-            Progress::Failed => None,
+            PhaseKind::Posted | PhaseKind::Carried => Some(own.segment),
+            PhaseKind::Failed => None,
         },
         Kind::Notify { .. } => None,
         Kind::ReadNote { own } => match progress {
-            Progress::Posted | Progress::Carried => Some(own.segment),
-            Progress::Failed => None,
+            PhaseKind::Posted | PhaseKind::Carried => Some(own.segment),
+            PhaseKind::Failed => None,
         },
     }
 }
 
 /// The events for which room is kept.
-pub fn events_owed(progress: Progress) -> u32
+pub fn events_owed(progress: PhaseKind) -> u32
     ensures { result ≡ events_owed progress }
 {
     match progress {
-        Progress::Posted => 2,
-        Progress::Carried => 1,
-        Progress::Failed => 0,
+        PhaseKind::Posted => 2,
+        PhaseKind::Carried => 1,
+        PhaseKind::Failed => 0,
     }
 }

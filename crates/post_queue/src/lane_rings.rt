@@ -7,7 +7,7 @@ ghost use Rattle.gaspi_types.specs.declared.entries.Phase.TheVariants.{Posted, C
 ghost use Rattle.circular_buffer.specs.Buffer.{buffer};
 ghost use Rattle.post_queue.specs.Payloads.{payload_size};
 ghost use Rattle.post_queue.specs.Nonempty.{is_nonempty};
-ghost use Rattle.post_queue.specs.Places.{first_posted, first_carried, posted_place, with_phase};
+ghost use Rattle.post_queue.specs.Places.{first_posted, first_carried, posted_position, with_phase};
 
 use crate::Draft;
 use crate::entries::{PostedEntry, fail};
@@ -36,13 +36,13 @@ pub struct LaneRings {
 }
 
 impl Model for LaneRings {
-    ghost use Rattle.post_queue.specs.LaneStates.{LaneState, lane_of, IsRings};
+    ghost use Rattle.post_queue.specs.LaneStates.{LaneValue, lane_of, AreRings};
 
-    ghost Value = { LaneState };
+    ghost Value = { LaneValue };
 
     ghost view = { λ lane. lane_of lane.carried lane.posted };
 
-    ghost invariant = { λ lane. IsRings lane.carried lane.posted };
+    ghost invariant = { λ lane. AreRings lane.carried lane.posted };
 }
 
 impl LaneRings {
@@ -104,7 +104,7 @@ impl LaneRings {
         requires whole { count_by is_failed self.old.entries ≡ 0 }
         requires room { carried_count self.old.entries < self.old.depth }
         requires fits { IsSomeAnd (first_posted self.old.entries) (λ (e : Entry). length bytes.now ≡ payload_size e.kind) }
-        ensures lane { self.new ≡ record { depth = self.old.depth; entries = with_phase self.old.entries (posted_place self.old.entries) (Carried bytes.now) } }
+        ensures lane { self.new ≡ record { depth = self.old.depth; entries = with_phase self.old.entries (posted_position self.old.entries) (Carried bytes.now) } }
         ensures kind { IfSome (first_posted self.old.entries) (λ (e : Entry). result ≡ e.kind) }
         ensures bound { length self.new.entries ≤ 2 * self.new.depth }
     {
@@ -119,7 +119,7 @@ impl LaneRings {
         requires whole { count_by is_failed self.old.entries ≡ 0 }
         requires room { carried_count self.old.entries < self.old.depth }
         requires there { IsSome (first_posted self.old.entries) }
-        ensures lane { self.new ≡ record { depth = self.old.depth; entries = with_phase self.old.entries (posted_place self.old.entries) Failed } }
+        ensures lane { self.new ≡ record { depth = self.old.depth; entries = with_phase self.old.entries (posted_position self.old.entries) Failed } }
         ensures kind { IfSome (first_posted self.old.entries) (λ (e : Entry). result ≡ e.kind) }
         ensures bound { length self.new.entries ≤ 2 * self.new.depth }
     {

@@ -10,14 +10,14 @@ ghost use Rattle.post_queue.specs.Payloads.{payload_size};
 ghost use Rattle.post_queue.specs.LeastFrom.{AnswersLeast};
 ghost use Rattle.post_queue.specs.MovableLanes.{is_movable, is_movable_lane, is_movable_queue, IsNextLane};
 ghost use Rattle.post_queue.specs.QueueStates.{QueueState, state_of};
-ghost use Rattle.post_queue.specs.Steps.{taken_in, removed_in, posted_failed_in, head_failed_in, closed_queue, purged_queue};
-ghost use Rattle.post_queue.specs.LanesStates.{empty_queue, empty_queues, next_take, next_put, head_of, nonempty_of, post_checks, wait_checks, purge_checks, open_count_of, with_queue, with_posted};
+ghost use Rattle.post_queue.specs.Steps.{carried_in, put_done_in, posted_failed_in, head_failed_in, closed_queue, purged_queue};
+ghost use Rattle.post_queue.specs.LanesStates.{empty_queue, empty_queues, front_posted_of, front_carried_of, head_of, nonempty_of, post_checks, wait_checks, purge_checks, open_count_of, with_queue, with_posted};
 
 use crate::Entries;
 use crate::entries::PostedEntry;
 use crate::queue_rings::QueueRings;
 use crate::target_sets::{member_from, set_number};
-use gaspi_types::{Entry, NoMemory, QueueId, RankId, Refusal, Rows};
+use gaspi_types::{Entry, NoMemory, QueueId, RankId, Refusal, Sequence};
 use std::alloc::Global;
 use std::marker::Model;
 
@@ -27,12 +27,12 @@ fn empty_rings(
     queues: u32,
     ranks: u32,
     depth: u32,
-) -> Result<Rows<QueueRings>, NoMemory>
+) -> Result<Sequence<QueueRings>, NoMemory>
     requires ranks { ranks ≤ 16 }
     requires depth { depth ≤ 256 }
     ensures { IfOk result (λ rings. rings ≡ replicate queues (state_of depth (empty_queue ranks))) }
 {
-    let mut rings = Rows::with_room(alloc, queues as usize)?;
+    let mut rings = Sequence::with_capacity(alloc, queues as usize)?;
     for _queue in 0..queues {
         rings.push(QueueRings::new(alloc, ranks as usize, depth)?)?;
     }
@@ -49,7 +49,7 @@ fn user_place(queues: &[QueueRings], segment: u64) -> Option<usize>
 }
 
 /// The set of movable queues, where the queue at a place was changed.
-fn movable_after(movable: u32, queues: &Rows<QueueRings>, place: usize) -> u32
+fn movable_after(movable: u32, queues: &Sequence<QueueRings>, place: usize) -> u32
     requires place { place < length queues.now }
     requires few { length queues.now ≤ 8 }
     ensures here { IfSome (slice_get queues.now place) (λ (q : QueueState). is_member result place ≡ is_movable q.queue) }
@@ -69,7 +69,7 @@ pub struct Lanes {
     depth: u32,
     ranks: u32,
     next: u32,
-    queues: Rows<QueueRings>,
+    queues: Sequence<QueueRings>,
     /// Which queues are not broken and have an entry.
     movable: u32,
 }
@@ -124,7 +124,7 @@ impl Lanes {
         ensures { result ≡ post_checks self.now queue need }
     {
         let rings = self.queues.get(queue as usize).ok_or(Refusal::BadQueue)?;
-        rings.check_room(need)
+        rings.check_depth(need)
     }
 
     /// Posts entries to the end of a lane, numbered on from the next number. `BadQueue` where there is no such queue,
@@ -150,7 +150,7 @@ impl Lanes {
     /// there is no such queue or lane, the queue is broken, no entry of the lane is posted, or as many are carried as the
     /// queue is deep.
     pub fn front_posted(&self, queue: u64, target: RankId) -> Option<&PostedEntry>
-        ensures { option_copied result ≡ next_take self.now queue target }
+        ensures { option_copied result ≡ front_posted_of self.now queue target }
     {
         let rings = self.queues.get(queue as usize)?;
         rings.front_posted(target)
@@ -159,7 +159,7 @@ impl Lanes {
     /// The entry of a lane that may be put next: the first carried one, which is the head of the lane. None exactly where
     /// there is no such queue or lane, the queue is broken, or no entry of the lane is carried.
     pub fn front_carried(&self, queue: u64, target: RankId) -> Option<&Entry>
-        ensures answer { option_copied result ≡ next_put self.now queue target }
+        ensures answer { option_copied result ≡ front_carried_of self.now queue target }
         ensures head { IfSome result (λ e. head_of self.now queue target ≡ Some e.now) }
     {
         let rings = self.queues.get(queue as usize)?;
@@ -213,8 +213,8 @@ impl Lanes {
 
     /// The entry of `front_posted` takes its bytes, and stays in its place. It takes no memory.
     pub fn mark_carried(&mut self, queue: u64, target: RankId, bytes: &[u8])
-        requires { IsSomeAnd (next_take self.old queue target) (λ (e : Entry). length bytes.now ≡ payload_size e.kind) }
-        ensures { self.new ≡ with_queue self.old queue (taken_in target bytes.now) }
+        requires { IsSomeAnd (front_posted_of self.old queue target) (λ (e : Entry). length bytes.now ≡ payload_size e.kind) }
+        ensures { self.new ≡ with_queue self.old queue (carried_in target bytes.now) }
     {
         let place = queue as usize;
         self.queues.at_mut(place).mark_carried(target, bytes);
@@ -223,8 +223,8 @@ impl Lanes {
 
     /// The entry of `front_carried` goes.
     pub fn remove(&mut self, queue: u64, target: RankId)
-        requires { IsSome (next_put self.old queue target) }
-        ensures { self.new ≡ with_queue self.old queue (removed_in target) }
+        requires { IsSome (front_carried_of self.old queue target) }
+        ensures { self.new ≡ with_queue self.old queue (put_done_in target) }
     {
         let place = queue as usize;
         self.queues.at_mut(place).remove(target);
@@ -233,7 +233,7 @@ impl Lanes {
 
     /// The entry of `front_posted` fails in its place, and the queue is broken with its target. (GASPI: state vector)
     pub fn fail_posted(&mut self, queue: u64, target: RankId)
-        requires { IsSome (next_take self.old queue target) }
+        requires { IsSome (front_posted_of self.old queue target) }
         ensures { self.new ≡ with_queue self.old queue (posted_failed_in target) }
     {
         let place = queue as usize;
@@ -243,7 +243,7 @@ impl Lanes {
 
     /// The entry of `front_carried` fails in its place, and the queue is broken with its target. (GASPI: state vector)
     pub fn fail_carried(&mut self, queue: u64, target: RankId)
-        requires { IsSome (next_put self.old queue target) }
+        requires { IsSome (front_carried_of self.old queue target) }
         ensures { self.new ≡ with_queue self.old queue (head_failed_in target) }
     {
         let place = queue as usize;

@@ -2,24 +2,24 @@
 //! which lanes have an entry. (GASPI: one-sided communication, notification order)
 
 ghost use Rattle.std.specs.Prelude.{◌≡◌, ℕ, ◌<◌, true, None, Some, IsSome, List, slice_get, drop, remove};
-ghost use Rattle.gaspi_types.specs.Lanes.{carried_count, is_carried, may_take, may_put, place_of};
+ghost use Rattle.gaspi_types.specs.Lanes.{carried_count, is_carried, may_take, may_put, position_of};
 ghost use Rattle.gaspi_types.specs.declared.entries.Entry.{Entry};
 ghost use Rattle.post_queue.specs.LanesStates.{LanesState, head_of, nonempty_of};
-ghost use Rattle.post_queue.specs.Places.{posted_place, first_posted};
+ghost use Rattle.post_queue.specs.Places.{posted_position, first_posted};
 ghost use Rattle.post_queue.specs.Rising.{IsRising};
 
 /// Where the numbers of a lane rise: while fewer entries are carried than the queue is deep, the first posted entry may take
 /// its bytes, and is found by its number where the bytes are set.
 pub fn takes()
     ensures permitted { (depth : ℕ) (lane : List Entry) (e : Entry) → first_posted lane ≡ Some e → carried_count lane < depth → may_take depth lane e ≡ true }
-    ensures found { (lane : List Entry) (e : Entry) → IsRising lane → first_posted lane ≡ Some e → place_of lane e.number ≡ Some (posted_place lane) }
+    ensures found { (lane : List Entry) (e : Entry) → IsRising lane → first_posted lane ≡ Some e → position_of lane e.number ≡ Some (posted_position lane) }
 {}
 
 /// Where the numbers of a lane rise: a carried entry that is the head of its lane may be put, and is found by its number at the
 /// head, which is what goes.
 pub fn puts()
     ensures permitted { (lane : List Entry) (e : Entry) → IsRising lane → slice_get lane 0 ≡ Some e → is_carried e ≡ true → may_put lane e ≡ true }
-    ensures found { (lane : List Entry) (e : Entry) → IsRising lane → slice_get lane 0 ≡ Some e → place_of lane e.number ≡ Some 0 }
+    ensures found { (lane : List Entry) (e : Entry) → IsRising lane → slice_get lane 0 ≡ Some e → position_of lane e.number ≡ Some 0 }
     ensures removed { (lane : List Entry) → drop 1 lane ≡ remove lane 0 }
 {}
 

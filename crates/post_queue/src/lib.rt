@@ -16,12 +16,12 @@ mod lanes;
 mod laws;
 mod list_builds;
 mod post_entries;
+mod queue_counts;
 mod queue_rings;
-mod tallies;
 mod target_sets;
 
 pub use build_stops::BuildStop;
-pub use drafts::{Draft, payload_size};
+pub use drafts::{Draft, carried_size};
 pub use entries::PostedEntry;
 pub use lanes::Lanes;
 pub use laws::{nonempty_lane_is_the_least, puts, takes};

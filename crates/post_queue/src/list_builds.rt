@@ -3,7 +3,7 @@
 ghost use Rattle.std.specs.Prelude.{◌≡◌, ◌≤◌, true, false, length, IfOk};
 ghost use Rattle.gaspi_types.specs.CallRows.{row_of, is_post};
 ghost use Rattle.gaspi_types.specs.Posts.{call_kinds};
-ghost use Rattle.post_queue.specs.Builds.{lane_checks, build_finds, Builds, wants_memory};
+ghost use Rattle.post_queue.specs.Builds.{lane_checks, build_result, Builds, is_out_of_memory};
 
 use crate::Entries;
 use crate::build_stops::BuildStop;
@@ -41,7 +41,7 @@ pub fn asked_entries(
     requires { is_post call.now ≡ true }
     ensures found { Builds result (call_kinds notes me table.now call.now) }
     ensures few { IfOk result (λ entries. length entries ≤ 257) }
-    ensures bare { (row_of call.now).takes_memory ≡ false → wants_memory result ≡ false }
+    ensures bare { (row_of call.now).takes_memory ≡ false → is_out_of_memory result ≡ false }
 {
     let kinds = call_kinds(alloc, notes, me, table, call)??;
     Ok(Entries::new(alloc, kinds.as_slice())?)
@@ -60,9 +60,9 @@ pub fn build(
     call: &Call,
 ) -> Result<Entries, BuildStop>
     requires { is_post call.now ≡ true }
-    ensures found { Builds result (build_finds shape.now.limits caller.rank table.now call.now) }
+    ensures found { Builds result (build_result shape.now.limits caller.rank table.now call.now) }
     ensures few { IfOk result (λ entries. length entries ≤ 257) }
-    ensures bare { (row_of call.now).takes_memory ≡ false → wants_memory result ≡ false }
+    ensures bare { (row_of call.now).takes_memory ≡ false → is_out_of_memory result ≡ false }
 {
     check_lane(shape, call.row().posting)?;
     asked_entries(alloc, shape.notes(), caller.rank, table, call)

@@ -9,24 +9,24 @@ ghost use Rattle.post_queue.specs.Payloads.{payload_size};
 ghost use Rattle.post_queue.specs.LeastFrom.{AnswersLeast};
 ghost use Rattle.post_queue.specs.MovableLanes.{is_movable, is_movable_to};
 ghost use Rattle.post_queue.specs.Nonempty.{nonempty_in};
-ghost use Rattle.post_queue.specs.QueueStates.{state_of, cleared_front};
-ghost use Rattle.post_queue.specs.Steps.{take_in, put_in, head_in, taken_in, removed_in, posted_failed_in, head_failed_in, closed_queue, purged_queue, room_checks, wait_in};
+ghost use Rattle.post_queue.specs.QueueStates.{state_of, cleared_prefix};
+ghost use Rattle.post_queue.specs.Steps.{front_posted_in, front_carried_in, head_in, carried_in, put_done_in, posted_failed_in, head_failed_in, closed_queue, purged_queue, depth_checks, wait_in};
 
 use crate::entries::PostedEntry;
-use crate::kinds::Progress;
+use crate::kinds::PhaseKind;
 use crate::lane_rings::LaneRings;
-use crate::tallies::Tally;
+use crate::queue_counts::QueueCounts;
 use crate::target_sets::{first_member, member_from, set_member};
 use crate::{Draft, Entries};
-use gaspi_types::{Entry, NoMemory, RankId, Refusal, Rows};
+use gaspi_types::{Entry, NoMemory, RankId, Refusal, Sequence};
 use std::alloc::Global;
 use std::marker::Model;
 
 /// So many empty lanes.
-fn empty_lanes(alloc: Global, ranks: usize, depth: u32) -> Result<Rows<LaneRings>, NoMemory>
+fn empty_lanes(alloc: Global, ranks: usize, depth: u32) -> Result<Sequence<LaneRings>, NoMemory>
     ensures { IfOk result (λ lanes. lanes ≡ replicate ranks (record { depth = depth; entries = [] })) }
 {
-    let mut lanes = Rows::with_room(alloc, ranks)?;
+    let mut lanes = Sequence::with_capacity(alloc, ranks)?;
     for _rank in 0..ranks {
         lanes.push(LaneRings::new(alloc, depth as usize)?)?;
     }
@@ -34,8 +34,8 @@ fn empty_lanes(alloc: Global, ranks: usize, depth: u32) -> Result<Rows<LaneRings
 }
 
 /// All entries of all lanes go.
-fn clear_lanes(lanes: &mut Rows<LaneRings>)
-    ensures { lanes.new ≡ cleared_front (length lanes.old) lanes.old }
+fn clear_lanes(lanes: &mut Sequence<LaneRings>)
+    ensures { lanes.new ≡ cleared_prefix (length lanes.old) lanes.old }
 {
     for target in 0..lanes.len() {
         lanes.at_mut(target).clear();
@@ -48,8 +48,8 @@ pub struct QueueRings {
     depth: u32,
     open_count: u32,
     broken: Option<RankId>,
-    lanes: Rows<LaneRings>,
-    tally: Tally,
+    lanes: Sequence<LaneRings>,
+    tally: QueueCounts,
     nonempty: u32,
 }
 
@@ -75,14 +75,14 @@ impl QueueRings {
             open_count: 0,
             broken: None,
             lanes: empty_lanes(alloc, ranks, depth)?,
-            tally: Tally::new(),
+            tally: QueueCounts::new(),
             nonempty: 0,
         })
     }
 
     /// Whether so many entries may be posted.
-    pub fn check_room(&self, need: u32) -> Result<(), Refusal>
-        ensures { result ≡ room_checks self.now.depth need self.now.queue }
+    pub fn check_depth(&self, need: u32) -> Result<(), Refusal>
+        ensures { result ≡ depth_checks self.now.depth need self.now.queue }
     {
         if let Some(rank) = self.broken {
             return Err(Refusal::QueueBroken {
@@ -106,7 +106,7 @@ impl QueueRings {
         ensures { self.new ≡ state_of self.old.depth (with_entries target (posted_entries number (draft ∷ [])) self.old.queue) }
     {
         let kind = *draft.kind();
-        self.tally.raise(&kind, Progress::Posted);
+        self.tally.add(&kind, PhaseKind::Posted);
         self.lanes.at_mut(target.index()).post(number, draft);
         self.nonempty = set_member(self.nonempty, target, true);
         self.open_count += 1;
@@ -129,7 +129,7 @@ impl QueueRings {
 
     /// The entry of a lane that may take its bytes next.
     pub fn front_posted(&self, target: RankId) -> Option<&PostedEntry>
-        ensures { option_copied result ≡ take_in self.now.depth target self.now.queue }
+        ensures { option_copied result ≡ front_posted_in self.now.depth target self.now.queue }
     {
         if self.broken.is_some() {
             return None;
@@ -143,7 +143,7 @@ impl QueueRings {
 
     /// The entry of a lane that may be put next.
     pub fn front_carried(&self, target: RankId) -> Option<&Entry>
-        ensures answer { option_copied result ≡ put_in target self.now.queue }
+        ensures answer { option_copied result ≡ front_carried_in target self.now.queue }
         ensures head { IfSome result (λ e. head_in target self.now.queue ≡ Some e.now) }
     {
         if self.broken.is_some() {
@@ -155,46 +155,46 @@ impl QueueRings {
 
     /// The entry that may take its bytes next takes them.
     pub fn mark_carried(&mut self, target: RankId, bytes: &[u8])
-        requires { IsSomeAnd (take_in self.old.depth target self.old.queue) (λ (e : Entry). length bytes.now ≡ payload_size e.kind) }
-        ensures { self.new ≡ state_of self.old.depth (taken_in target bytes.now self.old.queue) }
+        requires { IsSomeAnd (front_posted_in self.old.depth target self.old.queue) (λ (e : Entry). length bytes.now ≡ payload_size e.kind) }
+        ensures { self.new ≡ state_of self.old.depth (carried_in target bytes.now self.old.queue) }
     {
         let kind = self.lanes.at_mut(target.index()).carry(bytes);
-        self.tally.raise(&kind, Progress::Carried);
-        self.tally.lower(&kind, Progress::Posted);
+        self.tally.add(&kind, PhaseKind::Carried);
+        self.tally.subtract(&kind, PhaseKind::Posted);
     }
 
     /// The entry that may take its bytes next fails, and breaks the queue.
     pub fn fail_posted(&mut self, target: RankId)
-        requires { IsSome (take_in self.old.depth target self.old.queue) }
+        requires { IsSome (front_posted_in self.old.depth target self.old.queue) }
         ensures { self.new ≡ state_of self.old.depth (posted_failed_in target self.old.queue) }
     {
         let kind = self.lanes.at_mut(target.index()).fail_posted();
-        self.tally.raise(&kind, Progress::Failed);
-        self.tally.lower(&kind, Progress::Posted);
+        self.tally.add(&kind, PhaseKind::Failed);
+        self.tally.subtract(&kind, PhaseKind::Posted);
         self.broken = Some(target);
     }
 
     /// The entry that may be put next fails, and breaks the queue.
     pub fn fail_carried(&mut self, target: RankId)
-        requires { IsSome (put_in target self.old.queue) }
+        requires { IsSome (front_carried_in target self.old.queue) }
         ensures { self.new ≡ state_of self.old.depth (head_failed_in target self.old.queue) }
     {
         let kind = self.lanes.at_mut(target.index()).fail_carried();
-        self.tally.raise(&kind, Progress::Failed);
-        self.tally.lower(&kind, Progress::Carried);
+        self.tally.add(&kind, PhaseKind::Failed);
+        self.tally.subtract(&kind, PhaseKind::Carried);
         self.broken = Some(target);
     }
 
     /// The entry that may be put next goes.
     pub fn remove(&mut self, target: RankId)
-        requires { IsSome (put_in target self.old.queue) }
-        ensures { self.new ≡ state_of self.old.depth (removed_in target self.old.queue) }
+        requires { IsSome (front_carried_in target self.old.queue) }
+        ensures { self.new ≡ state_of self.old.depth (put_done_in target self.old.queue) }
     {
         let place = target.index();
         let kind = self.lanes.at_mut(place).remove();
         let member = self.lanes.at(place).is_nonempty();
         self.nonempty = set_member(self.nonempty, target, member);
-        self.tally.lower(&kind, Progress::Carried);
+        self.tally.subtract(&kind, PhaseKind::Carried);
     }
 
     /// The least target whose lane has an entry. No lane is walked over.
@@ -279,7 +279,7 @@ impl QueueRings {
         clear_lanes(&mut self.lanes);
         self.open_count = 0;
         self.broken = None;
-        self.tally = Tally::new();
+        self.tally = QueueCounts::new();
         self.nonempty = 0;
     }
 }

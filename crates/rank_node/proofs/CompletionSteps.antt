@@ -3,11 +3,11 @@ use Rattle.std.proofs.Common.{◌≡◌, ℕ, ◌+◌, ◌^◌, ◌<◌, ◌≤�
 use Rattle.std.specs.List.{slice_get}
 use Rattle.std.proofs.lemmas.Bool.{leb-true, ltb-true}
 use Rattle.gaspi_types.specs.CallRows.{row_of}
-use Rattle.gaspi_types.specs.Collectives.{turn_of, is_turn_full, turn_made, with_completed}
+use Rattle.gaspi_types.specs.Collectives.{round_of, is_round_full, round_segments, with_completed}
 use Rattle.gaspi_types.specs.Groups.{building_at}
 use Rattle.gaspi_types.specs.Replies.{is_idle}
-use Rattle.gaspi_types.specs.Tables.{entry_at}
-use Rattle.gaspi_types.specs.Touches.{reach_of}
+use Rattle.gaspi_types.specs.Tables.{item_at}
+use Rattle.gaspi_types.specs.Footprints.{footprint_of}
 use Rattle.gaspi_types.specs.declared.calls.Call.{Call}
 use Rattle.gaspi_types.specs.declared.calls.Call.TheVariants as calls
 use Rattle.gaspi_types.specs.declared.calls.collectives.Create as create
@@ -17,17 +17,17 @@ use Rattle.gaspi_types.specs.declared.groups.Args.{Args}
 use Rattle.gaspi_types.specs.declared.groups.Group.{Group}
 use Rattle.gaspi_types.specs.declared.groups.Handle.{Handle}
 use Rattle.gaspi_types.specs.declared.groups.Handles.{Handles}
-use Rattle.gaspi_types.specs.declared.groups.Made.{Made}
-use Rattle.gaspi_types.specs.declared.groups.Part.{Part}
-use Rattle.gaspi_types.specs.declared.groups.Pending.{Pending}
+use Rattle.gaspi_types.specs.declared.groups.MemberSegment.{MemberSegment}
+use Rattle.gaspi_types.specs.declared.groups.RankContributions.{RankContributions}
+use Rattle.gaspi_types.specs.declared.groups.PendingCollective.{PendingCollective}
 use Rattle.gaspi_types.specs.declared.replies.Reply.{Reply}
 use Rattle.gaspi_types.specs.declared.segments.SegmentTable.{SegmentTable}
 use Rattle.gaspi_types.specs.declared.shapes.CallerId.{CallerId}
 use Rattle.gaspi_types.specs.declared.shapes.Limits.{Limits}
 use Rattle.gaspi_types.proofs.Chains.{bind_then, both}
 use Rattle.gaspi_types.proofs.Items.{slice_get-set_same}
-use Rattle.collective_engine.specs.Turns.{is_in}
-use Rattle.gaspi_model.specs.CollectiveCalls.{plain_args, args_of, staged_at, with_made_known, told_posts, completed_posts}
+use Rattle.collective_engine.specs.RoundBuffers.{is_in}
+use Rattle.gaspi_model.specs.CollectiveCalls.{plain_args, args_of, staged_at, with_made_known, posts_at_completion, completed_posts}
 use Rattle.gaspi_model.specs.Posting.{counted}
 use Rattle.gaspi_model.specs.SegmentCalls.{with_known}
 use Rattle.gaspi_model.specs.Sound.{IsSound}
@@ -37,11 +37,11 @@ use Rattle.gaspi_model.specs.declared.states.Memory.{Memory}
 use Rattle.gaspi_model.specs.declared.states.Posts.{Posts}
 use Rattle.gaspi_model.specs.declared.states.State.{State}
 use Rattle.gaspi_model.proofs.GroupEffects.{IsDoneStep, done-step}
-use Rattle.gaspi_model.proofs.GroupSteps.{collective-touch, step-completed}
+use Rattle.gaspi_model.proofs.GroupSteps.{collective-footprint, step-completed}
 use Rattle.gaspi_model.proofs.IdleSteps.{only-counted}
-use Rattle.gaspi_model.proofs.MetPosts.{completed-leaves}
-use Rattle.plain_calls.specs.Room.{HasTellingRoom}
-use Rattle.plain_calls.specs.Turns.{posts_met, group_met}
+use Rattle.gaspi_model.proofs.CollectivePosts.{completed-leaves}
+use Rattle.plain_calls.specs.NumberBounds.{CompletionIsBounded}
+use Rattle.plain_calls.specs.Rounds.{posts_after_collective, group_after_collective}
 use Rattle.timeout_state.specs.Pendings.{IsOfThread}
 use Rattle.rank_node.specs.Collectives.{AreSoundTogether, MayLeave, IsBuiltYet, MayComplete, with_all_known, completion_effect}
 use Rattle.rank_node.specs.CollectiveSteps.{MayStepOn}
@@ -55,12 +55,12 @@ use Rattle.rank_node.proofs.LentGroups.{LendsGroup, lends-group, lends-no-group,
 -- A collective of a rank that is done in a sound state, on its posts and its group.
 record IsDoneAt (s t : State) (c : CallerId) (id : ℕ) (call : Call) (posts : Posts) (g : Group) : Type 0 where
   within : id < 8
-  pending : Pending
-  pends : entry_at posts.pending id ≡ Some pending
+  pending : PendingCollective
+  pends : item_at posts.pending id ≡ Some pending
   mine : pending.thread ≡ c.thread
   built : IsBuiltYet posts.groups id call
-  bounded : HasTellingRoom call
-  full : is_turn_full g c.rank ≡ true
+  bounded : CompletionIsBounded call
+  full : is_round_full g c.rank ≡ true
   limits : t.limits ≡ s.limits
   posts_after : slice_get t.posts c.rank ≡ Some (counted (completed_posts posts g c.rank id call))
   memories : t.memories ≡ s.memories
@@ -71,7 +71,7 @@ built-yet groups me id (calls.Commit x) h staged = bind_then (building_at groups
 built-yet groups me id call h staged = tt
 
 -- the size of a segment that was made has 32 bits
-size-bounded : (members : ℕ) (call : Call) (args : Args) → args_of members call ≡ Some args → HasTellingRoom call
+size-bounded : (members : ℕ) (call : Call) (args : Args) → args_of members call ≡ Some args → CompletionIsBounded call
 size-bounded members (calls.Create x) args is = go (nat_lt x.seg 4294967296 && nat_lt x.size 4294967296) refl is
   where
     go : (b : Bool) → (nat_lt x.seg 4294967296 && nat_lt x.size 4294967296) ≡ b → (if b then Some (plain_args (colls.Create x.seg x.size)) else None) ≡ Some args → x.size < 2 ^ 32
@@ -79,7 +79,7 @@ size-bounded members (calls.Create x) args is = go (nat_lt x.seg 4294967296 && n
     go true fits is = ltb-true x.size 4294967296 (both (nat_lt x.seg 4294967296) (nat_lt x.size 4294967296) fits).1
 size-bounded members call args is = tt
 
-from-done : (s t : State) (c : CallerId) (id : ℕ) (call : Call) (reply : Reply) (posts : Posts) (g : Group) (part : Part) (h : Handle) (p : Pending) → IsDoneStep s t c id call reply posts g part h p
+from-done : (s t : State) (c : CallerId) (id : ℕ) (call : Call) (reply : Reply) (posts : Posts) (g : Group) (part : RankContributions) (h : Handle) (p : PendingCollective) → IsDoneStep s t c id call reply posts g part h p
     → IsDoneAt s t c id call posts g
 from-done s t c id call reply posts g part h p m =
     let left = m.leaves in
@@ -139,9 +139,9 @@ idle-at s t c call reply posts hp idle h =
 -- A collective that is recorded.
 record IsRecordedAt (s t : State) (c : CallerId) (id : ℕ) (call : Call) (reply : Reply) (posts : Posts) (g : Group) : Type 0 where
   limits : t.limits ≡ s.limits
-  posts_after : slice_get t.posts c.rank ≡ Some (posts_met posts g c.rank id call reply)
+  posts_after : slice_get t.posts c.rank ≡ Some (posts_after_collective posts g c.rank id call reply)
   memories : t.memories ≡ s.memories
-  group_after : slice_get t.groups id ≡ Some (group_met g c.rank reply)
+  group_after : slice_get t.groups id ≡ Some (group_after_collective g c.rank reply)
 
 recorded-at : (s t : State) (c : CallerId) (id : ℕ) (call : Call) (reply : Reply) (posts : Posts) (g : Group) → IsSound s → slice_get s.posts c.rank ≡ Some posts → slice_get s.groups id ≡ Some g
     → (row_of call).group ≡ Some id → step s (Called c call reply) ≡ Ok t → IsRecordedAt s t c id call reply posts g
@@ -168,25 +168,25 @@ recorded-room s t c id call reply posts hp named h =
 
 -- what is lent for a collective that is recorded
 record CallLent (s : State) (c : CallerId) (id : ℕ) (call : Call) (own : Node) (peer : Option Node) (n : GroupNode) : Type 0 where
-  lent : LendsGroup s c.rank id (row_of call).touch own peer n
+  lent : LendsGroup s c.rank id (row_of call).footprint own peer n
   together : AreSoundTogether own.posts.posts c.rank id lent.group_node.group
 
 call-lent : (s t : State) (c : CallerId) (id : ℕ) (call : Call) (reply : Reply) (own : Node) (peer : Option Node) (n : GroupNode) → (row_of call).group ≡ Some id
     → IsStepOn s t (Called c call reply) own peer (Some n) → CallLent s c id call own peer n
 call-lent s t c id call reply own peer n named on =
-    let lent = lends-group s c.rank id (row_of call).touch own peer n (collective-touch call id named) on.lends in
+    let lent = lends-group s c.rank id (row_of call).footprint own peer n (collective-footprint call id named) on.lends in
     let group = lent.group_node in
     record { lent = lent; together = together-in s c.rank id own.posts.posts group.group on.sound lent.own_node.posts.posts group.there }
 
 -- who has a collective pending is a member
-pending-member : (posts : Posts) (me id : ℕ) (g : Group) (p : Pending) → AreSoundTogether posts me id g → entry_at posts.pending id ≡ Some p → is_in g.members me ≡ true
+pending-member : (posts : Posts) (me id : ℕ) (g : Group) (p : PendingCollective) → AreSoundTogether posts me id g → item_at posts.pending id ≡ Some p → is_in g.members me ≡ true
 pending-member posts me id g p together there =
     let last = together.part.last p there in
-    let one = together.group.members (turn_of g me) me last.0 last.1 in
+    let one = together.group.members (round_of g me) me last.0 last.1 in
     let fixed = one.fixed in
     rw fixed one.member
 
-of-thread : (o : Option Pending) (p : Pending) (thread : ℕ) → o ≡ Some p → p.thread ≡ thread → IsOfThread o thread
+of-thread : (o : Option PendingCollective) (p : PendingCollective) (thread : ℕ) → o ≡ Some p → p.thread ≡ thread → IsOfThread o thread
 of-thread o p thread is mine = rw is mine
 
 -- a collective that is a step, with a reply that says that it did something, may complete
@@ -200,7 +200,7 @@ completes-here c id call reply own n is named may awake =
     record {
       built = done.built;
       bounded = done.bounded;
-      pending = of-thread (entry_at own.posts.posts.pending id) done.pending c.thread done.pends done.mine;
+      pending = of-thread (item_at own.posts.posts.pending id) done.pending c.thread done.pends done.mine;
       group = group.group;
       leaves = subst (MayLeave group.group n) is (record {
         is = group.stands;
@@ -267,16 +267,16 @@ node-after s t c call reply place posts old new was limits memories after posts_
 pub recorded-left : (c : CallerId) (id : ℕ) (call : Call) (reply : Reply) (place : ℕ) (old new : Node) (before after : GroupNode) (s t : State) (peer : Option Node) → (row_of call).group ≡ Some id
     → IsStepOn s t (Called c call reply) old peer (Some before)
     → ((g : Group) → IsGroupNode g before → new.posts ≡ posts_recorded old.posts (completion_effect old.posts.posts g c.rank id call reply) place c call reply) → new.memory ≡ old.memory
-    → ((g : Group) → IsGroupNode g before → IsGroupNode (group_met g c.rank reply) after) → IsLeft s t (Called c call reply) place old new peer peer (Some after)
+    → ((g : Group) → IsGroupNode g before → IsGroupNode (group_after_collective g c.rank reply) after) → IsLeft s t (Called c call reply) place old new peer peer (Some after)
 recorded-left c id call reply place old new before after s t peer named on posts memory group =
     let lent = (call-lent s t c id call reply old peer before named on).lent in
     let g = lent.group_node.group in
     let stands = lent.group_node.stands in
     let at = recorded-at s t c id call reply old.posts.posts g on.sound lent.own_node.posts.posts lent.group_node.there named on.is_step in
     let own = node-after s t c call reply place (completion_effect old.posts.posts g c.rank id call reply) old new lent.own_node at.limits at.memories at.posts_after (posts g stands) memory in
-    let group_is : IsGroupOf t id after = record { group = group_met g c.rank reply; there = at.group_after; stands = group g stands } in
+    let group_is : IsGroupOf t id after = record { group = group_after_collective g c.rank reply; there = at.group_after; stands = group g stands } in
     record {
-      lends = group-lends s t c.rank id (reach_of s.limits.ranks c.rank (row_of call).touch) new peer after lent.footprint lent.no_peer own group_is;
+      lends = group-lends s t c.rank id (footprint_of s.limits.ranks c.rank (row_of call).footprint) new peer after lent.footprint lent.no_peer own group_is;
       journal = ap (λ (p : PostsValue). p.journal) (posts g stands);
       peer_journal = refl;
     }
@@ -286,12 +286,12 @@ pub refused-left : (c : CallerId) (id : ℕ) (call : Call) (reply : Reply) (plac
     → IsStepOn s t (Called c call reply) old peer None → new.posts ≡ posts_recorded old.posts old.posts.posts place c call reply → new.memory ≡ old.memory
     → IsLeft s t (Called c call reply) place old new peer peer None
 refused-left c id call reply place old new s t peer named on posts memory =
-    let lent = lends-no-group s c.rank id (row_of call).touch old peer (collective-touch call id named) on.lends in
+    let lent = lends-no-group s c.rank id (row_of call).footprint old peer (collective-footprint call id named) on.lends in
     let idle = idle-nowhere s t c id call reply on.sound named lent.over on.is_step in
     let at = idle-at s t c call reply old.posts.posts lent.own_node.posts.posts idle on.is_step in
     let own = node-after s t c call reply place old.posts.posts old new lent.own_node at.limits at.memories at.posts_after posts memory in
     record {
-      lends = no-group-lends s t c.rank (reach_of s.limits.ranks c.rank (row_of call).touch) new peer lent.footprint lent.no_peer own;
+      lends = no-group-lends s t c.rank (footprint_of s.limits.ranks c.rank (row_of call).footprint) new peer lent.footprint lent.no_peer own;
       journal = ap (λ (p : PostsValue). p.journal) posts;
       peer_journal = refl;
     }
@@ -299,18 +299,18 @@ refused-left c id call reply place old new s t peer named on posts memory =
 -- The effect of a completion.
 
 -- the posts with segments known, by their table
-pub all-known : (seg size : ℕ) (made : List Made) (posts : Posts) → with_made_known seg size made posts ≡ record posts { segments = with_all_known seg size made posts.segments }
+pub all-known : (seg size : ℕ) (made : List MemberSegment) (posts : Posts) → with_made_known seg size made posts ≡ record posts { segments = with_all_known seg size made posts.segments }
 all-known seg size [] posts = refl
 all-known seg size (m ∷ made) posts = all-known seg size made (with_known m.rank seg (Some (record { generation = m.generation; size = size })) posts)
 
 -- the effect of a segment_create
-pub create-effect : (own : PostsValue) (table : SegmentTable) (made : List Made) (g : Group) (me id : ℕ) (call : Call) (x : create.Create) → call ≡ calls.Create x → made ≡ turn_made g me
-    → table ≡ with_all_known x.seg x.size made own.posts.segments → record own { posts = record own.posts { segments = table } } ≡ record own { posts = told_posts g me id call own.posts }
+pub create-effect : (own : PostsValue) (table : SegmentTable) (made : List MemberSegment) (g : Group) (me id : ℕ) (call : Call) (x : create.Create) → call ≡ calls.Create x → made ≡ round_segments g me
+    → table ≡ with_all_known x.seg x.size made own.posts.segments → record own { posts = record own.posts { segments = table } } ≡ record own { posts = posts_at_completion g me id call own.posts }
 create-effect own table made g me id call x call_is made_is is =
-    rw (call_is, is, made_is) (ap (λ (p : Posts). record own { posts = p }) (sym (all-known x.seg x.size (turn_made g me) own.posts)))
+    rw (call_is, is, made_is) (ap (λ (p : Posts). record own { posts = p }) (sym (all-known x.seg x.size (round_segments g me) own.posts)))
 
-effect-pending : (g : Group) (me id : ℕ) (call : Call) (posts : Posts) → (told_posts g me id call posts).pending ≡ posts.pending
-effect-pending g me id (calls.Create x) posts = ap (λ (p : Posts). p.pending) (all-known x.seg x.size (turn_made g me) posts)
+effect-pending : (g : Group) (me id : ℕ) (call : Call) (posts : Posts) → (posts_at_completion g me id call posts).pending ≡ posts.pending
+effect-pending g me id (calls.Create x) posts = ap (λ (p : Posts). p.pending) (all-known x.seg x.size (round_segments g me) posts)
 effect-pending g me id (calls.Commit x) posts = refl
 effect-pending g me id call posts = refl
 
@@ -319,8 +319,8 @@ pub member-here : (g : Group) (n : GroupNode) (me : ℕ) → MayLeave g n me →
 member-here g n me leaves = subst (λ (m : Option ℕ). is_in m me ≡ true) leaves.is.rounds.members leaves.member
 
 -- what is pending stays until it is taken out
-pub pending-stays : (own mid : PostsValue) (pending : List (Option Pending)) (g : Group) (me thread id : ℕ) (call : Call) → mid ≡ record own { posts = told_posts g me id call own.posts }
-    → pending ≡ mid.posts.pending → IsOfThread (entry_at own.posts.pending id) thread → IsOfThread (entry_at pending id) thread
+pub pending-stays : (own mid : PostsValue) (pending : List (Option PendingCollective)) (g : Group) (me thread id : ℕ) (call : Call) → mid ≡ record own { posts = posts_at_completion g me id call own.posts }
+    → pending ≡ mid.posts.pending → IsOfThread (item_at own.posts.pending id) thread → IsOfThread (item_at pending id) thread
 pending-stays own mid pending g me thread id call mid_is is mine =
     let same : pending ≡ own.posts.pending = is ∙ ap (λ (p : PostsValue). p.posts.pending) mid_is ∙ effect-pending g me id call own.posts in
-    subst (λ (ps : List (Option Pending)). IsOfThread (entry_at ps id) thread) (sym same) mine
+    subst (λ (ps : List (Option PendingCollective)). IsOfThread (item_at ps id) thread) (sym same) mine

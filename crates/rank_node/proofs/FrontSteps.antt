@@ -3,8 +3,8 @@ use Rattle.std.proofs.Common.{◌≡◌, ℕ, zero, suc, ◌+◌, ◌<◌, Bool,
 use Rattle.std.specs.List.{slice_get, flat_map, enumerate_from, position_or_len}
 use Rattle.std.specs.Option.{option_and_then, IsSomeAnd}
 use Rattle.std.proofs.lemmas.Option.{slice_get_within}
-use Rattle.gaspi_types.specs.Lanes.{is_posted, is_carried, is_carried_phase, carried_count, may_take, may_put, place_of}
-use Rattle.gaspi_types.specs.Touches.{reach_of, take_touch, put_touch}
+use Rattle.gaspi_types.specs.Lanes.{is_posted, is_carried, is_carried_phase, carried_count, may_take, may_put, position_of}
+use Rattle.gaspi_types.specs.Footprints.{footprint_of, take_footprint, put_footprint}
 use Rattle.gaspi_types.specs.declared.entries.Entry.{Entry}
 use Rattle.gaspi_types.specs.declared.entries.Phase.{Phase}
 use Rattle.gaspi_types.specs.declared.entries.Phase.TheVariants as phases
@@ -14,14 +14,14 @@ use Rattle.gaspi_types.specs.declared.events.Outcome.{Outcome}
 use Rattle.gaspi_types.specs.declared.events.Transfer.{Transfer}
 use Rattle.gaspi_types.specs.declared.shapes.Limits.{Limits}
 use Rattle.gaspi_model.specs.Sound.{IsSound, AreAbove, AreRising}
-use Rattle.gaspi_model.specs.Step.{step, transfer_event, transfer_outcome, event_reach, entry_touch}
+use Rattle.gaspi_model.specs.Step.{step, transfer_event, transfer_outcome, event_footprint, declared_entry_footprint}
 use Rattle.gaspi_model.specs.Transfers.{transfer_of, lane_transfers, queue_transfers, rank_transfers, transfers, take_outcome, put_outcome, entry_in}
 use Rattle.gaspi_model.specs.declared.states.Posts.{Posts}
 use Rattle.gaspi_model.specs.declared.states.State.{State}
-use Rattle.post_queue.specs.LanesStates.{next_take, next_put, head_of}
-use Rattle.post_queue.specs.Places.{posted_place, first_posted, first_carried}
+use Rattle.post_queue.specs.LanesStates.{front_posted_of, front_carried_of, head_of}
+use Rattle.post_queue.specs.Places.{posted_position, first_posted, first_carried}
 use Rattle.post_queue.specs.Rising.{IsRising}
-use Rattle.post_queue.specs.Steps.{lane_take, take_in, put_in}
+use Rattle.post_queue.specs.Steps.{lane_front_posted, front_posted_in, front_carried_in}
 use Rattle.rank_node.specs.Fronts.{IsFront, front_entry, front_of, front_outcome, front_with, transfer_footprint}
 use Rattle.rank_node.specs.Lending.{IsPostsOf, Lends, IsStepOn}
 use Rattle.rank_node.specs.TransferSteps.{IsFirstPosted, IsFirstCarried, LendsForTransfer, chosen_in, lent_memory}
@@ -30,7 +30,7 @@ use Rattle.rank_node.specs.Values.{PostsValue}
 use Rattle.rank_node.specs.declared.nodes.Node.{Node}
 use Rattle.rank_node.specs.declared.nodes.GroupNode.{GroupNode}
 use Rattle.gaspi_types.proofs.Chains.{both}
-use Rattle.gaspi_types.proofs.Items.{front-of-joined, behind-of-joined}
+use Rattle.gaspi_types.proofs.Items.{prefix-of-joined, behind-of-joined}
 use Rattle.gaspi_model.proofs.Listed.Enabled.{transfer-is_step, listed, IsListed}
 use Rattle.gaspi_model.proofs.Made.{entry-found}
 use Rattle.gaspi_model.proofs.Sound.Rising.{place_of-rising}
@@ -46,7 +46,7 @@ flat_map-there f [] i j x y at here = absurd (let no : ⊥ = cc in no)
 flat_map-there f (z ∷ xs) zero j x y at here =
     let same : z ≡ x = cc in
     let first : slice_get (f z) j ≡ Some y = rw same here in
-    (j, front-of-joined (f z) (flat_map f xs) j (slice_get_within (f z) j y first) ∙ first)
+    (j, prefix-of-joined (f z) (flat_map f xs) j (slice_get_within (f z) j y first) ∙ first)
 flat_map-there f (z ∷ xs) (suc i) j x y at here =
     let rest = flat_map-there f xs i j x y at here in
     (length (f z) + rest.0, behind-of-joined (f z) (flat_map f xs) rest.0 (length (f z) + rest.0) refl ∙ rest.1)
@@ -119,7 +119,7 @@ carried-waits depth lane e carried = go e.phase refl carried
     go phases.Failed is h = rw is refl
 
 -- the first posted entry where there is room
-lane-take : (depth : ℕ) (lane : List Entry) (e : Entry) → lane_take depth lane ≡ Some e → (first_posted lane ≡ Some e) × (may_take depth lane e ≡ true)
+lane-take : (depth : ℕ) (lane : List Entry) (e : Entry) → lane_front_posted depth lane ≡ Some e → (first_posted lane ≡ Some e) × (may_take depth lane e ≡ true)
 lane-take depth lane e h = go (nat_lt (carried_count lane) depth) refl h
   where
     go : (b : Bool) → nat_lt (carried_count lane) depth ≡ b → (if b then first_posted lane else None) ≡ Some e → (first_posted lane ≡ Some e) × (may_take depth lane e ≡ true)
@@ -133,16 +133,16 @@ parted t number put = record { origin = t.origin; queue = t.queue; target = t.ta
 parted-same : (t : Transfer) (number : ℕ) (put : Bool) → t.number ≡ number → t.put ≡ put → t ≡ parted t number put
 parted-same t number put numbered is = ap (λ (n : ℕ). parted t n t.put) numbered ∙ ap (λ (b : Bool). parted t number b) is
 
-take-front : (s : State) (p : PostsValue) (t : Transfer) (e : Entry) → IsSound s → IsPostsOf s t.origin p → t ≡ parted t e.number false → next_take (lanes_of p) t.queue t.target ≡ Some e → IsOk (step s (transfer_event s t))
+take-front : (s : State) (p : PostsValue) (t : Transfer) (e : Entry) → IsSound s → IsPostsOf s t.origin p → t ≡ parted t e.number false → front_posted_of (lanes_of p) t.queue t.target ≡ Some e → IsOk (step s (transfer_event s t))
 take-front s p t e sound is same next =
-    let at = next-at p.posts.queues t.queue t.target (lane_take p.limits.depth) e next in
+    let at = next-at p.posts.queues t.queue t.target (lane_front_posted p.limits.depth) e next in
     let taken = lane-take p.limits.depth at.lane e at.chosen in
     let permitted : may_take s.limits.depth at.lane e ≡ true = subst (λ (l : Limits). may_take l.depth at.lane e ≡ true) is.limits taken.1 in
     let here : slice_get (transfer_of t.origin t.queue t.target s.limits at.lane e) 0 ≡ Some t = rw permitted (ap (λ (x : Transfer). Some x) (sym same)) in
-    let k = listed-there s p.posts at.q at.lane (posted_place at.lane) e t.origin t.queue t.target t is.posts at.queue_there at.whole at.lane_there taken.0 here in
+    let k = listed-there s p.posts at.q at.lane (posted_position at.lane) e t.origin t.queue t.target t is.posts at.queue_there at.whole at.lane_there taken.0 here in
     transfer-is_step s t k.0 sound k.1
 
-put-front : (s : State) (p : PostsValue) (t : Transfer) (e : Entry) → IsSound s → IsPostsOf s t.origin p → t ≡ parted t e.number true → next_put (lanes_of p) t.queue t.target ≡ Some e
+put-front : (s : State) (p : PostsValue) (t : Transfer) (e : Entry) → IsSound s → IsPostsOf s t.origin p → t ≡ parted t e.number true → front_carried_of (lanes_of p) t.queue t.target ≡ Some e
     → head_of (lanes_of p) t.queue t.target ≡ Some e → IsOk (step s (transfer_event s t))
 put-front s p t e sound is same next head =
     let at = next-at p.posts.queues t.queue t.target first_carried e next in
@@ -154,10 +154,10 @@ put-front s p t e sound is same next head =
     let k = listed-there s p.posts at.q at.lane 0 e t.origin t.queue t.target t is.posts at.queue_there at.whole at.lane_there first here in
     transfer-is_step s t k.0 sound k.1
 
-front-puts : (p : PostsValue) (t : Transfer) (e : Entry) → t.put ≡ true → front_entry p t ≡ Some e → next_put (lanes_of p) t.queue t.target ≡ Some e
+front-puts : (p : PostsValue) (t : Transfer) (e : Entry) → t.put ≡ true → front_entry p t ≡ Some e → front_carried_of (lanes_of p) t.queue t.target ≡ Some e
 front-puts p t e puts next = rw puts at next
 
-front-takes : (p : PostsValue) (t : Transfer) (e : Entry) → t.put ≡ false → front_entry p t ≡ Some e → next_take (lanes_of p) t.queue t.target ≡ Some e
+front-takes : (p : PostsValue) (t : Transfer) (e : Entry) → t.put ≡ false → front_entry p t ≡ Some e → front_posted_of (lanes_of p) t.queue t.target ≡ Some e
 front-takes p t e takes next = rw takes at next
 
 pub front-is_step : (s : State) (p : PostsValue) (t : Transfer) → IsSound s → IsPostsOf s t.origin p → IsFront p t → IsOk (step s (transfer_event s t))
@@ -184,7 +184,7 @@ first-carried p t front puts =
 
 pub first-posted : (p : PostsValue) (t : Transfer) → IsFront p t → t.put ≡ false → IsFirstPosted p t
 first-posted p t front takes =
-    let at = next-at p.posts.queues t.queue t.target (lane_take p.limits.depth) front.entry (front-takes p t front.entry takes front.next) in
+    let at = next-at p.posts.queues t.queue t.target (lane_front_posted p.limits.depth) front.entry (front-takes p t front.entry takes front.next) in
     let there : chosen_in first_posted p t ≡ Some front.entry = rw (at.queue_there, at.lane_there) (lane-take p.limits.depth at.lane front.entry at.chosen).0 in
     some-there (chosen_in first_posted p t) front.entry (λ (e : Entry). e.number ≡ t.number) there (sym front.numbered)
 
@@ -194,29 +194,29 @@ entry-found_next : (s : State) (p : PostsValue) (t : Transfer) (q : Queue) (lane
     → slice_get q.lanes t.target ≡ Some lane → slice_get lane place ≡ Some e → t.number ≡ e.number → entry_in p.posts t.queue t.target t.number ≡ Some e
 entry-found_next s p t q lane place e sound is queue_there lane_there there numbered =
     let rising = (sound.posts t.origin p.posts is.posts).rising t.queue q queue_there t.target lane lane_there in
-    entry-found p.posts t.queue t.target t.number (record { queue = q; lane = lane; place = place; entry = e }) (record {
+    entry-found p.posts t.queue t.target t.number (record { queue = q; lane = lane; position = place; entry = e }) (record {
       in_posts = queue_there;
       in_queue = lane_there;
-      numbered = subst (λ (n : ℕ). place_of lane n ≡ Some place) (sym numbered) (place_of-rising p.posts.next lane place e rising there);
+      numbered = subst (λ (n : ℕ). position_of lane n ≡ Some place) (sym numbered) (place_of-rising p.posts.next lane place e rising there);
       in_lane = there;
     })
 
 pub front-footprint : (s : State) (p : PostsValue) (t : Transfer) (e : Entry) (outcome : Outcome) → IsSound s → IsPostsOf s t.origin p → IsFront p t → front_entry p t ≡ Some e
-    → event_reach s.limits p.posts (event_of t outcome) ≡ transfer_footprint s.limits.ranks t e.kind
+    → event_footprint s.limits p.posts (event_of t outcome) ≡ transfer_footprint s.limits.ranks t e.kind
 front-footprint s p t e outcome sound is front next = by t.put refl
   where
     numbered : t.number ≡ e.number
     numbered = front.numbered ∙ ap (λ (x : Entry). x.number) (same-some (front_entry p t) front.entry e front.next next)
 
-    by : (b : Bool) → t.put ≡ b → event_reach s.limits p.posts (event_of t outcome) ≡ transfer_footprint s.limits.ranks t e.kind
+    by : (b : Bool) → t.put ≡ b → event_footprint s.limits p.posts (event_of t outcome) ≡ transfer_footprint s.limits.ranks t e.kind
     by true puts =
         let at = next-at p.posts.queues t.queue t.target first_carried e (front-puts p t e puts next) in
         let found = entry-found_next s p t at.q at.lane (position_or_len is_carried at.lane) e sound is at.queue_there at.lane_there at.chosen numbered in
-        rw puts (ap (λ (o : Option Entry). reach_of s.limits.ranks t.origin (entry_touch (put_touch t.target) o)) found)
+        rw puts (ap (λ (o : Option Entry). footprint_of s.limits.ranks t.origin (declared_entry_footprint (put_footprint t.target) o)) found)
     by false takes =
-        let at = next-at p.posts.queues t.queue t.target (lane_take p.limits.depth) e (front-takes p t e takes next) in
-        let found = entry-found_next s p t at.q at.lane (posted_place at.lane) e sound is at.queue_there at.lane_there (lane-take p.limits.depth at.lane e at.chosen).0 numbered in
-        rw takes (ap (λ (o : Option Entry). reach_of s.limits.ranks t.origin (entry_touch (take_touch t.target) o)) found)
+        let at = next-at p.posts.queues t.queue t.target (lane_front_posted p.limits.depth) e (front-takes p t e takes next) in
+        let found = entry-found_next s p t at.q at.lane (posted_position at.lane) e sound is at.queue_there at.lane_there (lane-take p.limits.depth at.lane e at.chosen).0 numbered in
+        rw takes (ap (λ (o : Option Entry). footprint_of s.limits.ranks t.origin (declared_entry_footprint (take_footprint t.target) o)) found)
 
 -- The outcome that the nodes tell is the machine's.
 
@@ -252,7 +252,7 @@ front-outcome s own peer group t result front told sound lends =
     by true puts after h =
         let o = transfer_outcome s t put_outcome in
         let event : transfer_event s t ≡ put_of t o = rw puts refl in
-        let lent : Lends s t.origin (event_reach s.limits own.posts.posts (put_of t o)) own peer group = rw puts at lends in
+        let lent : Lends s t.origin (event_footprint s.limits own.posts.posts (put_of t o)) own peer group = rw puts at lends in
         let is : IsStepOn s after (put_of t o) own peer group = record { sound = sound; lends = lent; is_step = subst (λ (x : Event). step s x ≡ Ok after) event h } in
         let next = front-puts own.posts t front.entry puts front.next in
         let ends = put-ends s after o own peer group t front.entry is (first-carried own.posts t front puts) next in
@@ -262,7 +262,7 @@ front-outcome s own peer group t result front told sound lends =
     by false takes after h =
         let o = transfer_outcome s t take_outcome in
         let event : transfer_event s t ≡ take_of t o = rw takes refl in
-        let lent : Lends s t.origin (event_reach s.limits own.posts.posts (take_of t o)) own peer group = rw takes at lends in
+        let lent : Lends s t.origin (event_footprint s.limits own.posts.posts (take_of t o)) own peer group = rw takes at lends in
         let is : IsStepOn s after (take_of t o) own peer group = record { sound = sound; lends = lent; is_step = subst (λ (x : Event). step s x ≡ Ok after) event h } in
         let next = front-takes own.posts t front.entry takes front.next in
         let ends = take-ends s after o own peer group t front.entry is (first-posted own.posts t front takes) next in
@@ -283,21 +283,21 @@ some-first test (y ∷ lane) (suc k) e at pass = go (test y) refl (some-first te
     go false is rest = (rest.0, rw is (subst (λ (m : ℕ). slice_get (y ∷ lane) m ≡ Some rest.0) (let more : suc (position_or_len test lane) ≡ 1 + position_or_len test lane = omega arith in more) rest.1))
 
 pub put-some : (queues : List Queue) (queue target : ℕ) (q : Queue) (lane : List Entry) (x : Entry) → slice_get queues queue ≡ Some q → is_none q.broken ≡ true → slice_get q.lanes target ≡ Some lane
-    → first_carried lane ≡ Some x → option_and_then (put_in target) (slice_get queues queue) ≡ Some x
+    → first_carried lane ≡ Some x → option_and_then (front_carried_in target) (slice_get queues queue) ≡ Some x
 put-some queues queue target q lane x at whole there first = rw (at, whole, there, first) refl
 
 pub take-some : (depth : ℕ) (queues : List Queue) (queue target : ℕ) (q : Queue) (lane : List Entry) (x : Entry) → slice_get queues queue ≡ Some q → is_none q.broken ≡ true → slice_get q.lanes target ≡ Some lane
-    → nat_lt (carried_count lane) depth ≡ true → first_posted lane ≡ Some x → option_and_then (take_in depth target) (slice_get queues queue) ≡ Some x
+    → nat_lt (carried_count lane) depth ≡ true → first_posted lane ≡ Some x → option_and_then (front_posted_in depth target) (slice_get queues queue) ≡ Some x
 take-some depth queues queue target q lane x at whole there room first = rw (at, whole, there, room, first) refl
 
 -- a lane that has an entry to be put, or to take its bytes, has a front
-pub front-put : (p : PostsValue) (queue target : ℕ) (e : Entry) → next_put (lanes_of p) queue target ≡ Some e → IsSome (front_of p queue target)
+pub front-put : (p : PostsValue) (queue target : ℕ) (e : Entry) → front_carried_of (lanes_of p) queue target ≡ Some e → IsSome (front_of p queue target)
 front-put p queue target e next = rw next refl
 
-pub front-take : (p : PostsValue) (queue target : ℕ) (e : Entry) → next_take (lanes_of p) queue target ≡ Some e → IsSome (front_of p queue target)
-front-take p queue target e next = go (next_put (lanes_of p) queue target) next
+pub front-take : (p : PostsValue) (queue target : ℕ) (e : Entry) → front_posted_of (lanes_of p) queue target ≡ Some e → IsSome (front_of p queue target)
+front-take p queue target e next = go (front_carried_of (lanes_of p) queue target) next
   where
-    go : (o : Option Entry) → next_take (lanes_of p) queue target ≡ Some e → IsSome (front_with p.me queue target o (next_take (lanes_of p) queue target))
+    go : (o : Option Entry) → front_posted_of (lanes_of p) queue target ≡ Some e → IsSome (front_with p.me queue target o (front_posted_of (lanes_of p) queue target))
     go None next = rw next refl
     go (Some x) next = refl
 

@@ -2,9 +2,9 @@
 use Rattle.std.proofs.Common.{◌≡◌, ℕ, ◌+◌, ◌<◌, true, nat_le, List, [], ◌∷◌, ◌++◌, length, Option, Some, Ok, refl, sym, ap, subst, ◌∙◌, arith}
 use Rattle.std.specs.List.{slice_get}
 use Rattle.std.proofs.lemmas.Bool.{leb-true}
-use Rattle.gaspi_types.specs.Collectives.{turn_checks, with_joined}
+use Rattle.gaspi_types.specs.Collectives.{round_checks, with_joined}
 use Rattle.gaspi_types.specs.NumberTypes.{TypedNumbers}
-use Rattle.gaspi_types.specs.Touches.{reach_of}
+use Rattle.gaspi_types.specs.Footprints.{footprint_of}
 use Rattle.gaspi_types.specs.World.{are_limits}
 use Rattle.gaspi_types.specs.declared.collectives.Coll.{Coll}
 use Rattle.gaspi_types.specs.declared.collectives.Coll.TheVariants as colls
@@ -12,29 +12,29 @@ use Rattle.gaspi_types.specs.declared.events.Event.TheVariants.{Joined}
 use Rattle.gaspi_types.specs.declared.groups.Args.{Args}
 use Rattle.gaspi_types.specs.declared.groups.Group.{Group}
 use Rattle.gaspi_types.specs.declared.groups.Handle.{Handle}
-use Rattle.gaspi_types.specs.declared.groups.Part.{Part}
-use Rattle.gaspi_types.specs.declared.groups.Pending.{Pending}
+use Rattle.gaspi_types.specs.declared.groups.RankContributions.{RankContributions}
+use Rattle.gaspi_types.specs.declared.groups.PendingCollective.{PendingCollective}
 use Rattle.gaspi_types.specs.declared.replies.Reply.TheVariants as replies
 use Rattle.gaspi_types.specs.declared.shapes.CallerId.{CallerId}
 use Rattle.gaspi_types.specs.declared.shapes.Limits.{Limits}
 use Rattle.gaspi_types.proofs.Items.{slice_get-set_same}
-use Rattle.collective_engine.specs.Turns.{Turns, StandsFor, may_join}
-use Rattle.gaspi_model.specs.CollectiveCalls.{joining_call, made_posts, made_memory, joined_posts, contribution_of, meeting_checks, segment_checks}
+use Rattle.collective_engine.specs.RoundBuffers.{RoundBuffers, StandsFor, may_join}
+use Rattle.gaspi_model.specs.CollectiveCalls.{joining_call, made_posts, made_memory, joined_posts, contribution_of, agreement_checks, segment_checks}
 use Rattle.gaspi_model.specs.Posting.{counted}
 use Rattle.gaspi_model.specs.Sound.{IsSound, IsSoundPosts}
 use Rattle.gaspi_model.specs.State.{owed, thread_at, is_running}
-use Rattle.gaspi_model.specs.Step.{step, join_touch}
+use Rattle.gaspi_model.specs.Step.{step, join_footprint}
 use Rattle.gaspi_model.specs.declared.states.Memory.{Memory}
 use Rattle.gaspi_model.specs.declared.states.Posts.{Posts}
 use Rattle.gaspi_model.specs.declared.states.State.{State}
 use Rattle.gaspi_model.proofs.CollectiveFinds.{MayJoin}
 use Rattle.gaspi_model.proofs.GroupEffects.{IsJoinStep, join-step}
-use Rattle.gaspi_model.proofs.GroupSteps.{join-touch}
-use Rattle.gaspi_model.proofs.MetPosts.{joined-leaves}
+use Rattle.gaspi_model.proofs.GroupSteps.{join-footprint}
+use Rattle.gaspi_model.proofs.CollectivePosts.{joined-leaves}
 use Rattle.gaspi_model.proofs.Sound.GroupTables.{entry-set_same}
 use Rattle.gaspi_model.proofs.Sound.Joins.{join-cases}
-use Rattle.plain_calls.specs.Room.{HasMakingRoom}
-use Rattle.plain_calls.proofs.CallRoom.{alloc_room}
+use Rattle.plain_calls.specs.NumberBounds.{JoinIsBounded}
+use Rattle.plain_calls.proofs.CallBounds.{alloc_room}
 use Rattle.rank_node.specs.Collectives.{AreSoundTogether, MayJoinHere, AddsContribution, IsPendingFor}
 use Rattle.rank_node.specs.CollectiveSteps.{MayStepOn}
 use Rattle.rank_node.specs.Lending.{IsPostsOf, IsMemoryOf, IsNodeOf, IsGroupOf, IsStepOn, IsLeft}
@@ -54,7 +54,7 @@ pub record IsJoinAt (s t : State) (c : CallerId) (id : ℕ) (args : Args) (posts
   pub memory_after : slice_get t.memories c.rank ≡ Some (made_memory s.limits posts memory args.coll)
   pub group_after : slice_get t.groups id ≡ Some (with_joined g c.rank (contribution_of posts args))
 
-from-step : (s t : State) (c : CallerId) (id : ℕ) (args : Args) (posts : Posts) (g : Group) (part : Part) (memory : Memory) (h : Handle) → IsJoinStep s t c id args posts g part memory h
+from-step : (s t : State) (c : CallerId) (id : ℕ) (args : Args) (posts : Posts) (g : Group) (part : RankContributions) (memory : Memory) (h : Handle) → IsJoinStep s t c id args posts g part memory h
     → IsJoinAt s t c id args posts memory g
 from-step s t c id args posts g part memory h m =
     let left = m.leaves in
@@ -78,12 +78,12 @@ joins-at s t c id args posts memory g sound hp hm hg h =
     (subst (λ (x : Group). IsJoinAt s t c id args made.0 made.3 x) (one-there (slice_get s.groups id) made.1 g m.there.there hg) (from-step s t c id args made.0 made.1 made.2 made.3 made.4 m)))
 
 -- what it meets, and what the buffers want
-record MeetsAll (g : Group) (t : Turns) (me : ℕ) (coll : Coll) : Type 0 where
-  meets : meeting_checks g me coll ≡ Ok tt
-  fits : turn_checks g me coll ≡ Ok tt
+record MeetsAll (g : Group) (t : RoundBuffers) (me : ℕ) (coll : Coll) : Type 0 where
+  meets : agreement_checks g me coll ≡ Ok tt
+  fits : round_checks g me coll ≡ Ok tt
   may : may_join t me coll ≡ true
 
-meets-all : (posts : Posts) (g : Group) (t : Turns) (me thread id : ℕ) (args : Args) (h : Handle) → AreSoundTogether posts me id g → StandsFor g t
+meets-all : (posts : Posts) (g : Group) (t : RoundBuffers) (me thread id : ℕ) (args : Args) (h : Handle) → AreSoundTogether posts me id g → StandsFor g t
     → MayJoin posts g me thread id (joining_call id args) args h → MeetsAll g t me args.coll
 meets-all posts g t me thread id args h together stands may =
     join-cases {P = MeetsAll g t me args.coll} posts g me thread id args h may
@@ -100,7 +100,7 @@ meets-all posts g t me thread id args h together stands may =
 
 -- the segment that it makes has its numbers
 made-bounded : (limits : Limits) (posts : Posts) (id : ℕ) (coll : Coll) (values : TypedNumbers) → are_limits limits ≡ true → IsSoundPosts limits posts
-    → segment_checks posts (joining_call id (record { coll = coll; values = values })) ≡ Ok tt → HasMakingRoom posts coll
+    → segment_checks posts (joining_call id (record { coll = coll; values = values })) ≡ Ok tt → JoinIsBounded posts coll
 made-bounded limits posts id (colls.Create seg size) values limited sound free = alloc_room limits posts (record { seg = seg; size = size }) replies.Done limited sound (rw free refl)
 made-bounded limits posts id colls.Barrier values limited sound free = tt
 made-bounded limits posts id (colls.Allreduce op t n) values limited sound free = tt
@@ -108,13 +108,13 @@ made-bounded limits posts id (colls.Commit mask) values limited sound free = tt
 
 -- what a join's nodes that are lent are
 record JoinsLent (s t : State) (c : CallerId) (id : ℕ) (args : Args) (own : Node) (peer : Option Node) (n : GroupNode) : Type 0 where
-  lent : LendsGroup s c.rank id (join_touch id args.coll) own peer n
+  lent : LendsGroup s c.rank id (join_footprint id args.coll) own peer n
   at : IsJoinAt s t c id args own.posts.posts own.memory.memory lent.group_node.group
   together : AreSoundTogether own.posts.posts c.rank id lent.group_node.group
 
 joins-lent : (s t : State) (c : CallerId) (id : ℕ) (args : Args) (own : Node) (peer : Option Node) (n : GroupNode) → IsStepOn s t (Joined c id args) own peer (Some n) → JoinsLent s t c id args own peer n
 joins-lent s t c id args own peer n on =
-    let lent = lends-group s c.rank id (join_touch id args.coll) own peer n (join-touch id args.coll) on.lends in
+    let lent = lends-group s c.rank id (join_footprint id args.coll) own peer n (join-footprint id args.coll) on.lends in
     let posts = lent.own_node.posts.posts in
     let memory = lent.own_node.memory.memory in
     let group = lent.group_node in
@@ -195,7 +195,7 @@ joined-left c id args place old new before after s t peer on posts memory group 
       stands = group g lent.group_node.stands joins.together.ranked all.meets all.fits;
     } in
     record {
-      lends = group-lends s t c.rank id (reach_of s.limits.ranks c.rank (join_touch id args.coll)) new peer after lent.footprint lent.no_peer own group_is;
+      lends = group-lends s t c.rank id (footprint_of s.limits.ranks c.rank (join_footprint id args.coll)) new peer after lent.footprint lent.no_peer own group_is;
       journal = ap (λ (p : PostsValue). p.journal) posts;
       peer_journal = refl;
     }
@@ -226,7 +226,7 @@ joined-waits c id args place old n new step is =
     let kept = made-kept posts args.coll in
     let less = joins.lent.within in
     let many = (on.sound.posts c.rank posts joins.lent.own_node.posts.posts).tables.pending in
-    let same = ap (λ (ps : List (Option Pending)). length ps) kept.1 in
+    let same = ap (λ (ps : List (Option PendingCollective)). length ps) kept.1 in
     let waits : IsPendingFor (posts_joined old.posts place c id args) c.thread id (joining_call id args) = record {
       pending = record { thread = c.thread; args = args };
       running = ap is_running (thread-kept posts c.thread c.thread id args) ∙ joins.at.may.running;

@@ -3,12 +3,12 @@ use Rattle.std.proofs.Common.{◌≡◌, ℕ, List, [], ◌∷◌, ◌+◌, ◌<
 use Rattle.std.specs.List.{slice_get}
 use Rattle.std.proofs.lemmas.Bool.{eq-eqb, eqb-true, lt-ltb, leb-true}
 use Rattle.std.proofs.lemmas.Option.{slice_get_within}
-use Rattle.gaspi_types.specs.Collectives.{AreValuesOf, part_of, given_in, turn_of, members_in, first_given, fits, turn_checks, fixed_by, count_checks, is_element_count}
+use Rattle.gaspi_types.specs.Collectives.{AreValuesOf, contributions_of, contribution_in, round_of, members_in, first_contribution, fits, round_checks, fixed_by, count_checks, is_element_count}
 use Rattle.gaspi_types.specs.Groups.{handle_at, handle_of_all, fix_checks}
 use Rattle.gaspi_types.specs.NumberTypes.{TypedNumbers}
 use Rattle.gaspi_types.specs.Ranges.{is_between}
 use Rattle.gaspi_types.specs.Replies.{coll_fields}
-use Rattle.gaspi_types.specs.Tables.{entry_at}
+use Rattle.gaspi_types.specs.Tables.{item_at}
 use Rattle.gaspi_types.specs.World.{are_limits}
 use Rattle.gaspi_types.specs.declared.calls.Call.{Call}
 use Rattle.gaspi_types.specs.declared.collectives.Coll.{Coll}
@@ -18,14 +18,14 @@ use Rattle.gaspi_types.specs.declared.groups.Args.{Args}
 use Rattle.gaspi_types.specs.declared.groups.Contribution.{Contribution}
 use Rattle.gaspi_types.specs.declared.groups.Group.{Group}
 use Rattle.gaspi_types.specs.declared.groups.Handle.{Handle}
-use Rattle.gaspi_types.specs.declared.groups.Pending.{Pending}
+use Rattle.gaspi_types.specs.declared.groups.PendingCollective.{PendingCollective}
 use Rattle.gaspi_types.specs.declared.replies.Refusal.TheVariants.{BadCount, GroupMismatch}
 use Rattle.gaspi_types.specs.declared.shapes.Limits.{Limits}
 use Rattle.gaspi_types.proofs.Chains.{bind_then, check_holds, both}
 use Rattle.collective_engine.specs.Slots.{HasItsValues}
-use Rattle.collective_engine.specs.Turns.{Turns, StandsFor, is_in, joined_by, completed_by, may_join}
+use Rattle.collective_engine.specs.RoundBuffers.{RoundBuffers, StandsFor, is_in, joined_by, completed_by, may_join}
 use Rattle.gaspi_model.specs.CollectiveCalls.{element_checks, staged_at, plain_args, args_of, joining_call}
-use Rattle.gaspi_model.specs.Contributions.{IsSoundPart, IsSoundGroup}
+use Rattle.gaspi_model.specs.Contributions.{AreSoundContributions, IsSoundGroup}
 use Rattle.gaspi_model.specs.Sound.{IsSound}
 use Rattle.gaspi_model.specs.declared.states.Posts.{Posts}
 use Rattle.gaspi_model.specs.declared.states.State.{State}
@@ -35,12 +35,12 @@ use Rattle.gaspi_model.proofs.Sound.Joins.{join-whole, JoinsBuilt}
 use Rattle.rank_node.specs.Collectives.{AreSoundTogether, is_commit}
 
 -- a member of whose collectives none is pending
-pub may-join : (g : Group) (t : Turns) (me events : ℕ) (coll : Coll) → StandsFor g t → IsSoundPart events None (part_of g me) → events < 4294967295
+pub may-join : (g : Group) (t : RoundBuffers) (me events : ℕ) (coll : Coll) → StandsFor g t → AreSoundContributions events None (contributions_of g me) → events < 4294967295
     → is_in (fixed_by g.members coll) me ≡ true → may_join t me coll ≡ true
 may-join g t me events coll stands part less mine =
     let joined = stands.joined me in
     let completed = stands.completed me in
-    let count : length (part_of g me).contributions ≡ (part_of g me).completed + 0 = part.count in
+    let count : length (contributions_of g me).contributions ≡ (contributions_of g me).completed + 0 = part.count in
     let few = part.few in
     let one : is_in (fixed_by t.members coll) me ≡ true = subst (λ (m : Option ℕ). is_in (fixed_by m coll) me ≡ true) stands.members mine in
     let two : (joined_by t.buffers me == completed_by t.buffers me) ≡ true = eq-eqb (joined_by t.buffers me) (completed_by t.buffers me) (omega arith) in
@@ -48,17 +48,17 @@ may-join g t me events coll stands part less mine =
     rw (one, two, three) refl
 
 -- one whose group is committed
-pub committed-joins : (posts : Posts) (me id : ℕ) (g : Group) (t : Turns) (h : Handle) (coll : Coll) → AreSoundTogether posts me id g → StandsFor g t → handle_at posts.groups id ≡ Some h
-    → h.stage ≡ Committed → entry_at posts.pending id ≡ None → may_join t me coll ≡ true
+pub committed-joins : (posts : Posts) (me id : ℕ) (g : Group) (t : RoundBuffers) (h : Handle) (coll : Coll) → AreSoundTogether posts me id g → StandsFor g t → handle_at posts.groups id ≡ Some h
+    → h.stage ≡ Committed → item_at posts.pending id ≡ None → may_join t me coll ≡ true
 committed-joins posts me id g t h coll meets stands there committed none =
     let kept = meets.committed h there committed in
-    let part : IsSoundPart posts.events None (part_of g me) = subst (λ (p : Option Pending). IsSoundPart posts.events p (part_of g me)) none meets.part in
+    let part : AreSoundContributions posts.events None (contributions_of g me) = subst (λ (p : Option PendingCollective). AreSoundContributions posts.events p (contributions_of g me)) none meets.part in
     let fixed = kept.0 in
     may-join g t me posts.events coll stands part meets.few (rw fixed kept.1)
 
 -- one that is new
-pub fresh-joins : (posts : Posts) (me id : ℕ) (g : Group) (t : Turns) (call : Call) (h : Handle) (args : Args) → AreSoundTogether posts me id g → StandsFor g t
-    → staged_at posts.groups me id call ≡ Ok h → entry_at posts.pending id ≡ None → args_of h.members call ≡ Some args → is_commit args.coll ≡ false → may_join t me args.coll ≡ true
+pub fresh-joins : (posts : Posts) (me id : ℕ) (g : Group) (t : RoundBuffers) (call : Call) (h : Handle) (args : Args) → AreSoundTogether posts me id g → StandsFor g t
+    → staged_at posts.groups me id call ≡ Ok h → item_at posts.pending id ≡ None → args_of h.members call ≡ Some args → is_commit args.coll ≡ false → may_join t me args.coll ≡ true
 fresh-joins posts me id g t call h args meets stands staged none asked plain =
     staged-cases {P = may_join t me args.coll ≡ true} posts.groups me id call h staged
     (λ x is built. absurd (
@@ -99,7 +99,7 @@ together-in s me id posts g sound hp hg =
     let limit = few-events s.limits sound.limits in
     let room = mine.room in
     let ranks = sound.ranks in
-    let parts = group.parts in
+    let parts = group.contributions in
     record {
       few = (omega arith);
       ranked = (omega arith);
@@ -116,11 +116,11 @@ together-in s me id posts g sound hp hg =
 fits-one : (d : Contribution) (coll : Coll) → d.args.coll ≡ coll → fits (Some d) coll ≡ Ok tt
 fits-one d coll is = let same = pointwise-refl (coll_fields coll) in rw (is, same) refl
 
-fits-alike : (given : ℕ → Option Contribution) (ms : List ℕ) (coll : Coll) → ((m : ℕ) (d : Contribution) → given m ≡ Some d → d.args.coll ≡ coll) → fits (first_given given ms) coll ≡ Ok tt
+fits-alike : (given : ℕ → Option Contribution) (ms : List ℕ) (coll : Coll) → ((m : ℕ) (d : Contribution) → given m ≡ Some d → d.args.coll ≡ coll) → fits (first_contribution given ms) coll ≡ Ok tt
 fits-alike given [] coll alike = refl
 fits-alike given (m ∷ ms) coll alike = go (given m) refl (fits-alike given ms coll alike)
   where
-    go : (o : Option Contribution) → given m ≡ o → fits (first_given given ms) coll ≡ Ok tt → fits (first_given given (m ∷ ms)) coll ≡ Ok tt
+    go : (o : Option Contribution) → given m ≡ o → fits (first_contribution given ms) coll ≡ Ok tt → fits (first_contribution given (m ∷ ms)) coll ≡ Ok tt
     go None at rest = rw at rest
     go (Some d) at rest = rw at (fits-one d coll (alike m d at))
 
@@ -133,18 +133,18 @@ fixed-list : (members : Option ℕ) (mask other : ℕ) → fix_checks members ma
 fixed-list None mask other is some = absurd (let no : ⊥ = cc in no)
 fixed-list (Some kept) mask other is some = (let same : kept ≡ other = cc in sym same ∙ eqb-true kept mask (check_holds (kept == mask) (GroupMismatch kept) tt is))
 
-pub built-joins : (posts : Posts) (me id : ℕ) (g : Group) (t : Turns) (h : Handle) (coll : Coll) → AreSoundTogether posts me id g → StandsFor g t → coll ≡ colls.Commit h.members → JoinsBuilt posts g me id h
-    → entry_at posts.pending id ≡ None → may_join t me coll ≡ true
+pub built-joins : (posts : Posts) (me id : ℕ) (g : Group) (t : RoundBuffers) (h : Handle) (coll : Coll) → AreSoundTogether posts me id g → StandsFor g t → coll ≡ colls.Commit h.members → JoinsBuilt posts g me id h
+    → item_at posts.pending id ≡ None → may_join t me coll ≡ true
 built-joins posts me id g t h coll meets stands is built none =
-    let part : IsSoundPart posts.events None (part_of g me) = subst (λ (p : Option Pending). IsSoundPart posts.events p (part_of g me)) none meets.part in
+    let part : AreSoundContributions posts.events None (contributions_of g me) = subst (λ (p : Option PendingCollective). AreSoundContributions posts.events p (contributions_of g me)) none meets.part in
     let fixed = fixed-as g.members h.members built.fixes in
     may-join g t me posts.events coll stands part meets.few (rw (is, fixed) built.built.member)
 
-pub built-fits : (posts : Posts) (me id : ℕ) (g : Group) (h : Handle) (coll : Coll) → AreSoundTogether posts me id g → coll ≡ colls.Commit h.members → JoinsBuilt posts g me id h → turn_checks g me coll ≡ Ok tt
+pub built-fits : (posts : Posts) (me id : ℕ) (g : Group) (h : Handle) (coll : Coll) → AreSoundTogether posts me id g → coll ≡ colls.Commit h.members → JoinsBuilt posts g me id h → round_checks g me coll ≡ Ok tt
 built-fits posts me id g h coll meets is built =
-    fits-alike (given_in g (turn_of g me)) (members_in g) coll (λ m d given.
-    let none : turn_of g me ≡ 0 = meets.begun.building h built.built.there built.built.building in
-    let at : given_in g 0 m ≡ Some d = subst (λ (k : ℕ). given_in g k m ≡ Some d) none given in
+    fits-alike (contribution_in g (round_of g me)) (members_in g) coll (λ m d given.
+    let none : round_of g me ≡ 0 = meets.begun.building h built.built.there built.built.building in
+    let at : contribution_in g 0 m ≡ Some d = subst (λ (k : ℕ). contribution_in g k m ≡ Some d) none given in
     let first = meets.first m d (λ zero. stage-apart h h refl built.built.building (meets.all h (subst (λ (k : ℕ). handle_at posts.groups k ≡ Some h) zero built.built.there))) at in
     let theirs = meets.group.commits 0 m d first.0 at first.1 in
     first.1 ∙ ap (λ (n : ℕ). colls.Commit n) (fixed-list g.members h.members first.0 built.fixes theirs) ∙ sym is)

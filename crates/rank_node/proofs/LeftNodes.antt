@@ -5,7 +5,7 @@ use Rattle.std.specs.Option.{option_map}
 use Rattle.std.proofs.lemmas.Bool.{eq-eqb, eqb-false}
 use Rattle.gaspi_types.specs.CallRows.{row_of}
 use Rattle.gaspi_types.specs.Replies.{is_idle}
-use Rattle.gaspi_types.specs.Touches.{reach_of}
+use Rattle.gaspi_types.specs.Footprints.{footprint_of}
 use Rattle.gaspi_types.specs.declared.calls.Call.{Call}
 use Rattle.gaspi_types.specs.declared.calls.Call.TheVariants.{Register}
 use Rattle.gaspi_types.specs.declared.calls.segments.Register as register
@@ -14,18 +14,18 @@ use Rattle.gaspi_types.specs.declared.inboxes.Message.{Message}
 use Rattle.gaspi_types.specs.declared.replies.Reply.{Reply}
 use Rattle.gaspi_types.specs.declared.shapes.CallerId.{CallerId}
 use Rattle.gaspi_types.specs.declared.shapes.Limits.{Limits}
-use Rattle.gaspi_types.specs.declared.touches.Reach.{Reach}
-use Rattle.gaspi_types.specs.declared.touches.Reach.TheVariants.{Alone, OwnMemory, PeerMemory, BothMemories, PeerPosts, Group, GroupAndMemory}
+use Rattle.gaspi_types.specs.declared.footprints.Footprint.{Footprint}
+use Rattle.gaspi_types.specs.declared.footprints.Footprint.TheVariants.{Alone, OwnMemory, PeerMemory, BothMemories, PeerPosts, Group, GroupAndMemory}
 use Rattle.gaspi_types.proofs.Items.{slice_get-set_other}
-use Rattle.gaspi_model.specs.Calls.{posts_after, memory_after, peer_after, peer_done}
-use Rattle.gaspi_model.specs.PassiveCalls.{brought_by}
-use Rattle.gaspi_model.specs.Step.{call_brought}
-use Rattle.gaspi_model.specs.Transfers.{Worked}
+use Rattle.gaspi_model.specs.Calls.{posts_after, memory_after, peer_after, peer_effect}
+use Rattle.gaspi_model.specs.PassiveCalls.{sent_message}
+use Rattle.gaspi_model.specs.Step.{call_message}
+use Rattle.gaspi_model.specs.Transfers.{PostsAndMemory}
 use Rattle.gaspi_model.specs.declared.states.Posts.{Posts}
 use Rattle.gaspi_model.specs.declared.states.Memory.{Memory}
 use Rattle.gaspi_model.specs.declared.states.State.{State}
-use Rattle.gaspi_model.proofs.Sound.Told.{told_at, changed_at-get, peer-touched, touching-registers}
-use Rattle.gaspi_model.proofs.Worked.{IsCalledThere, memory_place, memory_rank}
+use Rattle.gaspi_model.proofs.Sound.Registered.{registered_at, changed_at-get, peer-touched, with_footprint-registers}
+use Rattle.gaspi_model.proofs.OnPostsAndMemory.{IsCalledThere, memory_place, memory_rank}
 use Rattle.rank_node.specs.Effects.{with_posts, recorded_posts, recorded_memory}
 use Rattle.rank_node.specs.Lending.{Lends, IsNodeOf, IsPostsOf, IsPeer, IsPeerNode, IsGroupAt, IsStepOn, IsLeft, footprint_peer, footprint_group, call_footprint}
 use Rattle.rank_node.specs.Rooms.{IsRecordRoom}
@@ -36,25 +36,25 @@ use Rattle.rank_node.specs.declared.rooms.Room.{Room}
 use Rattle.rank_node.proofs.CalledNodes.{same-some, called-on, own-after, memory-after, memory-same}
 
 -- the owner's posts
-left-posts : (s t : State) (c : CallerId) (call : Call) (reply : Reply) (place : ℕ) (old own : PostsValue) (memory : Memory) (after : Worked) → IsPostsOf s c.rank old
+left-posts : (s t : State) (c : CallerId) (call : Call) (reply : Reply) (place : ℕ) (old own : PostsValue) (memory : Memory) (after : PostsAndMemory) → IsPostsOf s c.rank old
     → IsCalledThere s t c call reply old.posts memory after → own ≡ recorded_posts old place c call reply → IsPostsOf t c.rank own
 left-posts s t c call reply place old own memory after mine there is = record {
   limits = ap (λ (p : PostsValue). p.limits) is ∙ mine.limits ∙ sym (ap (λ (x : State). x.limits) there.leaves);
   me = ap (λ (p : PostsValue). p.me) is ∙ mine.me;
-  posts = own-after s t c call reply old.posts memory after there ∙ ap (λ (p : Posts). Some p) (ap (λ (w : Worked). w.posts) there.is.leaves
+  posts = own-after s t c call reply old.posts memory after there ∙ ap (λ (p : Posts). Some p) (ap (λ (w : PostsAndMemory). w.posts) there.is.leaves
       ∙ ap (λ (l : Limits). posts_after l c.rank old.posts c.thread call reply) (sym mine.limits)
       ∙ ap (λ (n : ℕ). posts_after old.limits n old.posts c.thread call reply) (sym mine.me)
       ∙ sym (ap (λ (p : PostsValue). p.posts) is));
 }
 
 -- the memory that was worked on, as the call leaves it by the message that was reserved
-left-memory : (s t : State) (c : CallerId) (call : Call) (reply : Reply) (old : Node) (room : Room) (memory : Memory) (after : Worked) (worked new : MemoryValue) → IsNodeOf s c.rank old
+left-memory : (s t : State) (c : CallerId) (call : Call) (reply : Reply) (old : Node) (room : Room) (memory : Memory) (after : PostsAndMemory) (worked new : MemoryValue) → IsNodeOf s c.rank old
     → IsRecordRoom old.posts old.memory call room → IsCalledThere s t c call reply old.posts.posts memory after → memory ≡ worked.memory → new ≡ recorded_memory old.posts room.message worked call reply
     → slice_get t.memories (memory_rank s.limits c.rank call) ≡ Some new.memory
 left-memory s t c call reply old room memory after worked new mine reserved there same is =
-    memory-after s t c call reply old.posts.posts memory after there ∙ ap (λ (m : Memory). Some m) (ap (λ (w : Worked). w.memory) there.is.leaves
+    memory-after s t c call reply old.posts.posts memory after there ∙ ap (λ (m : Memory). Some m) (ap (λ (w : PostsAndMemory). w.memory) there.is.leaves
     ∙ memory-same s c call reply old.posts.posts old.memory.memory memory mine.memory.memory there.is.answered
-    ∙ ap (λ (n : ℕ). memory_after s.limits old.posts.posts (brought_by n old.memory.memory call) memory call reply) (sym mine.posts.me)
+    ∙ ap (λ (n : ℕ). memory_after s.limits old.posts.posts (sent_message n old.memory.memory call) memory call reply) (sym mine.posts.me)
     ∙ ap (λ (b : Option Message). memory_after s.limits old.posts.posts b memory call reply) (sym reserved.message)
     ∙ ap (λ (l : Limits). memory_after l old.posts.posts room.message memory call reply) (sym mine.posts.limits)
     ∙ ap (λ (m : Memory). memory_after old.posts.limits old.posts.posts room.message m call reply) same
@@ -83,7 +83,7 @@ left-alone s t c call reply place old own group room plain is reserved posts mem
     mine : IsNodeOf s c.rank old
     mine = is.lends.own_node
 
-    go : (m : Memory) (after : Worked) → IsCalledThere s t c call reply old.posts.posts m after → IsLeft s t (Called c call reply) place old own None None group
+    go : (m : Memory) (after : PostsAndMemory) → IsCalledThere s t c call reply old.posts.posts m after → IsLeft s t (Called c call reply) place old own None None group
     go m after there = record {
       lends = record {
         own_node = record {
@@ -103,7 +103,7 @@ left-alone s t c call reply place old own group room plain is reserved posts mem
         kept : t.limits ≡ s.limits
         kept = ap (λ (x : State). x.limits) there.leaves
 
-        no-peer : (r : Reach) → Lends s c.rank r old None group → IsPeer t c.rank (footprint_peer r) None
+        no-peer : (r : Footprint) → Lends s c.rank r old None group → IsPeer t c.rank (footprint_peer r) None
         no-peer Alone lends = tt
         no-peer OwnMemory lends = tt
         no-peer (Group id) lends = tt
@@ -118,21 +118,21 @@ left-alone s t c call reply place old own group room plain is reserved posts mem
             let same = same-some (slice_get s.memories (memory_rank s.limits c.rank call)) m old.memory.memory there.memory_there there_is in
             ap (λ (n : ℕ). slice_get t.memories n) (sym here) ∙ left-memory s t c call reply old room m after old.memory own.memory mine reserved there same memory
 
-        by-reach : (r : Reach) → call_footprint s.limits c.rank call ≡ r → Lends s c.rank r old None group → slice_get t.memories c.rank ≡ Some own.memory.memory
-        by-reach Alone at lends = at-own (ap (λ (r : Reach). memory_place r c.rank) at)
-        by-reach OwnMemory at lends = at-own (ap (λ (r : Reach). memory_place r c.rank) at)
-        by-reach (Group id) at lends = at-own (ap (λ (r : Reach). memory_place r c.rank) at)
-        by-reach (GroupAndMemory id) at lends = at-own (ap (λ (r : Reach). memory_place r c.rank) at)
+        by-reach : (r : Footprint) → call_footprint s.limits c.rank call ≡ r → Lends s c.rank r old None group → slice_get t.memories c.rank ≡ Some own.memory.memory
+        by-reach Alone at lends = at-own (ap (λ (r : Footprint). memory_place r c.rank) at)
+        by-reach OwnMemory at lends = at-own (ap (λ (r : Footprint). memory_place r c.rank) at)
+        by-reach (Group id) at lends = at-own (ap (λ (r : Footprint). memory_place r c.rank) at)
+        by-reach (GroupAndMemory id) at lends = at-own (ap (λ (r : Footprint). memory_place r c.rank) at)
         by-reach (PeerMemory rank) at lends = absurd lends.peer_node
         by-reach (BothMemories rank) at lends = absurd lends.peer_node
         by-reach (PeerPosts rank) at lends = absurd lends.peer_node
 
 -- the footprint of a call in a world of so many ranks
-abbrev reach_for : ℕ → ℕ → Call → Reach
-reach_for ranks me call = reach_of ranks me (row_of call).touch
+abbrev footprint_for : ℕ → ℕ → Call → Footprint
+footprint_for ranks me call = footprint_of ranks me (row_of call).footprint
 
 -- A call that reaches another rank's memory tells that rank nothing.
-not-register : (ranks me : ℕ) (x : register.Register) (r : Reach) → reach_for ranks me (Register x) ≡ r → ((rank : ℕ) → r ≡ PeerPosts rank → ⊥) → (r ≡ Alone)
+not-register : (ranks me : ℕ) (x : register.Register) (r : Footprint) → footprint_for ranks me (Register x) ≡ r → ((rank : ℕ) → r ≡ PeerPosts rank → ⊥) → (r ≡ Alone)
 not-register ranks me x r at never = go (x.rank == me) (nat_lt x.rank ranks) refl refl
   where
     go : (a b : Bool) → (x.rank == me) ≡ a → nat_lt x.rank ranks ≡ b → r ≡ Alone
@@ -140,12 +140,12 @@ not-register ranks me x r at never = go (x.rank == me) (nat_lt x.rank ranks) ref
     go false true is less = absurd (never x.rank (sym at ∙ rw (is, less) refl))
     go false false is less = sym at ∙ rw (is, less) refl
 
-tells-nothing : (ranks me : ℕ) (r : Reach) (posts : Posts) (call : Call) (reply : Reply) (peer : Posts) → reach_for ranks me call ≡ r → ((rank : ℕ) → r ≡ PeerPosts rank → ⊥) → (r ≡ Alone → ⊥)
+tells-nothing : (ranks me : ℕ) (r : Footprint) (posts : Posts) (call : Call) (reply : Reply) (peer : Posts) → footprint_for ranks me call ≡ r → ((rank : ℕ) → r ≡ PeerPosts rank → ⊥) → (r ≡ Alone → ⊥)
     → peer_after me posts call reply peer ≡ peer
 tells-nothing ranks me r posts call reply peer at never some = go (is_idle reply) refl
   where
-    done : (k : Call) → call ≡ k → peer_done me posts k peer ≡ peer
-    done (Register x) same = absurd (some (not-register ranks me x r (subst (λ (k : Call). reach_for ranks me k ≡ r) same at) never))
+    done : (k : Call) → call ≡ k → peer_effect me posts k peer ≡ peer
+    done (Register x) same = absurd (some (not-register ranks me x r (subst (λ (k : Call). footprint_for ranks me k ≡ r) same at) never))
     done k same = refl
 
     go : (b : Bool) → is_idle reply ≡ b → peer_after me posts call reply peer ≡ peer
@@ -165,7 +165,7 @@ left-between s t c call reply place old own p q group room plain is reserved pos
     mine : IsNodeOf s c.rank old
     mine = is.lends.own_node
 
-    go : (m : Memory) (after : Worked) → IsCalledThere s t c call reply old.posts.posts m after → IsLeft s t (Called c call reply) place old own (Some p) (Some q) group
+    go : (m : Memory) (after : PostsAndMemory) → IsCalledThere s t c call reply old.posts.posts m after → IsLeft s t (Called c call reply) place old own (Some p) (Some q) group
     go m after there = record {
       lends = by-reach (call_footprint s.limits c.rank call) refl is.lends;
       journal = ap (λ (x : PostsValue). x.journal) posts;
@@ -178,7 +178,7 @@ left-between s t c call reply place old own p q group room plain is reserved pos
         own-posts : IsPostsOf t c.rank own.posts
         own-posts = left-posts s t c call reply place old.posts own.posts m after mine.posts there posts
 
-        groups : (r : Reach) → Lends s c.rank r old (Some p) group → IsGroupAt t (footprint_group r) group
+        groups : (r : Footprint) → Lends s c.rank r old (Some p) group → IsGroupAt t (footprint_group r) group
         groups r lends = left-group s t (footprint_group r) group (ap (λ (x : State). x.groups) there.leaves) lends.group_node
 
         apart-of : (rank : ℕ) → (rank == c.rank) ≡ false → c.rank ≡ rank → ⊥
@@ -188,7 +188,7 @@ left-between s t c call reply place old own p q group room plain is reserved pos
         own-capacity = ap (λ (x : MemoryValue). x.capacity) memory ∙ mine.memory.capacity ∙ sym (ap (λ (l : Limits). l.inbox) kept)
 
         -- the posts of a peer whose posts are not reached
-        same-posts : (rank : ℕ) (r : Reach) → call_footprint s.limits c.rank call ≡ r → ((k : ℕ) → r ≡ PeerPosts k → ⊥) → (r ≡ Alone → ⊥) → IsPeerNode s c.rank rank p
+        same-posts : (rank : ℕ) (r : Footprint) → call_footprint s.limits c.rank call ≡ r → ((k : ℕ) → r ≡ PeerPosts k → ⊥) → (r ≡ Alone → ⊥) → IsPeerNode s c.rank rank p
             → slice_get t.posts rank ≡ slice_get (slice_set s.posts c.rank after.posts) rank → IsPostsOf t rank q.posts
         same-posts rank r at never some peer here = record {
           limits = ap (λ (x : PostsValue). x.limits) told ∙ peer.node.posts.limits ∙ sym kept;
@@ -199,10 +199,10 @@ left-between s t c call reply place old own p q group room plain is reserved pos
         }
 
         -- a peer's memory is worked on
-        at-peer : (rank : ℕ) (r : Reach) → call_footprint s.limits c.rank call ≡ r → memory_place r c.rank ≡ rank → ((k : ℕ) → r ≡ PeerPosts k → ⊥) → (r ≡ Alone → ⊥) → IsPeerNode s c.rank rank p
+        at-peer : (rank : ℕ) (r : Footprint) → call_footprint s.limits c.rank call ≡ r → memory_place r c.rank ≡ rank → ((k : ℕ) → r ≡ PeerPosts k → ⊥) → (r ≡ Alone → ⊥) → IsPeerNode s c.rank rank p
             → slice_get t.posts rank ≡ slice_get (slice_set s.posts c.rank after.posts) rank → IsNodeOf t c.rank own × IsPeerNode t c.rank rank q
         at-peer rank r at place never some peer here =
-            let rank_is : memory_rank s.limits c.rank call ≡ rank = ap (λ (x : Reach). memory_place x c.rank) at ∙ place in
+            let rank_is : memory_rank s.limits c.rank call ≡ rank = ap (λ (x : Footprint). memory_place x c.rank) at ∙ place in
             let there_is : slice_get s.memories (memory_rank s.limits c.rank call) ≡ Some p.memory.memory = ap (λ (n : ℕ). slice_get s.memories n) rank_is ∙ peer.node.memory.memory in
             let same = same-some (slice_get s.memories (memory_rank s.limits c.rank call)) m p.memory.memory there.memory_there there_is in
             let left = left-memory s t c call reply old room m after p.memory q.memory mine reserved there same theirs in
@@ -224,7 +224,7 @@ left-between s t c call reply place old own p q group room plain is reserved pos
               },
             )
 
-        by-reach : (r : Reach) → call_footprint s.limits c.rank call ≡ r → Lends s c.rank r old (Some p) group → Lends t c.rank r own (Some q) group
+        by-reach : (r : Footprint) → call_footprint s.limits c.rank call ≡ r → Lends s c.rank r old (Some p) group → Lends t c.rank r own (Some q) group
         by-reach Alone at lends = absurd lends.peer_node
         by-reach OwnMemory at lends = absurd lends.peer_node
         by-reach (Group id) at lends = absurd lends.peer_node
@@ -255,7 +255,7 @@ left-between s t c call reply place old own p q group room plain is reserved pos
         }
           where
             registers : (x : register.Register) × (call ≡ Register x) × (x.rank ≡ rank)
-            registers = touching-registers call rank (peer-touched s.limits.ranks c.rank rank (row_of call).touch at).0
+            registers = with_footprint-registers call rank (peer-touched s.limits.ranks c.rank rank (row_of call).footprint at).0
 
             -- such a call leaves a memory as it is
             idle-memory : (b : Option Message) (posts : Posts) (limits : Limits) (memory : Memory) → memory_after limits posts b memory call reply ≡ memory
@@ -266,13 +266,13 @@ left-between s t c call reply place old own p q group room plain is reserved pos
                 either false = refl
 
             rank_is : memory_rank s.limits c.rank call ≡ c.rank
-            rank_is = ap (λ (x : Reach). memory_place x c.rank) at
+            rank_is = ap (λ (x : Footprint). memory_place x c.rank) at
 
             own-memory : slice_get t.memories c.rank ≡ Some own.memory.memory
             own-memory =
                 let here = same-some (slice_get s.memories (memory_rank s.limits c.rank call)) m old.memory.memory there.memory_there (ap (λ (n : ℕ). slice_get s.memories n) rank_is ∙ mine.memory.memory) in
                 ap (λ (n : ℕ). slice_get t.memories n) (sym rank_is) ∙ memory-after s t c call reply old.posts.posts m after there
-                ∙ ap (λ (x : Memory). Some x) (ap (λ (w : Worked). w.memory) there.is.leaves ∙ idle-memory (call_brought s c.rank call) old.posts.posts s.limits m ∙ here ∙ ap (λ (x : MemoryValue). x.memory) (sym memory))
+                ∙ ap (λ (x : Memory). Some x) (ap (λ (w : PostsAndMemory). w.memory) there.is.leaves ∙ idle-memory (call_message s c.rank call) old.posts.posts s.limits m ∙ here ∙ ap (λ (x : MemoryValue). x.memory) (sym memory))
 
             peer-memory : slice_get t.memories rank ≡ Some q.memory.memory
             peer-memory =
@@ -285,9 +285,9 @@ left-between s t c call reply place old own p q group room plain is reserved pos
             peer-posts =
                 let there_is : slice_get (slice_set s.posts c.rank after.posts) rank ≡ Some p.posts.posts =
                 slice_get-set_other s.posts c.rank rank after.posts (apart-of rank lends.peer_node.apart) ∙ lends.peer_node.node.posts.posts in
-                let reached : slice_get t.posts rank ≡ slice_get (told_at (PeerPosts rank) c.rank old.posts.posts call reply (slice_set s.posts c.rank after.posts)) rank =
-                ap (λ (x : State). slice_get x.posts rank) there.leaves ∙ ap (λ (x : Reach). slice_get (told_at x c.rank old.posts.posts call reply (slice_set s.posts c.rank after.posts)) rank) at in
-                let changed : slice_get (told_at (PeerPosts rank) c.rank old.posts.posts call reply (slice_set s.posts c.rank after.posts)) rank
+                let reached : slice_get t.posts rank ≡ slice_get (registered_at (PeerPosts rank) c.rank old.posts.posts call reply (slice_set s.posts c.rank after.posts)) rank =
+                ap (λ (x : State). slice_get x.posts rank) there.leaves ∙ ap (λ (x : Footprint). slice_get (registered_at x c.rank old.posts.posts call reply (slice_set s.posts c.rank after.posts)) rank) at in
+                let changed : slice_get (registered_at (PeerPosts rank) c.rank old.posts.posts call reply (slice_set s.posts c.rank after.posts)) rank
                 ≡ option_map (peer_after c.rank old.posts.posts call reply) (slice_get (slice_set s.posts c.rank after.posts) rank) =
                 changed_at-get (slice_set s.posts c.rank after.posts) rank rank (peer_after c.rank old.posts.posts call reply) ∙ rw (eq-eqb rank rank refl) refl in
                 reached ∙ changed ∙ ap (option_map (peer_after c.rank old.posts.posts call reply)) there_is

@@ -2,13 +2,13 @@
 use Rattle.std.proofs.Common.{◌≡◌, ℕ, ◌<◌, ◌≤◌, Bool, true, false, nat_lt, Option, None, Some, refl, sym, ◌∙◌, subst, inl, inr, if◌then◌else◌}
 use Rattle.std.proofs.lemmas.Bool.{ltb-true, ltb-false}
 use Rattle.gaspi_types.specs.CallRows.{row_of}
-use Rattle.gaspi_types.specs.Touches.{reach_of}
+use Rattle.gaspi_types.specs.Footprints.{footprint_of}
 use Rattle.gaspi_types.specs.declared.collectives.Coll.{Coll}
 use Rattle.gaspi_types.specs.declared.collectives.Coll.TheVariants as colls
 use Rattle.gaspi_types.specs.declared.groups.Args.{Args}
-use Rattle.gaspi_types.specs.declared.touches.Reach.{Reach}
-use Rattle.gaspi_types.specs.declared.touches.Reach.TheVariants.{Alone, Group, GroupAndMemory}
-use Rattle.gaspi_types.specs.declared.touches.Touch.{Touch}
+use Rattle.gaspi_types.specs.declared.footprints.Footprint.{Footprint}
+use Rattle.gaspi_types.specs.declared.footprints.Footprint.TheVariants.{Alone, Group, GroupAndMemory}
+use Rattle.gaspi_types.specs.declared.footprints.DeclaredFootprint.{DeclaredFootprint}
 use Rattle.gaspi_model.specs.CollectiveCalls.{joining_call}
 use Rattle.gaspi_model.specs.declared.states.State.{State}
 use Rattle.gaspi_model.proofs.GroupSteps.{IsOnGroup}
@@ -17,39 +17,39 @@ use Rattle.rank_node.specs.declared.nodes.GroupNode.{GroupNode}
 use Rattle.rank_node.specs.declared.nodes.Node.{Node}
 
 -- the footprint of a collective on a group with a number below 8, and over it
-pub record IsGroupFootprint (footprint : Reach) (id : ℕ) : Type 0 where
+pub record IsGroupFootprint (footprint : Footprint) (id : ℕ) : Type 0 where
   pub peer : footprint_peer footprint ≡ None
   pub group : footprint_group footprint ≡ Some id
 
-pub record IsOwnFootprint (footprint : Reach) : Type 0 where
+pub record IsOwnFootprint (footprint : Footprint) : Type 0 where
   pub peer : footprint_peer footprint ≡ None
   pub group : footprint_group footprint ≡ None
 
-within-8 : (b : Bool) (footprint : Reach) (id : ℕ) → b ≡ true → IsGroupFootprint footprint id → IsGroupFootprint (if b then footprint else Alone) id
+within-8 : (b : Bool) (footprint : Footprint) (id : ℕ) → b ≡ true → IsGroupFootprint footprint id → IsGroupFootprint (if b then footprint else Alone) id
 within-8 true footprint id less is = is
 within-8 false footprint id less is = absurd (let no : ⊥ = cc in no)
 
-past-8 : (b : Bool) (footprint : Reach) → b ≡ false → IsOwnFootprint (if b then footprint else Alone)
+past-8 : (b : Bool) (footprint : Footprint) → b ≡ false → IsOwnFootprint (if b then footprint else Alone)
 past-8 true footprint over = absurd (let no : ⊥ = cc in no)
 past-8 false footprint over = record { peer = refl; group = refl }
 
-on-group : (ranks me id : ℕ) (touch : Touch) → IsOnGroup touch id → nat_lt id 8 ≡ true → IsGroupFootprint (reach_of ranks me touch) id
+on-group : (ranks me id : ℕ) (touch : DeclaredFootprint) → IsOnGroup touch id → nat_lt id 8 ≡ true → IsGroupFootprint (footprint_of ranks me touch) id
 on-group ranks me id touch (inl is) less = rw is (within-8 (nat_lt id 8) (Group id) id less (record { peer = refl; group = refl }))
 on-group ranks me id touch (inr is) less = rw is (within-8 (nat_lt id 8) (GroupAndMemory id) id less (record { peer = refl; group = refl }))
 
-off-group : (ranks me id : ℕ) (touch : Touch) → IsOnGroup touch id → nat_lt id 8 ≡ false → IsOwnFootprint (reach_of ranks me touch)
+off-group : (ranks me id : ℕ) (touch : DeclaredFootprint) → IsOnGroup touch id → nat_lt id 8 ≡ false → IsOwnFootprint (footprint_of ranks me touch)
 off-group ranks me id touch (inl is) over = rw is (past-8 (nat_lt id 8) (Group id) over)
 off-group ranks me id touch (inr is) over = rw is (past-8 (nat_lt id 8) (GroupAndMemory id) over)
 
 -- a group's node is lent
-pub record LendsGroup (s : State) (me id : ℕ) (touch : Touch) (own : Node) (peer : Option Node) (n : GroupNode) : Type 0 where
+pub record LendsGroup (s : State) (me id : ℕ) (touch : DeclaredFootprint) (own : Node) (peer : Option Node) (n : GroupNode) : Type 0 where
   pub within : id < 8
-  pub footprint : IsGroupFootprint (reach_of s.limits.ranks me touch) id
+  pub footprint : IsGroupFootprint (footprint_of s.limits.ranks me touch) id
   pub own_node : IsNodeOf s me own
   pub no_peer : IsPeer s me None peer
   pub group_node : IsGroupOf s id n
 
-pub lends-group : (s : State) (me id : ℕ) (touch : Touch) (own : Node) (peer : Option Node) (n : GroupNode) → IsOnGroup touch id → Lends s me (reach_of s.limits.ranks me touch) own peer (Some n)
+pub lends-group : (s : State) (me id : ℕ) (touch : DeclaredFootprint) (own : Node) (peer : Option Node) (n : GroupNode) → IsOnGroup touch id → Lends s me (footprint_of s.limits.ranks me touch) own peer (Some n)
     → LendsGroup s me id touch own peer n
 lends-group s me id touch own peer n on lends = go (nat_lt id 8) refl
   where
@@ -66,13 +66,13 @@ lends-group s me id touch own peer n on lends = go (nat_lt id 8) refl
     go false over = absurd (subst (λ (o : Option ℕ). IsGroupAt s o (Some n)) (off-group s.limits.ranks me id touch on over).group lends.group_node)
 
 -- none is
-pub record LendsNoGroup (s : State) (me id : ℕ) (touch : Touch) (own : Node) (peer : Option Node) : Type 0 where
+pub record LendsNoGroup (s : State) (me id : ℕ) (touch : DeclaredFootprint) (own : Node) (peer : Option Node) : Type 0 where
   pub over : 8 ≤ id
-  pub footprint : IsOwnFootprint (reach_of s.limits.ranks me touch)
+  pub footprint : IsOwnFootprint (footprint_of s.limits.ranks me touch)
   pub own_node : IsNodeOf s me own
   pub no_peer : IsPeer s me None peer
 
-pub lends-no-group : (s : State) (me id : ℕ) (touch : Touch) (own : Node) (peer : Option Node) → IsOnGroup touch id → Lends s me (reach_of s.limits.ranks me touch) own peer None
+pub lends-no-group : (s : State) (me id : ℕ) (touch : DeclaredFootprint) (own : Node) (peer : Option Node) → IsOnGroup touch id → Lends s me (footprint_of s.limits.ranks me touch) own peer None
     → LendsNoGroup s me id touch own peer
 lends-no-group s me id touch own peer on lends = go (nat_lt id 8) refl
   where
@@ -93,7 +93,7 @@ no-peer s t me None is = tt
 no-peer s t me (Some n) is = absurd is
 
 -- the nodes after a step are lent of the state after it
-pub group-lends : (s t : State) (me id : ℕ) (footprint : Reach) (own : Node) (peer : Option Node) (n : GroupNode) → IsGroupFootprint footprint id → IsPeer s me None peer
+pub group-lends : (s t : State) (me id : ℕ) (footprint : Footprint) (own : Node) (peer : Option Node) (n : GroupNode) → IsGroupFootprint footprint id → IsPeer s me None peer
     → IsNodeOf t me own → IsGroupOf t id n → Lends t me footprint own peer (Some n)
 group-lends s t me id footprint own peer n is none own_is group_is = record {
   own_node = own_is;
@@ -101,7 +101,7 @@ group-lends s t me id footprint own peer n is none own_is group_is = record {
   group_node = subst (λ (o : Option ℕ). IsGroupAt t o (Some n)) (sym is.group) group_is;
 }
 
-pub no-group-lends : (s t : State) (me : ℕ) (footprint : Reach) (own : Node) (peer : Option Node) → IsOwnFootprint footprint → IsPeer s me None peer → IsNodeOf t me own → Lends t me footprint own peer None
+pub no-group-lends : (s t : State) (me : ℕ) (footprint : Footprint) (own : Node) (peer : Option Node) → IsOwnFootprint footprint → IsPeer s me None peer → IsNodeOf t me own → Lends t me footprint own peer None
 no-group-lends s t me footprint own peer is none own_is = record {
   own_node = own_is;
   peer_node = subst (λ (o : Option ℕ). IsPeer t me o peer) (sym is.peer) (no-peer s t me peer none);

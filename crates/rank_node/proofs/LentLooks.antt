@@ -11,12 +11,12 @@ use Rattle.gaspi_types.specs.declared.groups.Group.{Group}
 use Rattle.gaspi_types.specs.declared.replies.Ready.{Ready}
 use Rattle.gaspi_types.specs.declared.replies.Ready.TheVariants.{NotReady}
 use Rattle.gaspi_types.proofs.Items.{joined}
-use Rattle.gaspi_model.specs.CollectiveCalls.{collective_answer, resumed_finds}
+use Rattle.gaspi_model.specs.CollectiveCalls.{collective_answer, resumed_answer}
 use Rattle.gaspi_model.specs.Sound.{IsSound}
 use Rattle.gaspi_model.specs.Step.{answer_in, group_in}
 use Rattle.gaspi_model.specs.declared.states.Posts.{Posts}
 use Rattle.gaspi_model.specs.declared.states.State.{State}
-use Rattle.gaspi_model.proofs.GroupSteps.{collective-touch}
+use Rattle.gaspi_model.proofs.GroupSteps.{collective-footprint}
 use Rattle.rank_node.specs.Collectives.{AreSoundTogether, StandTogether, IsMine, IsPendingFor}
 use Rattle.rank_node.specs.Lending.{IsGroupNode, LendsFor, AreLentFor, behind}
 use Rattle.rank_node.specs.Values.{PostsValue}
@@ -34,8 +34,8 @@ pub lent-missing : (s : State) (call : Call) (own : Node) (peer : Option Node) (
 lent-missing s call own peer o is lends = subst (λ (x : Option (MutBor GroupNode)). LendsFor s call own peer (behind x)) is lends
 
 -- the group's node that is lent
-lent-for : (s : State) (id : ℕ) (call : Call) (own : Node) (peer : Option Node) (n : GroupNode) → (row_of call).group ≡ Some id → LendsFor s call own peer (Some n) → LendsGroup s own.posts.me id (row_of call).touch own peer n
-lent-for s id call own peer n named lends = lends-group s own.posts.me id (row_of call).touch own peer n (collective-touch call id named) lends
+lent-for : (s : State) (id : ℕ) (call : Call) (own : Node) (peer : Option Node) (n : GroupNode) → (row_of call).group ≡ Some id → LendsFor s call own peer (Some n) → LendsGroup s own.posts.me id (row_of call).footprint own peer n
+lent-for s id call own peer n named lends = lends-group s own.posts.me id (row_of call).footprint own peer n (collective-footprint call id named) lends
 
 pub lent-within : (s : State) (id : ℕ) (call : Call) (own : Node) (peer : Option Node) (n : GroupNode) → (row_of call).group ≡ Some id → LendsFor s call own peer (Some n) → id < 8
 lent-within s id call own peer n named lends = (lent-for s id call own peer n named lends).within
@@ -48,7 +48,7 @@ lent-stand s id call own peer n sound named lends =
 
 -- none is lent
 pub lent-over : (s : State) (id : ℕ) (call : Call) (own : Node) (peer : Option Node) → (row_of call).group ≡ Some id → LendsFor s call own peer None → 8 ≤ id
-lent-over s id call own peer named lends = (lends-no-group s own.posts.me id (row_of call).touch own peer (collective-touch call id named) lends).over
+lent-over s id call own peer named lends = (lends-no-group s own.posts.me id (row_of call).footprint own peer (collective-footprint call id named) lends).over
 
 -- the answer of the state
 answered-there : (s : State) (me id thread : ℕ) (posts : Posts) (g : Group) (call : Call) → id < 8 → slice_get s.posts me ≡ Some posts → slice_get s.groups id ≡ Some g → (row_of call).group ≡ Some id
@@ -120,13 +120,13 @@ waiting-own s rank call own peer n thread id sound is waits lends =
     (stand.group, subst (λ (r : ℕ). IsMine stand.group n r call) (sym is) (waiting-mine own.posts thread id stand.group n call stand.sound stand.is waits))
 
 pub waiting-found : (s : State) (rank : ℕ) (call : Call) (own : Node) (peer : Option Node) (n : GroupNode) (thread id : ℕ) (found : Ready) → IsSound s → rank ≡ own.posts.me → IsPendingFor own.posts thread id call
-    → LendsFor s call own peer (Some n) → ((g : Group) → IsMine g n rank call → found ≡ resumed_finds g rank call) → answer_in s own.posts.me thread call ≡ Some found
+    → LendsFor s call own peer (Some n) → ((g : Group) → IsMine g n rank call → found ≡ resumed_answer g rank call) → answer_in s own.posts.me thread call ≡ Some found
 waiting-found s rank call own peer n thread id found sound is waits lends finds =
     let named = waiting-named own.posts thread id call waits in
     let lent = lent-for s id call own peer n named lends in
     let group = lent.group_node in
     let together = together-in s own.posts.me id own.posts.posts group.group sound lent.own_node.posts.posts group.there in
     let mine = waiting-mine own.posts thread id group.group n call together group.stands waits in
-    let here : found ≡ resumed_finds group.group rank call = finds group.group (subst (λ (r : ℕ). IsMine group.group n r call) (sym is) mine) in
+    let here : found ≡ resumed_answer group.group rank call = finds group.group (subst (λ (r : ℕ). IsMine group.group n r call) (sym is) mine) in
     answered-there s own.posts.me id thread own.posts.posts group.group call lent.within lent.own_node.posts.posts group.there named
-    ∙ ap (λ (y : Ready). Some y) (waiting-answer own.posts thread id group.group call together waits ∙ ap (λ (r : ℕ). resumed_finds group.group r call) (sym is) ∙ sym here)
+    ∙ ap (λ (y : Ready). Some y) (waiting-answer own.posts thread id group.group call together waits ∙ ap (λ (r : ℕ). resumed_answer group.group r call) (sym is) ∙ sym here)

@@ -2,17 +2,17 @@
 use Rattle.std.proofs.Common.{◌≡◌, ℕ, Option, None, Some, refl, sym, ap, ◌∙◌, subst}
 use Rattle.std.specs.List.{slice_get}
 use Rattle.std.specs.Option.{IfSome}
-use Rattle.gaspi_types.specs.Touches.{take_touch}
+use Rattle.gaspi_types.specs.Footprints.{take_footprint}
 use Rattle.gaspi_types.specs.declared.entries.Entry.{Entry}
 use Rattle.gaspi_types.specs.declared.events.Outcome.{Outcome}
 use Rattle.gaspi_types.specs.declared.events.Transfer.{Transfer}
 use Rattle.gaspi_model.specs.Changes.{take_rank}
 use Rattle.gaspi_model.specs.Posting.{counted}
-use Rattle.gaspi_model.specs.Step.{event_reach}
-use Rattle.gaspi_model.specs.Transfers.{entry_in, taken_bytes, take_outcome}
+use Rattle.gaspi_model.specs.Step.{event_footprint}
+use Rattle.gaspi_model.specs.Transfers.{entry_in, source_bytes, take_outcome}
 use Rattle.gaspi_model.specs.declared.states.State.{State}
-use Rattle.post_queue.specs.LanesStates.{next_take}
-use Rattle.post_queue.specs.Places.{posted_place, first_posted}
+use Rattle.post_queue.specs.LanesStates.{front_posted_of}
+use Rattle.post_queue.specs.Places.{posted_position, first_posted}
 use Rattle.rank_node.specs.Lending.{IsStepOn, IsLeft, footprint_peer, footprint_group}
 use Rattle.rank_node.specs.TransferSteps.{chosen_in, IsFirstPosted, MayTake, lent_memory}
 use Rattle.rank_node.specs.Transfers.{MayTakeFrom, lanes_of, take_of, posts_taken, recorded}
@@ -20,8 +20,8 @@ use Rattle.rank_node.specs.Values.{PostsValue}
 use Rattle.rank_node.specs.declared.nodes.Node.{Node}
 use Rattle.rank_node.specs.declared.nodes.GroupNode.{GroupNode}
 use Rattle.gaspi_types.proofs.Items.{slice_get-set_same}
-use Rattle.gaspi_model.proofs.Made.{take_reach}
-use Rattle.gaspi_model.proofs.Worked.{sound-take}
+use Rattle.gaspi_model.proofs.Made.{take-footprint}
+use Rattle.gaspi_model.proofs.OnPostsAndMemory.{sound-take}
 use Rattle.rank_node.proofs.LentParts.{IsFoundAs, found-as, footprint-as, peer-some, peer-none, peer-stays, take-some, take-none, take-no_group, group-none, group-stays}
 use Rattle.rank_node.proofs.NextEntries.{if-there, some-and}
 use Rattle.rank_node.proofs.Takes.{IsTakeLeft, take-node}
@@ -34,20 +34,20 @@ found : (s after : State) (outcome : Outcome) (own : Node) (peer : Option Node) 
 found s after outcome own peer group t w f =
     let made = sound-take s after t.origin t.queue t.target t.number outcome w.sound w.is_step in
     let e = entry-of own.posts t f in
-    found-as s own.posts t made.0 made.3 posted_place e.0 w.sound w.lends.own_node.posts made.4.posts_there made.4.is.is e.1 e.2
+    found-as s own.posts t made.0 made.3 posted_position e.0 w.sound w.lends.own_node.posts made.4.posts_there made.4.is.is e.1 e.2
 
 take-peer : (s after : State) (outcome : Outcome) (own : Node) (peer : Option Node) (group : Option GroupNode) (t : Transfer) (w : IsStepOn s after (take_of t outcome) own peer group) (f : IsFirstPosted own.posts t)
-    → footprint_peer (event_reach s.limits own.posts.posts (take_of t outcome)) ≡ footprint_peer (take_reach s.limits.ranks t.origin t.target (entry-of own.posts t f).0.kind)
-take-peer s after outcome own peer group t w f = ap footprint_peer (footprint-as s own.posts t (entry-of own.posts t f).0 (found s after outcome own peer group t w f) take_touch)
+    → footprint_peer (event_footprint s.limits own.posts.posts (take_of t outcome)) ≡ footprint_peer (take-footprint s.limits.ranks t.origin t.target (entry-of own.posts t f).0.kind)
+take-peer s after outcome own peer group t w f = ap footprint_peer (footprint-as s own.posts t (entry-of own.posts t f).0 (found s after outcome own peer group t w f) take_footprint)
 
 take-memory : (s after : State) (outcome : Outcome) (own : Node) (peer : Option Node) (group : Option GroupNode) (t : Transfer) (w : IsStepOn s after (take_of t outcome) own peer group) (f : IsFirstPosted own.posts t)
     → slice_get s.memories (take_rank t.origin t.target (entry-of own.posts t f).0.kind) ≡ Some (lent_memory own peer)
 take-memory s after outcome own None group t w f =
-    let none = sym (take-peer s after outcome own None group t w f) ∙ peer-none s t.origin (footprint_peer (event_reach s.limits own.posts.posts (take_of t outcome))) w.lends.peer_node in
+    let none = sym (take-peer s after outcome own None group t w f) ∙ peer-none s t.origin (footprint_peer (event_footprint s.limits own.posts.posts (take_of t outcome))) w.lends.peer_node in
     let rank = take-none s.limits.ranks t.origin t.target (entry-of own.posts t f).0.kind (found s after outcome own None group t w f).ranked none in
     ap (slice_get s.memories) rank ∙ w.lends.own_node.memory.memory
 take-memory s after outcome own (Some peer) group t w f =
-    let theirs = peer-some s t.origin (footprint_peer (event_reach s.limits own.posts.posts (take_of t outcome))) peer w.lends.peer_node in
+    let theirs = peer-some s t.origin (footprint_peer (event_footprint s.limits own.posts.posts (take_of t outcome))) peer w.lends.peer_node in
     let rank = take-some s.limits.ranks t.origin t.target theirs.0 (entry-of own.posts t f).0.kind (sym (take-peer s after outcome own (Some peer) group t w f) ∙ theirs.1) in
     ap (slice_get s.memories) rank ∙ theirs.2.node.memory.memory
 
@@ -62,16 +62,16 @@ take-can own peer group t (s, after, outcome, w, f) = (take-made s after outcome
 
 -- the posts of the origin after it
 pub take-left : (s after : State) (outcome : Outcome) (own : Node) (posts' : PostsValue) (peer : Option Node) (group : Option GroupNode) (place : ℕ) (t : Transfer) → IsStepOn s after (take_of t outcome) own peer group → IsFirstPosted own.posts t
-    → IfSome (next_take (lanes_of own.posts) t.queue t.target) (λ (e : Entry).
-    posts' ≡ recorded own.posts (posts_taken own.posts.posts t.queue t.target (taken_bytes (lent_memory own peer) e.kind) (take_outcome (lent_memory own peer) e.kind)) place (take_of t (take_outcome (lent_memory own peer) e.kind)))
+    → IfSome (front_posted_of (lanes_of own.posts) t.queue t.target) (λ (e : Entry).
+    posts' ≡ recorded own.posts (posts_taken own.posts.posts t.queue t.target (source_bytes (lent_memory own peer) e.kind) (take_outcome (lent_memory own peer) e.kind)) place (take_of t (take_outcome (lent_memory own peer) e.kind)))
     → IsLeft s after (take_of t outcome) place own (record own { posts = posts' }) peer peer group
 take-left s after outcome own posts' peer group place t w f new =
     let at = take-made s after outcome own peer group t w f in
     let e = (entry-of own.posts t f).0 in
     let source = lent_memory own peer in
-    let posts = counted (posts_taken own.posts.posts t.queue t.target (taken_bytes source e.kind) (take_outcome source e.kind)) in
-    let is = if-there (next_take (lanes_of own.posts) t.queue t.target) e
-    (λ (e : Entry). posts' ≡ recorded own.posts (posts_taken own.posts.posts t.queue t.target (taken_bytes source e.kind) (take_outcome source e.kind)) place (take_of t (take_outcome source e.kind))) at.next new in
+    let posts = counted (posts_taken own.posts.posts t.queue t.target (source_bytes source e.kind) (take_outcome source e.kind)) in
+    let is = if-there (front_posted_of (lanes_of own.posts) t.queue t.target) e
+    (λ (e : Entry). posts' ≡ recorded own.posts (posts_taken own.posts.posts t.queue t.target (source_bytes source e.kind) (take_outcome source e.kind)) place (take_of t (take_outcome source e.kind))) at.next new in
     rw is record {
       lends = record {
         own_node = record {
@@ -85,8 +85,8 @@ take-left s after outcome own posts' peer group place t w f new =
             memory = ap (λ (x : State). slice_get x.memories t.origin) at.leaves ∙ w.lends.own_node.memory.memory;
           };
         };
-        peer_node = peer-stays s after t.origin posts (footprint_peer (event_reach s.limits own.posts.posts (take_of t outcome))) peer at.leaves w.lends.peer_node;
-        group_node = group-stays s after (footprint_group (event_reach s.limits own.posts.posts (take_of t outcome))) group (ap (λ (x : State). x.groups) at.leaves) w.lends.group_node;
+        peer_node = peer-stays s after t.origin posts (footprint_peer (event_footprint s.limits own.posts.posts (take_of t outcome))) peer at.leaves w.lends.peer_node;
+        group_node = group-stays s after (footprint_group (event_footprint s.limits own.posts.posts (take_of t outcome))) group (ap (λ (x : State). x.groups) at.leaves) w.lends.group_node;
       };
       journal = rw (← at.ends) refl;
       peer_journal = refl;
@@ -94,7 +94,7 @@ take-left s after outcome own posts' peer group place t w f new =
 
 -- how it ends
 pub take-ends : (s after : State) (outcome : Outcome) (own : Node) (peer : Option Node) (group : Option GroupNode) (t : Transfer) (e : Entry) → IsStepOn s after (take_of t outcome) own peer group → IsFirstPosted own.posts t
-    → next_take (lanes_of own.posts) t.queue t.target ≡ Some e → take_outcome (lent_memory own peer) e.kind ≡ outcome
+    → front_posted_of (lanes_of own.posts) t.queue t.target ≡ Some e → take_outcome (lent_memory own peer) e.kind ≡ outcome
 take-ends s after outcome own peer group t e w f next =
     let at = take-made s after outcome own peer group t w f in
     let same : ◌≡◌ {A = Option Entry} (Some (entry-of own.posts t f).0) (Some e) = sym at.next ∙ next in
@@ -104,7 +104,7 @@ take-ends s after outcome own peer group t e w f next =
 -- no group is lent for it
 pub take-ungrouped : (s after : State) (outcome : Outcome) (own : Node) (peer : Option Node) (group : Option GroupNode) (t : Transfer) → IsStepOn s after (take_of t outcome) own peer group → group ≡ None
 take-ungrouped s after outcome own peer group t w =
-    group-none s (footprint_group (event_reach s.limits own.posts.posts (take_of t outcome))) group
+    group-none s (footprint_group (event_footprint s.limits own.posts.posts (take_of t outcome))) group
     (take-no_group s.limits.ranks t.origin t.target (entry_in own.posts.posts t.queue t.target t.number)) w.lends.group_node
 
 pub take-single : (own : Node) (peer : Option Node) (group : Option GroupNode) (t : Transfer) → MayTake own peer group t → MayTake own peer None t

@@ -1,7 +1,7 @@
 -- What a look at a collective meets.
 use Rattle.std.proofs.Common.{◌≡◌, ℕ, ◌≤◌, length, true, false, Some, Ok, arith}
 use Rattle.gaspi_types.specs.Collectives.{resume}
-use Rattle.gaspi_types.specs.Tables.{entry_at}
+use Rattle.gaspi_types.specs.Tables.{item_at}
 use Rattle.gaspi_types.specs.declared.calls.Call.{Call}
 use Rattle.gaspi_types.specs.declared.groups.Args.{Args}
 use Rattle.gaspi_types.specs.declared.groups.Group.{Group}
@@ -12,11 +12,11 @@ use Rattle.gaspi_types.proofs.Chains.{bind_then}
 use Rattle.gaspi_types.proofs.Items.{joined}
 use Rattle.std.proofs.lemmas.Option.{slice_get_within}
 use Rattle.gaspi_model.proofs.Sound.Completions.{staged-there}
-use Rattle.collective_engine.specs.Turns.{may_join}
+use Rattle.collective_engine.specs.RoundBuffers.{may_join}
 use Rattle.gaspi_model.specs.CollectiveCalls.{element_checks, args_of}
 use Rattle.gaspi_model.specs.declared.states.Posts.{Posts}
 use Rattle.gaspi_model.proofs.CollectiveFinds.{fresh}
-use Rattle.plain_calls.specs.Turns.{called_on}
+use Rattle.plain_calls.specs.Rounds.{called_on}
 use Rattle.rank_node.specs.Collectives.{AreSoundTogether, is_commit}
 use Rattle.rank_node.specs.Lending.{IsGroupNode}
 use Rattle.rank_node.specs.declared.nodes.GroupNode.{GroupNode}
@@ -24,10 +24,10 @@ use Rattle.rank_node.proofs.Joinable.{fresh-joins}
 
 -- one that is new may join
 pub new-joins : (posts : Posts) (me thread id : ℕ) (g : Group) (n : GroupNode) (call : Call) (h : Handle) (a : Args) → AreSoundTogether posts me id g → IsGroupNode g n → called_on posts.groups me id call ≡ Ok h
-    → resume (entry_at posts.pending id) thread (args_of h.members call) ≡ Ok Fresh → args_of h.members call ≡ Some a → is_commit a.coll ≡ false → may_join n.rounds me a.coll ≡ true
+    → resume (item_at posts.pending id) thread (args_of h.members call) ≡ Ok Fresh → args_of h.members call ≡ Some a → is_commit a.coll ≡ false → may_join n.rounds me a.coll ≡ true
 new-joins posts me thread id g n call h a meets is called new asked plain =
     bind_then (element_checks call) _ h called (λ u elements staged.
-    fresh-joins posts me id g n.rounds call h a meets is.rounds staged (fresh (entry_at posts.pending id) thread (args_of h.members call) new) asked plain)
+    fresh-joins posts me id g n.rounds call h a meets is.rounds staged (fresh (item_at posts.pending id) thread (args_of h.members call) new) asked plain)
 
 -- a group whose number is over 7 is not there
 pub nowhere : (groups : Handles) (me id : ℕ) (call : Call) (h : Handle) → length groups.table ≡ 8 → 8 ≤ id → called_on groups me id call ≡ Ok h → ⊥

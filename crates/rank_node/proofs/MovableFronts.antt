@@ -18,7 +18,7 @@ use Rattle.gaspi_model.specs.Transfers.{transfers}
 use Rattle.gaspi_model.specs.declared.states.State.{State}
 use Rattle.post_queue.specs.MovableLanes.{is_nonempty_lane, is_movable_to, is_movable_lane}
 use Rattle.post_queue.specs.Places.{first_carried}
-use Rattle.post_queue.specs.Steps.{lane_take, take_in, put_in}
+use Rattle.post_queue.specs.Steps.{lane_front_posted, front_posted_in, front_carried_in}
 use Rattle.rank_node.specs.Fronts.{front_of}
 use Rattle.rank_node.specs.Lending.{IsPostsOf}
 use Rattle.rank_node.specs.Values.{PostsValue}
@@ -118,27 +118,27 @@ empty-lane choose None empty none = refl
 empty-lane choose (Some []) empty none = empty
 empty-lane choose (Some (e ∷ lane)) empty none = absurd (let no : ⊥ = cc in no)
 
-unmovable-put : (target : ℕ) (o : Option Queue) → is_movable_to o target ≡ false → option_and_then (put_in target) o ≡ None
+unmovable-put : (target : ℕ) (o : Option Queue) → is_movable_to o target ≡ false → option_and_then (front_carried_in target) o ≡ None
 unmovable-put target None none = refl
 unmovable-put target (Some q) none = go (is_none q.broken) refl none
   where
-    go : (b : Bool) → is_none q.broken ≡ b → (b && is_nonempty_lane (slice_get q.lanes target)) ≡ false → put_in target q ≡ None
+    go : (b : Bool) → is_none q.broken ≡ b → (b && is_nonempty_lane (slice_get q.lanes target)) ≡ false → front_carried_in target q ≡ None
     go true whole none = rw whole (empty-lane first_carried (slice_get q.lanes target) refl none)
     go false broken none = rw broken refl
 
-empty-take : (depth : ℕ) → lane_take depth [] ≡ None
+empty-take : (depth : ℕ) → lane_front_posted depth [] ≡ None
 empty-take depth = go (nat_lt (carried_count []) depth) refl
   where
-    go : (b : Bool) → nat_lt (carried_count []) depth ≡ b → lane_take depth [] ≡ None
+    go : (b : Bool) → nat_lt (carried_count []) depth ≡ b → lane_front_posted depth [] ≡ None
     go true room = rw room refl
     go false full = rw full refl
 
-unmovable-take : (depth target : ℕ) (o : Option Queue) → is_movable_to o target ≡ false → option_and_then (take_in depth target) o ≡ None
+unmovable-take : (depth target : ℕ) (o : Option Queue) → is_movable_to o target ≡ false → option_and_then (front_posted_in depth target) o ≡ None
 unmovable-take depth target None none = refl
 unmovable-take depth target (Some q) none = go (is_none q.broken) refl none
   where
-    go : (b : Bool) → is_none q.broken ≡ b → (b && is_nonempty_lane (slice_get q.lanes target)) ≡ false → take_in depth target q ≡ None
-    go true whole none = rw whole (empty-lane (lane_take depth) (slice_get q.lanes target) (empty-take depth) none)
+    go : (b : Bool) → is_none q.broken ≡ b → (b && is_nonempty_lane (slice_get q.lanes target)) ≡ false → front_posted_in depth target q ≡ None
+    go true whole none = rw whole (empty-lane (lane_front_posted depth) (slice_get q.lanes target) (empty-take depth) none)
     go false broken none = rw broken refl
 
 pub unmovable-front : (p : PostsValue) (queue target : ℕ) → is_movable_lane p.posts.queues queue target ≡ false → front_of p queue target ≡ None

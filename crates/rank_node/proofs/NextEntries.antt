@@ -2,18 +2,18 @@
 use Rattle.std.proofs.Common.{◌≡◌, ℕ, ◌+◌, ◌<◌, true, nat_lt, List, Option, None, Some, refl, sym, ap, ◌∙◌, subst, arith, is_none}
 use Rattle.std.specs.List.{slice_get}
 use Rattle.std.specs.Option.{option_and_then, IfSome, IsSomeAnd}
-use Rattle.gaspi_types.specs.Lanes.{is_posted, carried_count, may_take, place_of}
+use Rattle.gaspi_types.specs.Lanes.{is_posted, carried_count, may_take, position_of}
 use Rattle.gaspi_types.specs.declared.entries.Entry.{Entry}
 use Rattle.gaspi_types.specs.declared.entries.Queue.{Queue}
 use Rattle.gaspi_types.specs.declared.events.Outcome.{Outcome}
 use Rattle.gaspi_types.specs.declared.events.Outcome.TheVariants.{Applied, Failed}
 use Rattle.gaspi_types.specs.declared.shapes.Limits.{Limits}
 use Rattle.gaspi_model.specs.Sound.{IsSound, AreRising}
-use Rattle.gaspi_model.specs.Transfers.{Found, same_outcome}
+use Rattle.gaspi_model.specs.Transfers.{EntryPosition, same_outcome}
 use Rattle.gaspi_model.specs.declared.states.Posts.{Posts}
 use Rattle.gaspi_model.specs.declared.states.State.{State}
 use Rattle.post_queue.specs.Places.{first_posted, first_carried}
-use Rattle.post_queue.specs.Steps.{take_in, put_in, head_in}
+use Rattle.post_queue.specs.Steps.{front_posted_in, front_carried_in, head_in}
 use Rattle.rank_node.specs.Values.{PostsValue}
 use Rattle.gaspi_types.proofs.Chains.{both}
 use Rattle.gaspi_model.proofs.FoundEntries.{IsFound}
@@ -37,28 +37,28 @@ same-outcomes Applied Failed h = absurd (let no : ⊥ = cc in no)
 same-outcomes Failed Applied h = absurd (let no : ⊥ = cc in no)
 
 -- the place of the entry that a lane has at a place
-pub placed : (next number : ℕ) (lane : List Entry) (place there : ℕ) (e : Entry) → AreRising next lane → place_of lane number ≡ Some place → slice_get lane there ≡ Some e → e.number ≡ number → place ≡ there
+pub placed : (next number : ℕ) (lane : List Entry) (place there : ℕ) (e : Entry) → AreRising next lane → position_of lane number ≡ Some place → slice_get lane there ≡ Some e → e.number ≡ number → place ≡ there
 placed next number lane place there e rising numbered at same =
-    same-some (place_of lane number) place there numbered (subst (λ (k : ℕ). place_of lane k ≡ Some there) same (place_of-rising next lane there e rising at))
+    same-some (position_of lane number) place there numbered (subst (λ (k : ℕ). position_of lane k ≡ Some there) same (place_of-rising next lane there e rising at))
 
 -- an entry of a lane by a choice
 abbrev pub chosen : (List Entry → Option Entry) → Posts → ℕ → ℕ → Option Entry
 chosen choose posts queue target = option_and_then (λ (q : Queue). option_and_then choose (slice_get q.lanes target)) (slice_get posts.queues queue)
 
-pub chosen-found : (choose : List Entry → Option Entry) (posts : Posts) (queue target number : ℕ) (at : Found) → IsFound posts queue target number at → chosen choose posts queue target ≡ choose at.lane
+pub chosen-found : (choose : List Entry → Option Entry) (posts : Posts) (queue target number : ℕ) (at : EntryPosition) → IsFound posts queue target number at → chosen choose posts queue target ≡ choose at.lane
 chosen-found choose posts queue target number at is = rw (is.in_posts, is.in_queue) refl
 
-pub take-next : (limits : Limits) (posts : Posts) (queue target number : ℕ) (at : Found) → IsFound posts queue target number at → is_none at.queue.broken ≡ true
-    → may_take limits.depth at.lane at.entry ≡ true → first_posted at.lane ≡ Some at.entry → option_and_then (take_in limits.depth target) (slice_get posts.queues queue) ≡ Some at.entry
+pub take-next : (limits : Limits) (posts : Posts) (queue target number : ℕ) (at : EntryPosition) → IsFound posts queue target number at → is_none at.queue.broken ≡ true
+    → may_take limits.depth at.lane at.entry ≡ true → first_posted at.lane ≡ Some at.entry → option_and_then (front_posted_in limits.depth target) (slice_get posts.queues queue) ≡ Some at.entry
 take-next limits posts queue target number at is whole permitted first =
     let room = (both (is_posted at.entry) (nat_lt (carried_count at.lane) limits.depth) permitted).1 in
     rw (is.in_posts, whole, is.in_queue, room, first) refl
 
-pub put-next : (posts : Posts) (queue target number : ℕ) (at : Found) → IsFound posts queue target number at → is_none at.queue.broken ≡ true
-    → first_carried at.lane ≡ Some at.entry → option_and_then (put_in target) (slice_get posts.queues queue) ≡ Some at.entry
+pub put-next : (posts : Posts) (queue target number : ℕ) (at : EntryPosition) → IsFound posts queue target number at → is_none at.queue.broken ≡ true
+    → first_carried at.lane ≡ Some at.entry → option_and_then (front_carried_in target) (slice_get posts.queues queue) ≡ Some at.entry
 put-next posts queue target number at is whole first = rw (is.in_posts, whole, is.in_queue, first) refl
 
-pub head-found : (posts : Posts) (queue target number : ℕ) (at : Found) → IsFound posts queue target number at → option_and_then (head_in target) (slice_get posts.queues queue) ≡ slice_get at.lane 0
+pub head-found : (posts : Posts) (queue target number : ℕ) (at : EntryPosition) → IsFound posts queue target number at → option_and_then (head_in target) (slice_get posts.queues queue) ≡ slice_get at.lane 0
 head-found posts queue target number at is = rw (is.in_posts, is.in_queue) refl
 
 -- an event that is a step has room

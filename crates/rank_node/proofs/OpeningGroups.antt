@@ -5,26 +5,26 @@ use Rattle.std.specs.List.{slice_get, range_with_len}
 use Rattle.std.specs.Option.{option_map}
 use Rattle.std.proofs.lemmas.Bool.{eqb-true}
 use Rattle.std.proofs.lemmas.Option.{slice_get-map}
-use Rattle.gaspi_types.specs.Collectives.{part_of, no_part}
+use Rattle.gaspi_types.specs.Collectives.{contributions_of, no_contributions}
 use Rattle.gaspi_types.specs.Groups.{fix_checks}
 use Rattle.gaspi_types.specs.Masks.{all_below}
 use Rattle.gaspi_types.specs.declared.groups.Group.{Group}
-use Rattle.gaspi_types.specs.declared.groups.Part.{Part}
+use Rattle.gaspi_types.specs.declared.groups.RankContributions.{RankContributions}
 use Rattle.gaspi_types.specs.declared.replies.Refusal.{Refusal}
 use Rattle.gaspi_types.proofs.Items.{slice_get-replicate}
-use Rattle.collective_engine.specs.Turns.{StandsFor, IsOpening}
-use Rattle.gaspi_types.specs.World.{World}
+use Rattle.collective_engine.specs.RoundBuffers.{StandsFor, IsOpening}
+use Rattle.gaspi_types.specs.World.{ShapeValue}
 use Rattle.gaspi_model.specs.State.{opening, opening_posts, opening_memory, opening_part, opening_group}
-use Rattle.gaspi_model.proofs.Sound.Turns.{in-range}
+use Rattle.gaspi_model.proofs.Sound.Rounds.{in-range}
 use Rattle.rank_node.specs.Lending.{IsPostsOf, IsMemoryOf, IsGroupNode, IsGroupOf}
 use Rattle.rank_node.specs.Values.{PostsValue, MemoryValue}
 use Rattle.rank_node.specs.declared.nodes.GroupNode.{GroupNode}
 
 -- no rank has joined a group at the start
-opening-part : (n : ℕ) (rank : ℕ) (members : Option ℕ) → part_of (record { members = members; parts = replicate n opening_part }) rank ≡ no_part
-opening-part n rank members = go (slice_get (replicate n opening_part) rank) refl
+opening-contributions : (n : ℕ) (rank : ℕ) (members : Option ℕ) → contributions_of (record { members = members; contributions = replicate n opening_part }) rank ≡ no_contributions
+opening-contributions n rank members = go (slice_get (replicate n opening_part) rank) refl
   where
-    go : (o : Option Part) → slice_get (replicate n opening_part) rank ≡ o → part_of (record { members = members; parts = replicate n opening_part }) rank ≡ no_part
+    go : (o : Option RankContributions) → slice_get (replicate n opening_part) rank ≡ o → contributions_of (record { members = members; contributions = replicate n opening_part }) rank ≡ no_contributions
     go None at = rw at refl
     go (Some part) at = let same = slice_get-replicate n opening_part part rank at in rw (at, same) refl
 
@@ -32,7 +32,7 @@ opening-is : (ranks id : ℕ) (n : GroupNode) (members : Option ℕ) → (openin
     → IsGroupNode (opening_group ranks id) n
 opening-is ranks id n members fixed met stands = record {
   meeting = met ∙ sym fixed;
-  rounds = stands (opening_group ranks id) (record { members_are = fixed; parts = λ rank. opening-part ranks rank (opening_group ranks id).members });
+  rounds = stands (opening_group ranks id) (record { members_are = fixed; parts = λ rank. opening-contributions ranks rank (opening_group ranks id).members });
 }
 
 pub opening-all : (ranks id : ℕ) (n : GroupNode) (members : Option ℕ) (number : ℕ) → number ≡ id → number ≡ 0 → members ≡ Some (all_below ranks) → n.meeting ≡ Some (all_below ranks)
@@ -61,11 +61,11 @@ first-fixed old new mask r none is fixed = go r (is ∙ (let first : fix_checks 
 numbered : {A : Type 0} (f : ℕ → A) (count k : ℕ) → k < count → slice_get (map f (range_with_len 0 count)) k ≡ Some (f k)
 numbered f count k less = let zero : 0 + k ≡ k = omega arith in slice_get-map f (range_with_len 0 count) k ∙ ap (option_map f) (in-range 0 count k less) ∙ ap (λ (n : ℕ). Some (f n)) zero
 
-pub opening-posts-of : (w : World) (rank : ℕ) (p : PostsValue) → rank < w.limits.ranks → p.limits ≡ w.limits → p.me ≡ rank → p.posts ≡ opening_posts w rank → IsPostsOf (opening w) rank p
+pub opening-posts-of : (w : ShapeValue) (rank : ℕ) (p : PostsValue) → rank < w.limits.ranks → p.limits ≡ w.limits → p.me ≡ rank → p.posts ≡ opening_posts w rank → IsPostsOf (opening w) rank p
 opening-posts-of w rank p below limits me posts = record { limits = limits; me = me; posts = numbered (opening_posts w) w.limits.ranks rank below ∙ ap Some (sym posts) }
 
-pub opening-memory-of : (w : World) (rank : ℕ) (m : MemoryValue) → rank < w.limits.ranks → m.capacity ≡ w.limits.inbox → m.memory ≡ opening_memory w rank → IsMemoryOf (opening w) rank m
+pub opening-memory-of : (w : ShapeValue) (rank : ℕ) (m : MemoryValue) → rank < w.limits.ranks → m.capacity ≡ w.limits.inbox → m.memory ≡ opening_memory w rank → IsMemoryOf (opening w) rank m
 opening-memory-of w rank m below capacity memory = record { capacity = capacity; memory = numbered (opening_memory w) w.limits.ranks rank below ∙ ap Some (sym memory) }
 
-pub opening-group-of : (w : World) (id : ℕ) (n : GroupNode) → id < 8 → IsGroupNode (opening_group w.limits.ranks id) n → IsGroupOf (opening w) id n
+pub opening-group-of : (w : ShapeValue) (id : ℕ) (n : GroupNode) → id < 8 → IsGroupNode (opening_group w.limits.ranks id) n → IsGroupOf (opening w) id n
 opening-group-of w id n below stands = record { group = opening_group w.limits.ranks id; there = numbered (opening_group w.limits.ranks) 8 id below; stands = stands }

@@ -1,11 +1,11 @@
 -- The posts of a rank and the node of a group at a collective. (GASPI: collectives)
 use Rattle.std.specs.Prelude.{◌≡◌, ℕ, ◌<◌, Bool, true, false, List, [], ◌∷◌, length, Option, None, Some, Ok, IsOk, if◌then◌else◌}
-use Rattle.gaspi_types.specs.Collectives.{part_of, given_in, turn_of, turn_checks, with_joined, is_turn_full}
+use Rattle.gaspi_types.specs.Collectives.{contributions_of, contribution_in, round_of, round_checks, with_joined, is_round_full}
 use Rattle.gaspi_types.specs.Groups.{handle_at, building_at}
 use Rattle.gaspi_types.specs.Masks.{is_member}
 use Rattle.gaspi_types.specs.Replies.{is_idle}
 use Rattle.gaspi_types.specs.SegmentTables as tables
-use Rattle.gaspi_types.specs.Tables.{entry_at}
+use Rattle.gaspi_types.specs.Tables.{item_at}
 use Rattle.gaspi_types.specs.declared.calls.Call.{Call}
 use Rattle.gaspi_types.specs.declared.calls.Call.TheVariants as calls
 use Rattle.gaspi_types.specs.declared.collectives.Coll.{Coll}
@@ -16,18 +16,18 @@ use Rattle.gaspi_types.specs.declared.groups.Contribution.{Contribution}
 use Rattle.gaspi_types.specs.declared.groups.Group.{Group}
 use Rattle.gaspi_types.specs.declared.groups.Handle.{Handle}
 use Rattle.gaspi_types.specs.declared.groups.Handles.{Handles}
-use Rattle.gaspi_types.specs.declared.groups.Made.{Made}
-use Rattle.gaspi_types.specs.declared.groups.Pending.{Pending}
+use Rattle.gaspi_types.specs.declared.groups.MemberSegment.{MemberSegment}
+use Rattle.gaspi_types.specs.declared.groups.PendingCollective.{PendingCollective}
 use Rattle.gaspi_types.specs.declared.replies.Reply.{Reply}
 use Rattle.gaspi_types.specs.declared.segments.SegmentTable.{SegmentTable}
 use Rattle.gaspi_model.specs.RoundRules.{coll_in}
 use Rattle.collective_engine.specs.Slots.{elements_of, TakesFold, HasItsValues}
-use Rattle.collective_engine.specs.Turns.{Turns, own_given, is_in, may_join}
-use Rattle.gaspi_model.specs.CollectiveCalls.{joining_call, meeting_checks, completed_posts}
-use Rattle.gaspi_model.specs.Contributions.{IsSoundGroup, IsSoundPart, HasBegun, IsResumable}
+use Rattle.collective_engine.specs.RoundBuffers.{RoundBuffers, own_contribution, is_in, may_join}
+use Rattle.gaspi_model.specs.CollectiveCalls.{joining_call, agreement_checks, completed_posts}
+use Rattle.gaspi_model.specs.Contributions.{IsSoundGroup, AreSoundContributions, HasBegun, IsResumable}
 use Rattle.gaspi_model.specs.State.{thread_at, is_running}
 use Rattle.gaspi_model.specs.declared.states.Posts.{Posts}
-use Rattle.plain_calls.specs.Room.{HasMakingRoom, HasTellingRoom}
+use Rattle.plain_calls.specs.NumberBounds.{JoinIsBounded, CompletionIsBounded}
 use Rattle.timeout_state.specs.Pendings.{IsOfThread}
 use Rattle.rank_node.specs.Lending.{IsGroupNode}
 use Rattle.rank_node.specs.Making.{made_segment}
@@ -38,14 +38,14 @@ use Rattle.rank_node.specs.declared.nodes.GroupNode.{GroupNode}
 -- What soundness says of a rank and a group.
 pub record AreSoundTogether (posts : Posts) (me id : ℕ) (g : Group) : Type 0 where
   pub few : posts.events < 4294967295
-  pub ranked : me < length g.parts
-  pub part : IsSoundPart posts.events (entry_at posts.pending id) (part_of g me)
-  pub group : IsSoundGroup (length g.parts) g
+  pub ranked : me < length g.contributions
+  pub part : AreSoundContributions posts.events (item_at posts.pending id) (contributions_of g me)
+  pub group : IsSoundGroup (length g.contributions) g
   pub committed : (h : Handle) → handle_at posts.groups id ≡ Some h → h.stage ≡ Committed → (g.members ≡ Some h.members) × (is_member h.members me ≡ true)
-  pub begun : HasBegun posts id (part_of g me).completed
-  pub first : (rank : ℕ) (c : Contribution) → (id ≡ 0 → ⊥) → given_in g 0 rank ≡ Some c → (mask : ℕ) × (c.args.coll ≡ Commit mask)
+  pub begun : HasBegun posts id (contributions_of g me).completed
+  pub first : (rank : ℕ) (c : Contribution) → (id ≡ 0 → ⊥) → contribution_in g 0 rank ≡ Some c → (mask : ℕ) × (c.args.coll ≡ Commit mask)
   pub all : (h : Handle) → handle_at posts.groups 0 ≡ Some h → h.stage ≡ Committed
-  pub resumable : (p : Pending) → entry_at posts.pending id ≡ Some p → IsResumable posts.groups me id p.args
+  pub resumable : (p : PendingCollective) → item_at posts.pending id ≡ Some p → IsResumable posts.groups me id p.args
 
 -- they are a rank's posts and a group's node, of one sound state
 pub record StandTogether (own : PostsValue) (id : ℕ) (n : GroupNode) : Type 0 where
@@ -63,7 +63,7 @@ is_commit (Commit mask) = true
 
 -- what a rank has given to its round is its allreduce
 abbrev pub GivesOwn : Group → ℕ → Call → Type 0
-GivesOwn g me (calls.Allreduce call) = coll_in (given_in g (turn_of g me) me) ≡ Some (Allreduce call.op call.values.num_type (length call.values.items))
+GivesOwn g me (calls.Allreduce call) = coll_in (contribution_in g (round_of g me) me) ≡ Some (Allreduce call.op call.values.num_type (length call.values.items))
 GivesOwn g me call = Unit {0}
 
 -- the rank is a member of a group that is fixed, and has joined its round with the call
@@ -75,15 +75,15 @@ pub record IsMine (g : Group) (n : GroupNode) (me : ℕ) (call : Call) : Type 0 
   pub own : GivesOwn g me call
 
 -- a list of so many places takes what the round of an allreduce comes to
-abbrev pub TakesOwn : Call → Turns → ℕ → ℕ → Type 0
-TakesOwn (calls.Allreduce call) t me places = TakesFold (elements_of (coll_in (own_given t me))) places
+abbrev pub TakesOwn : Call → RoundBuffers → ℕ → ℕ → Type 0
+TakesOwn (calls.Allreduce call) t me places = TakesFold (elements_of (coll_in (own_contribution t me))) places
 TakesOwn call t me places = Unit {0}
 
 -- a collective with that call is pending for a thread that has not ended
 pub record IsPendingFor (own : PostsValue) (thread id : ℕ) (call : Call) : Type 0 where
-  pub pending : Pending
+  pub pending : PendingCollective
   pub running : is_running (thread_at own.posts thread) ≡ true
-  pub there : entry_at own.posts.pending id ≡ Some pending
+  pub there : item_at own.posts.pending id ≡ Some pending
   pub mine : pending.thread ≡ thread
   pub same : joining_call id pending.args ≡ call
 
@@ -96,15 +96,15 @@ IsMadeFor own coll made = Unit {0}
 
 -- a collective may join
 pub record MayJoinHere (own : PostsValue) (n : GroupNode) (id : ℕ) (args : Args) : Type 0 where
-  pub none : entry_at own.posts.pending id ≡ None
-  pub bounded : HasMakingRoom own.posts args.coll
+  pub none : item_at own.posts.pending id ≡ None
+  pub bounded : JoinIsBounded own.posts args.coll
   pub may : may_join n.rounds own.me args.coll ≡ true
   pub values : HasItsValues args
 
 -- what a join leaves of a group's node: it stands for the group with the contribution
 abbrev pub AddsContribution : GroupNode → GroupNode → ℕ → Contribution → Type 0
 AddsContribution old new me c =
-    (g : Group) → IsGroupNode g old → me < length g.parts → meeting_checks g me c.args.coll ≡ Ok tt → turn_checks g me c.args.coll ≡ Ok tt → IsGroupNode (with_joined g me c) new
+    (g : Group) → IsGroupNode g old → me < length g.contributions → agreement_checks g me c.args.coll ≡ Ok tt → round_checks g me c.args.coll ≡ Ok tt → IsGroupNode (with_joined g me c) new
 
 -- Completions.
 
@@ -112,7 +112,7 @@ AddsContribution old new me c =
 pub record MayLeave (g : Group) (n : GroupNode) (me : ℕ) : Type 0 where
   pub is : IsGroupNode g n
   pub member : is_in g.members me ≡ true
-  pub full : is_turn_full g me ≡ true
+  pub full : is_round_full g me ≡ true
 
 -- a commit is of a group that is built yet
 abbrev pub IsBuiltYet : Handles → ℕ → Call → Type 0
@@ -122,13 +122,13 @@ IsBuiltYet groups id call = Unit {0}
 -- a collective of a thread may complete
 pub record MayComplete (own : PostsValue) (n : GroupNode) (thread id : ℕ) (call : Call) : Type 0 where
   pub built : IsBuiltYet own.posts.groups id call
-  pub bounded : HasTellingRoom call
-  pub pending : IsOfThread (entry_at own.posts.pending id) thread
+  pub bounded : CompletionIsBounded call
+  pub pending : IsOfThread (item_at own.posts.pending id) thread
   pub group : Group
   pub leaves : MayLeave group n own.me
 
 -- the segments of members known, in the generations in which they were made (segment_create)
-abbrev pub with_all_known : ℕ → ℕ → List Made → SegmentTable → SegmentTable
+abbrev pub with_all_known : ℕ → ℕ → List MemberSegment → SegmentTable → SegmentTable
 with_all_known seg size [] table = table
 with_all_known seg size (m ∷ made) table =
     with_all_known seg size made (tables.with_known m.rank seg (Some (record { generation = m.generation; size = size })) table)

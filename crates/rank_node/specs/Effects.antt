@@ -1,7 +1,7 @@
 -- When the effects of a call that is no collective may be made on a rank's posts and on the memory that the call works on, and what
 -- they leave.
 use Rattle.std.specs.Prelude.{◌≡◌, ℕ, ◌+◌, ◌<◌, ◌≤◌, ◌^◌, ◌++◌, ◌∷◌, [], true, List, length, Option, None, Some, Ok, IsOk, IsSome}
-use Rattle.gaspi_types.specs.Groups.{next_group, building_at, drop_checks}
+use Rattle.gaspi_types.specs.Groups.{next_group, building_at, delete_checks}
 use Rattle.gaspi_types.specs.Inboxes.{is_passive_size, has_room, first_within}
 use Rattle.gaspi_types.specs.declared.call_rows.Posting.{Posting}
 use Rattle.gaspi_types.specs.declared.calls.Call.{Call}
@@ -12,12 +12,12 @@ use Rattle.gaspi_types.specs.declared.inboxes.Message.{Message}
 use Rattle.gaspi_types.specs.declared.replies.Reply.{Reply}
 use Rattle.gaspi_types.specs.declared.replies.Reply.TheVariants.{Done}
 use Rattle.gaspi_types.specs.declared.shapes.CallerId.{CallerId}
-use Rattle.gaspi_model.specs.Calls.{call_asks, posts_after, memory_after}
-use Rattle.gaspi_model.specs.PostCalls.{asked_finds}
-use Rattle.gaspi_model.specs.QueueCalls.{wait_finds}
+use Rattle.gaspi_model.specs.Calls.{requested_kinds, posts_after, memory_after}
+use Rattle.gaspi_model.specs.PostCalls.{post_request_result}
+use Rattle.gaspi_model.specs.QueueCalls.{wait_result}
 use Rattle.gaspi_model.specs.declared.states.Posts.{Posts}
 use Rattle.gaspi_model.specs.declared.states.Memory.{Memory}
-use Rattle.plain_calls.specs.Room.{HasAllocRoom}
+use Rattle.plain_calls.specs.NumberBounds.{AllocIsBounded}
 use Rattle.rank_node.specs.Making.{made_segment}
 use Rattle.rank_node.specs.Values.{PostsValue, MemoryValue}
 use Rattle.rank_node.specs.declared.making.MadeSegment.{MadeSegment}
@@ -32,22 +32,22 @@ with_memory m memory = record m { memory = memory }
 -- entries may be posted to a lane: they are those that a call asks for, their queue takes them, and their numbers fit
 pub record MayPost (p : PostsValue) (to : Posting) (kinds : List Kind) : Type 0 where
   pub ranks : p.limits.ranks ≤ 16
-  pub finds : asked_finds p.limits p.posts to.rank to.queue (Ok kinds) ≡ Ok (Some Done)
+  pub finds : post_request_result p.limits p.posts to.rank to.queue (Ok kinds) ≡ Ok (Some Done)
   pub numbers : p.posts.next + length kinds < 2 ^ 32
 
 pub record MayPostOf (p : PostsValue) (to : Posting) (call : Call) (entries : Option (List Kind)) : Type 0 where
   pub kinds : List Kind
   pub there : entries ≡ Some kinds
-  pub asked : call_asks p.limits p.me p.posts call ≡ Ok kinds
+  pub asked : requested_kinds p.limits p.me p.posts call ≡ Ok kinds
   pub may : MayPost p to kinds
 
 -- what a call that posts nothing asks of the posts that it changes
 abbrev pub MayChangePosts : PostsValue → Call → Type 0
-MayChangePosts p (Alloc call) = HasAllocRoom p.posts call
-MayChangePosts p (Wait call) = wait_finds p.posts call ≡ Ok (Some Done)
+MayChangePosts p (Alloc call) = AllocIsBounded p.posts call
+MayChangePosts p (Wait call) = wait_result p.posts call ≡ Ok (Some Done)
 MayChangePosts p GroupCreate = IsOk (next_group p.posts.groups)
 MayChangePosts p (GroupAdd call) = (call.rank < 16) × IsOk (building_at p.posts.groups call.group)
-MayChangePosts p (GroupDelete call) = IsOk (drop_checks p.posts.groups call.group)
+MayChangePosts p (GroupDelete call) = IsOk (delete_checks p.posts.groups call.group)
 MayChangePosts p call = Unit {0}
 
 abbrev pub MayAffectPosts : PostsValue → Option Posting → Call → Option (List Kind) → Type 0

@@ -1,14 +1,14 @@
 -- The front of a lane: the transfer that comes next in it, first in first out. (GASPI: one-sided communication)
 use Rattle.std.specs.Prelude.{◌≡◌, ℕ, Bool, true, false, Option, None, Some, option_map, if◌then◌else◌}
-use Rattle.gaspi_types.specs.Touches.{reach_of, take_touch, put_touch}
+use Rattle.gaspi_types.specs.Footprints.{footprint_of, take_footprint, put_footprint}
 use Rattle.gaspi_types.specs.declared.entries.Entry.{Entry}
 use Rattle.gaspi_types.specs.declared.entries.Kind.{Kind}
 use Rattle.gaspi_types.specs.declared.events.Outcome.{Outcome}
 use Rattle.gaspi_types.specs.declared.events.Transfer.{Transfer}
-use Rattle.gaspi_types.specs.declared.touches.Reach.{Reach}
+use Rattle.gaspi_types.specs.declared.footprints.Footprint.{Footprint}
 use Rattle.gaspi_model.specs.Transfers.{take_outcome, put_outcome}
 use Rattle.gaspi_model.specs.declared.states.Memory.{Memory}
-use Rattle.post_queue.specs.LanesStates.{next_take, next_put, head_of}
+use Rattle.post_queue.specs.LanesStates.{front_posted_of, front_carried_of, head_of}
 use Rattle.rank_node.specs.Transfers.{lanes_of}
 use Rattle.rank_node.specs.Values.{PostsValue}
 
@@ -23,11 +23,11 @@ front_with origin queue target None (Some e) = Some (entry_transfer origin queue
 front_with origin queue target None None = None
 
 abbrev pub front_of : PostsValue → ℕ → ℕ → Option Transfer
-front_of p queue target = front_with p.me queue target (next_put (lanes_of p) queue target) (next_take (lanes_of p) queue target)
+front_of p queue target = front_with p.me queue target (front_carried_of (lanes_of p) queue target) (front_posted_of (lanes_of p) queue target)
 
 -- the entry of a transfer that is a front
 abbrev pub front_entry : PostsValue → Transfer → Option Entry
-front_entry p t = if t.put then next_put (lanes_of p) t.queue t.target else next_take (lanes_of p) t.queue t.target
+front_entry p t = if t.put then front_carried_of (lanes_of p) t.queue t.target else front_posted_of (lanes_of p) t.queue t.target
 
 -- A transfer is the front of its lane: of the entry that may be put next, which is the head of the lane, or of the one that may take
 -- its bytes next.
@@ -47,5 +47,5 @@ abbrev pub front_outcome : PostsValue → Memory → Transfer → Option Outcome
 front_outcome p memory t = option_map (λ (e : Entry). outcome_on memory t.put e.kind) (front_entry p t)
 
 -- the footprint of the transfer of an entry of that kind, in a world of so many ranks
-abbrev pub transfer_footprint : ℕ → Transfer → Kind → Reach
-transfer_footprint ranks t kind = reach_of ranks t.origin (if t.put then put_touch t.target kind else take_touch t.target kind)
+abbrev pub transfer_footprint : ℕ → Transfer → Kind → Footprint
+transfer_footprint ranks t kind = footprint_of ranks t.origin (if t.put then put_footprint t.target kind else take_footprint t.target kind)

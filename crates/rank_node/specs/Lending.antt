@@ -2,16 +2,16 @@
 use Rattle.std.specs.Prelude.{◌≡◌, ℕ, ◌==◌, false, Option, None, Some, Ok, List, ◌++◌, ◌∷◌, [], slice_get}
 use Rattle.std.specs.Borrow.{MutBor}
 use Rattle.gaspi_types.specs.CallRows.{row_of}
-use Rattle.gaspi_types.specs.Touches.{reach_of}
+use Rattle.gaspi_types.specs.Footprints.{footprint_of}
 use Rattle.gaspi_types.specs.declared.calls.Call.{Call}
 use Rattle.gaspi_types.specs.declared.events.Event.{Event}
 use Rattle.gaspi_types.specs.declared.groups.Group as groups
 use Rattle.gaspi_types.specs.declared.shapes.Limits.{Limits}
-use Rattle.gaspi_types.specs.declared.touches.Reach.{Reach}
-use Rattle.gaspi_types.specs.declared.touches.Reach.TheVariants.{Alone, OwnMemory, PeerMemory, BothMemories, PeerPosts, Group, GroupAndMemory}
-use Rattle.collective_engine.specs.Turns.{StandsFor}
+use Rattle.gaspi_types.specs.declared.footprints.Footprint.{Footprint}
+use Rattle.gaspi_types.specs.declared.footprints.Footprint.TheVariants.{Alone, OwnMemory, PeerMemory, BothMemories, PeerPosts, Group, GroupAndMemory}
+use Rattle.collective_engine.specs.RoundBuffers.{StandsFor}
 use Rattle.gaspi_model.specs.Sound.{IsSound}
-use Rattle.gaspi_model.specs.Step.{step, event_reach, owner_of}
+use Rattle.gaspi_model.specs.Step.{step, event_footprint, owner_of}
 use Rattle.gaspi_model.specs.declared.states.State.{State}
 use Rattle.rank_node.specs.Values.{PostsValue, MemoryValue}
 use Rattle.rank_node.specs.declared.nodes.Node.{Node}
@@ -44,7 +44,7 @@ pub record IsGroupOf (s : State) (id : ℕ) (n : GroupNode) : Type 0 where
   pub stands : IsGroupNode group n
 
 -- the other rank that an event of that footprint reaches, and the group
-abbrev pub footprint_peer : Reach → Option ℕ
+abbrev pub footprint_peer : Footprint → Option ℕ
 footprint_peer Alone = None
 footprint_peer OwnMemory = None
 footprint_peer (PeerMemory rank) = Some rank
@@ -53,7 +53,7 @@ footprint_peer (PeerPosts rank) = Some rank
 footprint_peer (Group id) = None
 footprint_peer (GroupAndMemory id) = None
 
-abbrev pub footprint_group : Reach → Option ℕ
+abbrev pub footprint_group : Footprint → Option ℕ
 footprint_group Alone = None
 footprint_group OwnMemory = None
 footprint_group (PeerMemory rank) = None
@@ -80,14 +80,14 @@ IsGroupAt s None (Some n) = ⊥
 IsGroupAt s (Some id) None = ⊥
 
 -- the nodes are those of a state that an event of a rank with that footprint reaches
-pub record Lends (s : State) (me : ℕ) (footprint : Reach) (own : Node) (peer : Option Node) (group : Option GroupNode) : Type 0 where
+pub record Lends (s : State) (me : ℕ) (footprint : Footprint) (own : Node) (peer : Option Node) (group : Option GroupNode) : Type 0 where
   pub own_node : IsNodeOf s me own
   pub peer_node : IsPeer s me (footprint_peer footprint) peer
   pub group_node : IsGroupAt s (footprint_group footprint) group
 
 -- the footprint of a call
-abbrev pub call_footprint : Limits → ℕ → Call → Reach
-call_footprint limits me call = reach_of limits.ranks me (row_of call).touch
+abbrev pub call_footprint : Limits → ℕ → Call → Footprint
+call_footprint limits me call = footprint_of limits.ranks me (row_of call).footprint
 
 -- the nodes are those of a state that a call of the rank reaches
 abbrev pub LendsFor : State → Call → Node → Option Node → Option GroupNode → Type 0
@@ -106,7 +106,7 @@ AreLentBetween call own peer = (group : Option GroupNode) × AreLentFor call own
 -- an event is a step by which that state comes of this one, and the nodes are lent for it
 pub record IsStepOn (s t : State) (e : Event) (own : Node) (peer : Option Node) (group : Option GroupNode) : Type 0 where
   pub sound : IsSound s
-  pub lends : Lends s (owner_of e) (event_reach s.limits own.posts.posts e) own peer group
+  pub lends : Lends s (owner_of e) (event_footprint s.limits own.posts.posts e) own peer group
   pub is_step : step s e ≡ Ok t
 
 abbrev pub MayStep : Event → Node → Option Node → Option GroupNode → Type 0
@@ -135,6 +135,6 @@ journal_at (Some n) = Some n.posts.journal
 
 -- The nodes are lent of the state after the event; the owner's rank journal has the event at its place, and the peer's is as before.
 pub record IsLeft (s t : State) (e : Event) (place : ℕ) (old own : Node) (old_peer peer : Option Node) (group : Option GroupNode) : Type 0 where
-  pub lends : Lends t (owner_of e) (event_reach s.limits old.posts.posts e) own peer group
+  pub lends : Lends t (owner_of e) (event_footprint s.limits old.posts.posts e) own peer group
   pub journal : own.posts.journal ≡ old.posts.journal ++ record { place = place; event = e } ∷ []
   pub peer_journal : journal_at peer ≡ journal_at old_peer

@@ -11,8 +11,8 @@ use Rattle.gaspi_types.specs.declared.replies.Ready.TheVariants as ready
 use Rattle.gaspi_types.specs.declared.replies.Refusal.{Refusal}
 use Rattle.gaspi_types.specs.declared.replies.Reply.{Reply}
 use Rattle.gaspi_types.specs.declared.replies.Reply.TheVariants as replies
-use Rattle.gaspi_model.specs.Calls.{call_asks}
-use Rattle.gaspi_model.specs.PassiveCalls.{brought_by}
+use Rattle.gaspi_model.specs.Calls.{requested_kinds}
+use Rattle.gaspi_model.specs.PassiveCalls.{sent_message}
 use Rattle.rank_node.specs.Numbers.{capacities_for, ReplyFits}
 use Rattle.rank_node.specs.Making.{made_segment}
 use Rattle.rank_node.specs.Values.{PostsValue, MemoryValue}
@@ -38,9 +38,9 @@ HasBytes p call bytes = Unit {0}
 -- the row of the call, and all that its record may need; of a send its message
 pub record IsRecordRoom (p : PostsValue) (own : MemoryValue) (call : Call) (room : Room) : Type 0 where
   pub row : room.row ≡ row_of call
-  pub entries : HasEntries (row_of call).posting (call_asks p.limits p.me p.posts call) room.entries
+  pub entries : HasEntries (row_of call).posting (requested_kinds p.limits p.me p.posts call) room.entries
   pub made : HasMade p call room.made
-  pub message : room.message ≡ brought_by p.me own.memory call
+  pub message : room.message ≡ sent_message p.me own.memory call
 
 -- and all that its reply may need besides
 pub record IsRoomFor (p : PostsValue) (own : MemoryValue) (call : Call) (room : Room) : Type 0 where

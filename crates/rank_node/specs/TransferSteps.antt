@@ -5,7 +5,7 @@ use Rattle.gaspi_types.specs.declared.entries.Queue.{Queue}
 use Rattle.gaspi_types.specs.declared.events.Outcome.{Outcome}
 use Rattle.gaspi_types.specs.declared.events.Outcome.TheVariants.{Applied}
 use Rattle.gaspi_types.specs.declared.events.Transfer.{Transfer}
-use Rattle.gaspi_model.specs.Step.{event_reach}
+use Rattle.gaspi_model.specs.Step.{event_footprint}
 use Rattle.gaspi_model.specs.declared.states.Memory.{Memory}
 use Rattle.gaspi_model.specs.declared.states.State.{State}
 use Rattle.post_queue.specs.Places.{first_posted, first_carried}
@@ -35,7 +35,7 @@ MayPut own peer group t = (s : State) × (after : State) × (outcome : Outcome) 
 
 -- the nodes are lent for a transfer, however it ends
 abbrev pub LendsForTransfer : State → Transfer → Node → Option Node → Option GroupNode → Type 0
-LendsForTransfer s t own peer group = Lends s t.origin (event_reach s.limits own.posts.posts (event_of t Applied)) own peer group
+LendsForTransfer s t own peer group = Lends s t.origin (event_footprint s.limits own.posts.posts (event_of t Applied)) own peer group
 
 -- the memory on which a transfer works: that of the peer, where one is lent
 abbrev pub lent_memory : Node → Option Node → Memory

@@ -11,12 +11,12 @@ use Rattle.gaspi_types.specs.declared.events.Outcome.{Outcome}
 use Rattle.gaspi_types.specs.declared.events.Outcome.TheVariants.{Applied, Failed}
 use Rattle.gaspi_types.specs.declared.events.Transfer.{Transfer}
 use Rattle.gaspi_model.specs.Posting.{counted}
-use Rattle.gaspi_model.specs.Transfers.{taken_bytes, take_outcome, memory_put}
+use Rattle.gaspi_model.specs.Transfers.{source_bytes, take_outcome, memory_put}
 use Rattle.gaspi_model.specs.declared.states.Posts.{Posts}
 use Rattle.gaspi_model.specs.declared.states.Memory.{Memory}
 use Rattle.post_queue.specs.Payloads.{payload_size}
-use Rattle.post_queue.specs.LanesStates.{LanesState, next_take, next_put}
-use Rattle.post_queue.specs.Steps.{taken_in, posted_failed_in, removed_in, head_failed_in}
+use Rattle.post_queue.specs.LanesStates.{LanesState, front_posted_of, front_carried_of}
+use Rattle.post_queue.specs.Steps.{carried_in, posted_failed_in, put_done_in, head_failed_in}
 use Rattle.rank_node.specs.Values.{PostsValue}
 
 -- the lanes of a rank's posts
@@ -35,16 +35,16 @@ event_of t outcome = if t.put then put_of t outcome else take_of t outcome
 
 -- An entry takes as many bytes as it has room for, unless its take fails.
 abbrev pub FitsTaken : Memory → Kind → Outcome → Type 0
-FitsTaken memory kind Applied = length (taken_bytes memory kind) ≡ payload_size kind
+FitsTaken memory kind Applied = length (source_bytes memory kind) ≡ payload_size kind
 FitsTaken memory kind Failed = Unit {0}
 
 -- the change of the queue of a transfer
 abbrev pub take_change : ℕ → List ℕ → Outcome → Queue → Queue
-take_change target bytes Applied q = taken_in target bytes q
+take_change target bytes Applied q = carried_in target bytes q
 take_change target bytes Failed q = posted_failed_in target q
 
 abbrev pub put_change : ℕ → Outcome → Queue → Queue
-put_change target Applied q = removed_in target q
+put_change target Applied q = put_done_in target q
 put_change target Failed q = head_failed_in target q
 
 -- a target is corrupt to which a transfer has failed (state vector)
@@ -76,9 +76,9 @@ recorded p posts place event = record p { posts = counted posts; journal = p.jou
 
 -- What is asked of a transfer of the next entry of a lane: there is one, what it takes fits, and there is room for the event.
 pub record MayTakeFrom (p : PostsValue) (source : Memory) (t : Transfer) : Type 0 where
-  pub next : IsSomeAnd (next_take (lanes_of p) t.queue t.target) (λ (e : Entry). FitsTaken source e.kind (take_outcome source e.kind))
+  pub next : IsSomeAnd (front_posted_of (lanes_of p) t.queue t.target) (λ (e : Entry). FitsTaken source e.kind (take_outcome source e.kind))
   pub room : p.posts.events < p.limits.events
 
 pub record MayPutNext (p : PostsValue) (t : Transfer) : Type 0 where
-  pub next : IsSome (next_put (lanes_of p) t.queue t.target)
+  pub next : IsSome (front_carried_of (lanes_of p) t.queue t.target)
   pub room : p.posts.events < p.limits.events

@@ -29,7 +29,7 @@ pub record IsNodePosts (n : node_posts.Inside) : Type 0 where
   pub depth : n.lanes.depth ≡ n.limits.depth
   pub ranks : n.lanes.ranks ≡ n.limits.ranks
   pub owner : n.groups.me ≡ n.me
-  pub capacity : n.journal.room ≡ n.limits.events
+  pub capacity : n.journal.capacity ≡ n.limits.events
   pub owed : n.owed ≡ sum_by queue_owed n.lanes.queues
   pub running : n.running ≡ count_by is_running n.threads
 

@@ -6,11 +6,11 @@ ghost use Rattle.gaspi_types.specs.Collectives.{with_completed};
 ghost use Rattle.gaspi_types.specs.Replies.{is_idle};
 ghost use Rattle.gaspi_types.specs.declared.events.Event.TheVariants.{Called};
 ghost use Rattle.gaspi_types.specs.declared.groups.Group.{Group};
-ghost use Rattle.collective_engine.specs.Turns.{is_in};
-ghost use Rattle.gaspi_model.specs.CollectiveCalls.{told_posts, completed_posts};
+ghost use Rattle.collective_engine.specs.RoundBuffers.{is_in};
+ghost use Rattle.gaspi_model.specs.CollectiveCalls.{posts_at_completion, completed_posts};
 ghost use Rattle.gaspi_model.specs.declared.states.State.{State};
-ghost use Rattle.plain_calls.specs.Room.{HasTellingRoom};
-ghost use Rattle.plain_calls.specs.Turns.{group_met};
+ghost use Rattle.plain_calls.specs.NumberBounds.{CompletionIsBounded};
+ghost use Rattle.plain_calls.specs.Rounds.{group_after_collective};
 ghost use Rattle.rank_node.specs.Collectives.{MayLeave, IsBuiltYet, MayComplete, with_all_known, completion_effect};
 ghost use Rattle.rank_node.specs.CollectiveSteps.{MayStepOn};
 ghost use Rattle.rank_node.specs.Lending.{IsGroupNode, IsStepOn, IsLeft};
@@ -19,13 +19,13 @@ ghost use Rattle.rank_node.specs.declared.nodes.Node.{Node};
 use crate::node_posts::NodePosts;
 use crate::nodes::{GroupNode, Node};
 use gaspi_types::{
-    Call, CallerId, Event, Extent, GroupId, Made, RankId, Reply, SegmentTable, ThreadId,
+    Call, CallerId, Event, Extent, GroupId, MemberSegment, RankId, Reply, SegmentTable, ThreadId,
 };
-use plain_calls::is_idle;
+use plain_calls::is_refused_or_timeout;
 use segment_store::set_known;
 
 /// Makes a segment of each of these ranks known, in the generation in which the rank has made it. (GASPI: segment_create)
-fn make_known(table: &mut SegmentTable, made: &[Made], seg: u64, size: u32)
+fn make_known(table: &mut SegmentTable, made: &[MemberSegment], seg: u64, size: u32)
     ensures { table.new ≡ with_all_known seg size made.now table.old }
 {
     match made {
@@ -45,9 +45,9 @@ fn make_known(table: &mut SegmentTable, made: &[Made], seg: u64, size: u32)
 /// that was made is known of all members. (GASPI: group_commit, segment_create)
 fn apply_effect(own: &mut NodePosts, group: &GroupNode, me: RankId, id: GroupId, call: &Call)
     requires built { IsBuiltYet own.old.posts.groups id call.now }
-    requires bounded { HasTellingRoom call.now }
+    requires bounded { CompletionIsBounded call.now }
     requires member { is_in group.now.rounds.members me ≡ true }
-    ensures { (g : Group) → IsGroupNode g group.now → own.new ≡ record own.old { posts = told_posts g me id call.now own.old.posts } }
+    ensures { (g : Group) → IsGroupNode g group.now → own.new ≡ record own.old { posts = posts_at_completion g me id call.now own.old.posts } }
 {
     match call {
         Call::Commit(_) => own.groups.committed(u64::from(id.number())),
@@ -104,9 +104,9 @@ fn complete_parts(
     requires own { caller.now.rank ≡ own.old.me }
     requires done { is_idle reply.now ≡ false → MayComplete own.old group.old caller.now.thread id call.now }
     ensures posts { (g : Group) → IsGroupNode g group.old → own.new ≡ record own.old { posts = completion_effect own.old.posts g caller.now.rank id call.now reply.now } }
-    ensures group { (g : Group) → IsGroupNode g group.old → IsGroupNode (group_met g caller.now.rank reply.now) group.new }
+    ensures group { (g : Group) → IsGroupNode g group.old → IsGroupNode (group_after_collective g caller.now.rank reply.now) group.new }
 {
-    if !is_idle(reply) {
+    if !is_refused_or_timeout(reply) {
         complete_round(own, group, caller.rank, caller.thread, id, call);
     }
 }

@@ -1,13 +1,13 @@
 //! A collective joins its group. (GASPI: collectives, segment_create)
 
 ghost use Rattle.std.specs.Prelude.{◌≡◌, ◌≤◌, true, length, Option, None, Some, IfSome};
-ghost use Rattle.gaspi_types.specs.Tables.{entry_at};
+ghost use Rattle.gaspi_types.specs.Tables.{item_at};
 ghost use Rattle.gaspi_types.specs.declared.events.Event.TheVariants.{Joined};
 ghost use Rattle.collective_engine.specs.Slots.{HasItsValues};
-ghost use Rattle.collective_engine.specs.Turns.{may_join};
+ghost use Rattle.collective_engine.specs.RoundBuffers.{may_join};
 ghost use Rattle.gaspi_model.specs.CollectiveCalls.{joined_posts, joining_call, contribution_of, made_generation, made_posts, made_memory};
 ghost use Rattle.gaspi_model.specs.declared.states.State.{State};
-ghost use Rattle.plain_calls.specs.Room.{HasMakingRoom};
+ghost use Rattle.plain_calls.specs.NumberBounds.{JoinIsBounded};
 ghost use Rattle.rank_node.specs.Collectives.{IsMadeFor, MayJoinHere, AddsContribution, IsPendingFor};
 ghost use Rattle.rank_node.specs.CollectiveSteps.{MayStepOn};
 ghost use Rattle.rank_node.specs.Lending.{IsStepOn, IsLeft};
@@ -35,7 +35,7 @@ fn made_generation(own: &NodePosts, coll: Coll) -> u32
 
 /// Adds the segment that a collective makes to the table of its rank. (GASPI: segment_create)
 fn add_made(own: &mut NodePosts, coll: Coll)
-    requires { HasMakingRoom own.old.posts coll }
+    requires { JoinIsBounded own.old.posts coll }
     ensures { own.new ≡ record own.old { posts = made_posts own.old.posts coll } }
 {
     if let Coll::Create(seg, size) = coll {
@@ -45,8 +45,8 @@ fn add_made(own: &mut NodePosts, coll: Coll)
 
 /// Makes a collective of a thread pending.
 fn add_pending(own: &mut NodePosts, thread: ThreadId, id: GroupId, args: Args)
-    requires none { entry_at own.old.posts.pending id ≡ None }
-    requires bounded { HasMakingRoom own.old.posts args.coll }
+    requires none { item_at own.old.posts.pending id ≡ None }
+    requires bounded { JoinIsBounded own.old.posts args.coll }
     ensures { own.new ≡ record own.old { posts = joined_posts own.old.posts thread id args } }
 {
     add_made(own, args.coll);

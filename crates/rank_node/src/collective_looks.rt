@@ -3,12 +3,12 @@
 ghost use Rattle.std.specs.Prelude.{◌≡◌, ◌≤◌, ◌<◌, ℕ, true, false, Some, IfOk, IsOk, length};
 ghost use Rattle.std.specs.Option.{option_copied};
 ghost use Rattle.gaspi_types.specs.CallRows.{row_of};
-ghost use Rattle.gaspi_types.specs.Tables.{entry_at};
+ghost use Rattle.gaspi_types.specs.Tables.{item_at};
 ghost use Rattle.gaspi_types.specs.declared.groups.Args.{Args};
 ghost use Rattle.gaspi_types.specs.declared.groups.Group.{Group};
 ghost use Rattle.gaspi_types.specs.declared.replies.Ready.TheVariants.{NotReady};
-ghost use Rattle.collective_engine.specs.Turns.{is_in, may_join, is_full_for};
-ghost use Rattle.gaspi_model.specs.CollectiveCalls.{args_of, segment_checks, meeting_checks, fresh_finds, full_reply, resumed_finds, collective_answer};
+ghost use Rattle.collective_engine.specs.RoundBuffers.{is_in, may_join, is_full_for};
+ghost use Rattle.gaspi_model.specs.CollectiveCalls.{args_of, segment_checks, agreement_checks, fresh_result, full_reply, resumed_answer, collective_answer};
 ghost use Rattle.gaspi_model.specs.State.{thread_at, is_running};
 ghost use Rattle.rank_node.specs.Lending.{IsGroupNode};
 ghost use Rattle.rank_node.specs.Collectives.{AreSoundTogether, StandTogether, is_commit, IsMine, TakesOwn};
@@ -19,7 +19,8 @@ use crate::nodes::GroupNode;
 use crate::reserved_numbers::{ReservedNumbers, blank, take_rows};
 use crate::resuming::resumes;
 use gaspi_types::{
-    Args, Call, Coll, NoMemory, Pending, RankId, Ready, Refusal, Reply, Resume, Rows, ThreadId,
+    Args, Call, Coll, NoMemory, PendingCollective, RankId, Ready, Refusal, Reply, Resume, Sequence,
+    ThreadId,
 };
 use plain_calls::{args_of, called_on, check_fixed, collective_ready};
 use segment_store::check_alloc;
@@ -38,7 +39,7 @@ fn check_segment(own: &NodePosts, call: &Call) -> Result<(), Refusal>
 /// Checks a collective by what other ranks have brought to its group: a commit by the list that is fixed, each other by the round.
 fn check_meeting(group: &GroupNode, me: RankId, args: &Args) -> Result<(), Refusal>
     requires { is_commit args.now.coll ≡ false → may_join group.now.rounds me args.now.coll ≡ true }
-    ensures { (g : Group) → IsGroupNode g group.now → result ≡ meeting_checks g me args.now.coll }
+    ensures { (g : Group) → IsGroupNode g group.now → result ≡ agreement_checks g me args.now.coll }
 {
     match args.coll {
         Coll::Commit(mask) => check_fixed(group.meeting.members(), mask),
@@ -55,7 +56,7 @@ fn fresh_finds(
 ) -> Result<Ready, Refusal>
     requires { (a : Args) → args ≡ Some a → is_commit a.coll ≡ false → may_join group.now.rounds own.now.me a.coll ≡ true }
     ensures finds { (g : Group) (members : ℕ) → IsGroupNode g group.now → args ≡ args_of members call.now
-        → result ≡ fresh_finds own.now.posts g own.now.me members call.now }
+        → result ≡ fresh_result own.now.posts g own.now.me members call.now }
     ensures fits { (members : ℕ) → args ≡ args_of members call.now → IfOk result (λ ready. AnswerFits ready (elements_in call.now)) }
 {
     check_segment(own, call)?;
@@ -65,7 +66,7 @@ fn fresh_finds(
 }
 
 /// What a collective answers whose round is full: an allreduce its numbers, in a list that is long enough. (GASPI: allreduce)
-fn full_reply(group: &GroupNode, me: RankId, call: &Call, list: Rows<i128>) -> Reply
+fn full_reply(group: &GroupNode, me: RankId, call: &Call, list: Sequence<i128>) -> Reply
     requires member { is_in group.now.rounds.members me ≡ true }
     requires full { is_full_for group.now.rounds me ≡ true }
     requires capacity { TakesOwn call.now group.now.rounds me (length list) }
@@ -79,13 +80,13 @@ fn full_reply(group: &GroupNode, me: RankId, call: &Call, list: Rows<i128>) -> R
 }
 
 /// As many zeros as a call has elements: only an allreduce takes memory.
-fn blank_for(alloc: Global, call: &Call) -> Result<Rows<i128>, NoMemory>
+fn blank_for(alloc: Global, call: &Call) -> Result<Sequence<i128>, NoMemory>
     ensures capacity { IfOk result (λ rows. length rows ≡ elements_in call.now) }
     ensures ample { (row_of call.now).takes_memory ≡ false → IsOk result }
 {
     match call {
         Call::Allreduce(call) => blank(alloc, call.values.items().len()),
-        _ => Ok(Rows::new(alloc)),
+        _ => Ok(Sequence::new(alloc)),
     }
 }
 
@@ -97,10 +98,10 @@ fn resumed_finds(
     call: &Call,
 ) -> Result<Ready, NoMemory>
     requires { (g : Group) × IsMine g group.now me call.now }
-    ensures finds { (g : Group) → IsMine g group.now me call.now → IfOk result (λ ready. ready ≡ resumed_finds g me call.now) }
+    ensures finds { (g : Group) → IsMine g group.now me call.now → IfOk result (λ ready. ready ≡ resumed_answer g me call.now) }
     ensures fits { IfOk result (λ ready. AnswerFits ready (elements_in call.now)) }
     ensures ample { (row_of call.now).takes_memory ≡ false → IsOk result }
-    ensures unready { (g : Group) → IsMine g group.now me call.now → resumed_finds g me call.now ≡ NotReady → IsOk result }
+    ensures unready { (g : Group) → IsMine g group.now me call.now → resumed_answer g me call.now ≡ NotReady → IsOk result }
 {
     if !group.rounds.full(me) {
         return Ok(Ready::NotReady);
@@ -169,7 +170,7 @@ pub(crate) fn look_again(
 ) -> Ready
     requires mine { (g : Group) × IsMine g group.now me call.now }
     requires capacity { elements_in call.now ≤ room.old.event }
-    ensures finds { (g : Group) → IsMine g group.now me call.now → result ≡ resumed_finds g me call.now }
+    ensures finds { (g : Group) → IsMine g group.now me call.now → result ≡ resumed_answer g me call.now }
     ensures fits { AnswerFits result room.old.event }
     ensures caller { room.new.caller ≡ room.old.caller }
     ensures kept { result ≡ NotReady → room.new ≡ room.old }

@@ -2,18 +2,18 @@
 
 ghost use Rattle.std.specs.Prelude.{◌≡◌, true, slice_set, IfSome, IsSome, IsSomeAnd};
 ghost use Rattle.gaspi_types.specs.declared.entries.Entry.{Entry};
-ghost use Rattle.gaspi_model.specs.Transfers.{taken_bytes, take_outcome, put_outcome, memory_put};
-ghost use Rattle.post_queue.specs.LanesStates.{next_take, next_put, head_of, with_queue};
-ghost use Rattle.post_queue.specs.Steps.{removed_in, head_failed_in};
+ghost use Rattle.gaspi_model.specs.Transfers.{source_bytes, take_outcome, put_outcome, memory_put};
+ghost use Rattle.post_queue.specs.LanesStates.{front_posted_of, front_carried_of, head_of, with_queue};
+ghost use Rattle.post_queue.specs.Steps.{put_done_in, head_failed_in};
 ghost use Rattle.rank_node.specs.Transfers.{FitsTaken, take_change, put_change, marked, memory_left};
 ghost use Rattle.rank_node.specs.Values.{MemoryValue};
 
 use crate::node_memory::NodeMemory;
-use gaspi_types::{Outcome, RankId, Rows};
+use gaspi_types::{Outcome, RankId, Sequence};
 use post_queue::Lanes;
 
 /// A target is corrupt from now on. (GASPI: state vector)
-fn mark_corrupt(corrupt: &mut Rows<bool>, target: RankId)
+fn mark_corrupt(corrupt: &mut Sequence<bool>, target: RankId)
     ensures { corrupt.new ≡ slice_set corrupt.old target true }
 {
     let rank = target.index();
@@ -25,14 +25,14 @@ fn mark_corrupt(corrupt: &mut Rows<bool>, target: RankId)
 /// The entry that may take its bytes next takes them, or fails. It takes no memory.
 pub(crate) fn take_next(
     lanes: &mut Lanes,
-    corrupt: &mut Rows<bool>,
+    corrupt: &mut Sequence<bool>,
     source: &NodeMemory,
     queue: u64,
     target: RankId,
 ) -> Outcome
-    requires { IsSomeAnd (next_take lanes.old queue target) (λ (e : Entry). FitsTaken source.now.memory e.kind (take_outcome source.now.memory e.kind)) }
-    ensures outcome { IfSome (next_take lanes.old queue target) (λ (e : Entry). result ≡ take_outcome source.now.memory e.kind) }
-    ensures lanes { IfSome (next_take lanes.old queue target) (λ (e : Entry). lanes.new ≡ with_queue lanes.old queue (take_change target (taken_bytes source.now.memory e.kind) result)) }
+    requires { IsSomeAnd (front_posted_of lanes.old queue target) (λ (e : Entry). FitsTaken source.now.memory e.kind (take_outcome source.now.memory e.kind)) }
+    ensures outcome { IfSome (front_posted_of lanes.old queue target) (λ (e : Entry). result ≡ take_outcome source.now.memory e.kind) }
+    ensures lanes { IfSome (front_posted_of lanes.old queue target) (λ (e : Entry). lanes.new ≡ with_queue lanes.old queue (take_change target (source_bytes source.now.memory e.kind) result)) }
     ensures corrupt { corrupt.new ≡ marked corrupt.old target result }
 {
     let kind = *lanes.front_posted(queue, target).unwrap().kind();
@@ -51,8 +51,8 @@ pub(crate) fn take_next(
 
 /// How the put of the entry ends that may be put next.
 fn next_outcome(lanes: &Lanes, destination: &NodeMemory, queue: u64, target: RankId) -> Outcome
-    requires { IsSome (next_put lanes.now queue target) }
-    ensures { IfSome (next_put lanes.now queue target) (λ (e : Entry). result ≡ put_outcome destination.now.memory e.kind) }
+    requires { IsSome (front_carried_of lanes.now queue target) }
+    ensures { IfSome (front_carried_of lanes.now queue target) (λ (e : Entry). result ≡ put_outcome destination.now.memory e.kind) }
 {
     let entry = lanes.front_carried(queue, target).unwrap();
     destination.put_outcome(&entry.kind)
@@ -60,10 +60,10 @@ fn next_outcome(lanes: &Lanes, destination: &NodeMemory, queue: u64, target: Ran
 
 /// The entry that may be put next is put, and goes. It takes no memory.
 fn apply_put(lanes: &mut Lanes, destination: &mut NodeMemory, queue: u64, target: RankId)
-    requires { IsSome (next_put lanes.old queue target) }
-    ensures lanes { lanes.new ≡ with_queue lanes.old queue (removed_in target) }
-    ensures memory { IfSome (next_put lanes.old queue target) (λ (e : Entry). destination.new ≡ record destination.old { memory = memory_put destination.old.memory e }) }
-    ensures head { IfSome (next_put lanes.old queue target) (λ (e : Entry). head_of lanes.old queue target ≡ Some e) }
+    requires { IsSome (front_carried_of lanes.old queue target) }
+    ensures lanes { lanes.new ≡ with_queue lanes.old queue (put_done_in target) }
+    ensures memory { IfSome (front_carried_of lanes.old queue target) (λ (e : Entry). destination.new ≡ record destination.old { memory = memory_put destination.old.memory e }) }
+    ensures head { IfSome (front_carried_of lanes.old queue target) (λ (e : Entry). head_of lanes.old queue target ≡ Some e) }
 {
     let entry = lanes.front_carried(queue, target).unwrap();
     destination.put(entry);
@@ -71,11 +71,11 @@ fn apply_put(lanes: &mut Lanes, destination: &mut NodeMemory, queue: u64, target
 }
 
 /// The entry that may be put next fails, and its target is corrupt. It takes no memory.
-fn fail_put(lanes: &mut Lanes, corrupt: &mut Rows<bool>, queue: u64, target: RankId)
-    requires { IsSome (next_put lanes.old queue target) }
+fn fail_put(lanes: &mut Lanes, corrupt: &mut Sequence<bool>, queue: u64, target: RankId)
+    requires { IsSome (front_carried_of lanes.old queue target) }
     ensures lanes { lanes.new ≡ with_queue lanes.old queue (head_failed_in target) }
     ensures corrupt { corrupt.new ≡ slice_set corrupt.old target true }
-    ensures head { IfSome (next_put lanes.old queue target) (λ (e : Entry). head_of lanes.old queue target ≡ Some e) }
+    ensures head { IfSome (front_carried_of lanes.old queue target) (λ (e : Entry). head_of lanes.old queue target ≡ Some e) }
 {
     let _entry = lanes.front_carried(queue, target).unwrap();
     lanes.fail_carried(queue, target);
@@ -85,17 +85,17 @@ fn fail_put(lanes: &mut Lanes, corrupt: &mut Rows<bool>, queue: u64, target: Ran
 /// The entry that may be put next is put: it goes, or fails where its segment is gone. It takes no memory.
 pub(crate) fn put_next(
     lanes: &mut Lanes,
-    corrupt: &mut Rows<bool>,
+    corrupt: &mut Sequence<bool>,
     destination: &mut NodeMemory,
     queue: u64,
     target: RankId,
 ) -> Outcome
-    requires { IsSome (next_put lanes.old queue target) }
-    ensures outcome { IfSome (next_put lanes.old queue target) (λ (e : Entry). result ≡ put_outcome destination.old.memory e.kind) }
-    ensures head { IfSome (next_put lanes.old queue target) (λ (e : Entry). head_of lanes.old queue target ≡ Some e) }
+    requires { IsSome (front_carried_of lanes.old queue target) }
+    ensures outcome { IfSome (front_carried_of lanes.old queue target) (λ (e : Entry). result ≡ put_outcome destination.old.memory e.kind) }
+    ensures head { IfSome (front_carried_of lanes.old queue target) (λ (e : Entry). head_of lanes.old queue target ≡ Some e) }
     ensures lanes { lanes.new ≡ with_queue lanes.old queue (put_change target result) }
     ensures corrupt { corrupt.new ≡ marked corrupt.old target result }
-    ensures memory { IfSome (next_put lanes.old queue target) (λ (e : Entry). destination.new ≡ record destination.old { memory = memory_left destination.old.memory e result }) }
+    ensures memory { IfSome (front_carried_of lanes.old queue target) (λ (e : Entry). destination.new ≡ record destination.old { memory = memory_left destination.old.memory e result }) }
 {
     let outcome = next_outcome(lanes, destination, queue, target);
     match outcome {

@@ -1,13 +1,13 @@
 //! Laws of nodes: the contracts of functions that do nothing.
 
 ghost use Rattle.std.specs.Prelude.{◌≡◌, ◌<◌, ℕ, true, false, Option, None, Some, IsOk, IsSome, slice_get};
-ghost use Rattle.gaspi_types.specs.World.{World};
+ghost use Rattle.gaspi_types.specs.World.{ShapeValue};
 ghost use Rattle.gaspi_types.specs.declared.entries.Entry.{Entry};
 ghost use Rattle.gaspi_types.specs.declared.events.Outcome.{Outcome};
 ghost use Rattle.gaspi_types.specs.declared.events.Transfer.{Transfer};
 ghost use Rattle.gaspi_model.specs.Sound.{IsSound};
 ghost use Rattle.gaspi_model.specs.State.{opening, opening_group};
-ghost use Rattle.gaspi_model.specs.Step.{step, event_reach, transfer_event};
+ghost use Rattle.gaspi_model.specs.Step.{step, event_footprint, transfer_event};
 ghost use Rattle.gaspi_model.specs.Transfers.{transfers};
 ghost use Rattle.gaspi_model.specs.declared.states.State.{State};
 ghost use Rattle.post_queue.specs.MovableLanes.{is_movable_lane};
@@ -32,7 +32,7 @@ pub fn fronts_are_steps()
 /// The footprint of a transfer that is the front of its lane is told by its entry's kind, however it ends.
 pub fn front_footprints()
     ensures { (s : State) (p : PostsValue) (t : Transfer) (e : Entry) (outcome : Outcome) → IsSound s → IsPostsOf s p.me p → IsFront p t → front_entry p t ≡ Some e
-        → event_reach s.limits p.posts (event_of t outcome) ≡ transfer_footprint s.limits.ranks t e.kind }
+        → event_footprint s.limits p.posts (event_of t outcome) ≡ transfer_footprint s.limits.ranks t e.kind }
 {}
 
 /// The outcome of a transfer that is the front of its lane is told by the nodes that are lent for it: with it, and with no other, it is
@@ -56,5 +56,5 @@ pub fn movable_lanes_have_fronts()
 
 /// The node of a group that stands for the group at the start is that of the opening state.
 pub fn group_nodes_at_start()
-    ensures { (w : World) (id : ℕ) (n : GroupNode) → id < 8 → IsGroupNode (opening_group w.limits.ranks id) n → IsGroupOf (opening w) id n }
+    ensures { (w : ShapeValue) (id : ℕ) (n : GroupNode) → id < 8 → IsGroupNode (opening_group w.limits.ranks id) n → IsGroupOf (opening w) id n }
 {}

@@ -9,7 +9,7 @@ ghost use Rattle.gaspi_model.specs.Sound.{IsSound};
 ghost use Rattle.gaspi_model.specs.Step.{answer_in};
 ghost use Rattle.gaspi_model.specs.declared.states.Posts.{Posts};
 ghost use Rattle.gaspi_model.specs.declared.states.State.{State};
-ghost use Rattle.plain_calls.specs.Telling.{told};
+ghost use Rattle.plain_calls.specs.Registrations.{with_registration};
 ghost use Rattle.rank_node.specs.Effects.{with_posts};
 ghost use Rattle.rank_node.specs.Lending.{LendsFor, IsStepOn, MayStepBetween, IsLeft, AreLentBetween};
 ghost use Rattle.rank_node.specs.Rooms.{IsRoomFor, IsRecordRoom, FitsReserved};
@@ -23,25 +23,25 @@ use crate::plain_looks::look;
 use crate::recording::record;
 use crate::rooms::Room;
 use gaspi_types::{Call, CallerId, Invocation, NoMemory, Ready, Reply};
-use plain_calls::{News, is_idle, register_news};
+use plain_calls::{Registration, is_refused_or_timeout, registration_of};
 use std::alloc::Global;
 
 /// What a call tells a peer that it reaches, where it is recorded with that reply.
-fn news(posts: &NodePosts, call: &Call, reply: &Reply) -> Option<News>
-    ensures { (peer : Posts) → told result peer ≡ peer_after posts.now.me posts.now.posts call.now reply.now peer }
+fn news(posts: &NodePosts, call: &Call, reply: &Reply) -> Option<Registration>
+    ensures { (peer : Posts) → with_registration result peer ≡ peer_after posts.now.me posts.now.posts call.now reply.now peer }
 {
-    if is_idle(reply) {
+    if is_refused_or_timeout(reply) {
         return None;
     }
     match call {
-        Call::Register(call) => Some(register_news(posts.me, &posts.segments.own, call)),
+        Call::Register(call) => Some(registration_of(posts.me, &posts.segments.own, call)),
         _ => None,
     }
 }
 
 /// Tells a peer.
-fn tell(peer: &mut NodePosts, news: Option<News>)
-    ensures { peer.new ≡ with_posts peer.old (told news peer.old.posts) }
+fn tell(peer: &mut NodePosts, news: Option<Registration>)
+    ensures { peer.new ≡ with_posts peer.old (with_registration news peer.old.posts) }
 {
     if let Some(news) = news {
         peer.set_known(news.owner, news.seg, news.extent);

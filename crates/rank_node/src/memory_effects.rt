@@ -3,11 +3,11 @@
 ghost use Rattle.std.specs.Prelude.{◌≡◌, ◌<◌, Ok, IsOk, IsSome, IfSome, slice_set};
 ghost use Rattle.gaspi_types.specs.Inboxes.{first_within, deposited};
 ghost use Rattle.gaspi_model.specs.AtomicCalls.{fetch_add_leaves, compare_swap_leaves};
-ghost use Rattle.gaspi_model.specs.Calls.{memory_done};
+ghost use Rattle.gaspi_model.specs.Calls.{memory_effect};
 ghost use Rattle.gaspi_model.specs.Memories.{slots_of, with_slots};
 ghost use Rattle.gaspi_model.specs.MemoryCalls.{store_leaves};
-ghost use Rattle.gaspi_model.specs.PassiveCalls.{send_leaves, receive_leaves};
-ghost use Rattle.gaspi_model.specs.SegmentCalls.{delete_leaves};
+ghost use Rattle.gaspi_model.specs.PassiveCalls.{send_effect, receive_effect};
+ghost use Rattle.gaspi_model.specs.SegmentCalls.{delete_effect};
 
 use crate::making::MadeSegment;
 use crate::node_memory::NodeMemory;
@@ -21,7 +21,7 @@ impl NodeMemory {
 
     /// Takes a segment away, with its slots. (GASPI: segment_delete)
     fn remove_segment(&mut self, call: &Delete)
-        ensures { self.new ≡ with_memory self.old (delete_leaves self.old.memory call.now) }
+        ensures { self.new ≡ with_memory self.old (delete_effect self.old.memory call.now) }
     {
         let place = call.seg as usize;
         if place < self.segments.len() {
@@ -73,7 +73,7 @@ impl NodeMemory {
     /// Takes the first message out of the inbox, and puts its bytes where the receive says. (GASPI: passive_receive)
     fn receive(&mut self, call: &PassiveReceive)
         requires { IsOk (first_within call.now.size self.old.memory.inbox) }
-        ensures { self.new ≡ with_memory self.old (receive_leaves self.old.memory call.now) }
+        ensures { self.new ≡ with_memory self.old (receive_effect self.old.memory call.now) }
     {
         match self.inbox.receive(call.size) {
             Ok(Some(message)) => store_bytes(
@@ -121,7 +121,7 @@ impl NodeMemory {
     /// Takes the message that a send brings, where there is one, and puts it behind the others of the inbox. (GASPI: passive_send)
     fn deposit_brought(&mut self, message: &mut Option<Message>)
         requires { MayDepositIf self.old message.old }
-        ensures { self.new ≡ with_memory self.old (send_leaves message.old self.old.memory) }
+        ensures { self.new ≡ with_memory self.old (send_effect message.old self.old.memory) }
     {
         if let Some(message) = message.take() {
             self.deposit(message);
@@ -137,7 +137,7 @@ impl NodeMemory {
         message: &mut Option<Message>,
     )
         requires { MayAffectMemory self.old call.now made.old message.old }
-        ensures { (p : PostsValue) → IsMadeByCall p call.now made.old → self.new ≡ with_memory self.old (memory_done p.limits p.posts message.old self.old.memory call.now) }
+        ensures { (p : PostsValue) → IsMadeByCall p call.now made.old → self.new ≡ with_memory self.old (memory_effect p.limits p.posts message.old self.old.memory call.now) }
     {
         match call {
             Call::Alloc(call) => self.place_made(call.seg, made),

@@ -2,14 +2,14 @@
 
 ghost use Rattle.std.specs.Prelude.{◌≡◌, slice_set};
 ghost use Rattle.gaspi_types.specs.Slots.{slots_of, with_slots};
-ghost use Rattle.gaspi_model.specs.Transfers.{carried_bytes, taken_bytes, take_outcome, put_outcome, outcome_at, memory_put};
+ghost use Rattle.gaspi_model.specs.Transfers.{carried_bytes, source_bytes, take_outcome, put_outcome, outcome_at, memory_put};
 
 use crate::node_memory::NodeMemory;
-use gaspi_types::{Destination, Entry, Kind, Outcome, Phase, Rows};
+use gaspi_types::{Destination, Entry, Kind, Outcome, Phase, Sequence};
 use segment_store::{Slots, bytes_of, is_generation, range_of, segment_in, store_bytes};
 
 /// Sets a slot of a segment, where both are there. (GASPI: notify)
-fn set_slot(slots: &mut Rows<Option<Slots>>, seg: u64, note: u64, value: u32)
+fn set_slot(slots: &mut Sequence<Option<Slots>>, seg: u64, note: u64, value: u32)
     ensures { slots.new ≡ with_slots slots.old seg (slice_set (slots_of slots.old seg) note value) }
 {
     let place = seg as usize;
@@ -37,7 +37,7 @@ impl NodeMemory {
 
     /// The bytes that an entry of that kind takes from this memory, lent.
     pub(crate) fn taken_bytes(&self, kind: &Kind) -> &[u8]
-        ensures { result.now ≡ taken_bytes self.now.memory kind.now }
+        ensures { result.now ≡ source_bytes self.now.memory kind.now }
     {
         match kind.source() {
             Some(range) => range_of(

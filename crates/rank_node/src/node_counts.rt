@@ -9,11 +9,11 @@ ghost use Rattle.gaspi_model.specs.Step.{is_pending_on};
 use crate::node_posts::NodePosts;
 use crate::nodes::Node;
 use gaspi_model::ThreadState;
-use gaspi_types::{Invocation, Rows};
+use gaspi_types::{Invocation, Sequence};
 use plain_calls::is_running;
 
 /// How many of these threads have not ended.
-pub(crate) fn running_count(threads: &Rows<ThreadState>) -> usize
+pub(crate) fn running_count(threads: &Sequence<ThreadState>) -> usize
     ensures { result ≡ count_by is_running threads.now }
 {
     threads
@@ -24,7 +24,7 @@ pub(crate) fn running_count(threads: &Rows<ThreadState>) -> usize
 }
 
 /// Whether one of these threads has not ended.
-fn has_running(threads: &Rows<ThreadState>) -> bool
+fn has_running(threads: &Sequence<ThreadState>) -> bool
     ensures { result ≡ list_any is_running threads.now }
 {
     threads.as_slice().iter().any(|t| is_running(*t))

@@ -3,7 +3,7 @@
 ghost use Rattle.std.specs.Prelude.{◌≡◌};
 ghost use Rattle.gaspi_model.specs.Memories.{slots_of};
 
-use gaspi_types::{OwnSegments, Rows};
+use gaspi_types::{OwnSegments, Sequence};
 use segment_store::{Inbox, Slots};
 use std::marker::Model;
 
@@ -12,7 +12,7 @@ use std::marker::Model;
 pub struct NodeMemory {
     pub(crate) segments: OwnSegments,
     /// The notification slots of each segment. (GASPI: notifications)
-    pub(crate) slots: Rows<Option<Slots>>,
+    pub(crate) slots: Sequence<Option<Slots>>,
     pub(crate) inbox: Inbox,
 }
 

@@ -2,12 +2,12 @@
 
 ghost use Rattle.std.specs.Prelude.{◌≡◌, ◌++◌, ◌∷◌, [], ◌<◌, ◌+◌, length};
 ghost use Rattle.std.specs.Option.{option_copied};
-ghost use Rattle.gaspi_types.specs.Tables.{entry_at};
+ghost use Rattle.gaspi_types.specs.Tables.{item_at};
 ghost use Rattle.gaspi_model.specs.Posting.{counted};
 ghost use Rattle.gaspi_model.specs.State.{thread_at, is_running};
 
 use gaspi_model::ThreadState;
-use gaspi_types::{Buffer, Event, Limits, PlacedEvent, RankId, Rows, SegmentTable, ThreadId};
+use gaspi_types::{Buffer, Event, Limits, PlacedEvent, RankId, SegmentTable, Sequence, ThreadId};
 use group_registry::Groups;
 use post_queue::Lanes;
 use std::marker::Model;
@@ -21,11 +21,11 @@ pub struct NodePosts {
     pub(crate) me: RankId,
     pub(crate) lanes: Lanes,
     /// Which ranks are corrupt for this one. (GASPI: state vector)
-    pub(crate) corrupt: Rows<bool>,
+    pub(crate) corrupt: Sequence<bool>,
     pub(crate) segments: SegmentTable,
     pub(crate) groups: Groups,
     pub(crate) pending: Pending,
-    pub(crate) threads: Rows<ThreadState>,
+    pub(crate) threads: Sequence<ThreadState>,
     /// How many events the entries of the lanes owe.
     pub(crate) owed: u64,
     /// How many threads have not ended.
@@ -49,8 +49,8 @@ impl NodePosts {
     ghost use Rattle.rank_node.specs.Values.{PostsValue};
 
     /// What is pending of the rank on a group, whatever its number.
-    pub(crate) fn pending_at(&self, group: u64) -> Option<&gaspi_types::Pending>
-        ensures { option_copied result ≡ entry_at self.now.posts.pending group }
+    pub(crate) fn pending_at(&self, group: u64) -> Option<&gaspi_types::PendingCollective>
+        ensures { option_copied result ≡ item_at self.now.posts.pending group }
     {
         self.pending.named(group)
     }

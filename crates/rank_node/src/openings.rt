@@ -11,7 +11,7 @@ use crate::node_memory::NodeMemory;
 use crate::node_posts::NodePosts;
 use crate::nodes::Node;
 use gaspi_model::{declared_size, opening_corrupt, opening_table, opening_threads};
-use gaspi_types::{Buffer, NoMemory, RankId, Rows, Shape};
+use gaspi_types::{Buffer, NoMemory, RankId, Sequence, Shape};
 use group_registry::Groups;
 use plain_calls::opening_segments;
 use post_queue::Lanes;
@@ -37,10 +37,14 @@ fn opening_slots_at(
 
 /// The slots of each segment of a rank.
 #[tactic(auto, using(gaspi_model::proofs::Ranges::map_range_more))]
-fn opening_slots(alloc: Global, shape: &Shape, rank: u32) -> Result<Rows<Option<Slots>>, NoMemory>
+fn opening_slots(
+    alloc: Global,
+    shape: &Shape,
+    rank: u32,
+) -> Result<Sequence<Option<Slots>>, NoMemory>
     ensures { IfOk result (λ slots. slots ≡ opening_slots shape.now rank) }
 {
-    let mut slots = Rows::new(alloc);
+    let mut slots = Sequence::new(alloc);
     for segment in 0..32 {
         slots.push(opening_slots_at(alloc, shape, rank, segment)?)?;
     }
@@ -70,7 +74,7 @@ impl NodePosts {
             pending: Pending::new(alloc)?,
             running: running_count(&threads),
             threads,
-            journal: Buffer::with_room(alloc, limits.events as usize)?,
+            journal: Buffer::with_capacity(alloc, limits.events as usize)?,
         })
     }
 }

@@ -4,10 +4,10 @@ ghost use Rattle.std.specs.Prelude.{◌≡◌, ◌≤◌, length, false, Some, I
 ghost use Rattle.gaspi_types.specs.CallRows.{row_of};
 ghost use Rattle.gaspi_types.specs.Posts.{is_list_post};
 ghost use Rattle.gaspi_types.specs.declared.replies.Ready.TheVariants.{NotReady};
-ghost use Rattle.gaspi_model.specs.Calls.{plain_finds, call_asks, answer};
-ghost use Rattle.gaspi_model.specs.PostCalls.{asked_finds};
-ghost use Rattle.gaspi_model.specs.QueueCalls.{wait_finds, purge_finds, qsize_finds};
-ghost use Rattle.gaspi_model.specs.SegmentCalls.{delete_finds};
+ghost use Rattle.gaspi_model.specs.Calls.{plain_result, requested_kinds, answer};
+ghost use Rattle.gaspi_model.specs.PostCalls.{post_request_result};
+ghost use Rattle.gaspi_model.specs.QueueCalls.{wait_result, purge_result, qsize_result};
+ghost use Rattle.gaspi_model.specs.SegmentCalls.{delete_result};
 ghost use Rattle.gaspi_model.specs.declared.states.Posts.{Posts};
 ghost use Rattle.plain_calls.specs.Memory.{is_load};
 
@@ -18,8 +18,8 @@ use gaspi_types::{
     Ready, Refusal, Reply, Wait,
 };
 use plain_calls::{
-    alloc_finds, group_add_finds, group_create_finds, group_delete_finds, load_finds, ready_of,
-    receive_finds, register_finds, reset_finds, send_finds, state_finds, store_finds,
+    alloc_result, group_add_finds, group_create_finds, group_delete_finds, load_finds, ready_of,
+    receive_finds, register_result, reset_finds, send_finds, state_finds, store_finds,
     waitsome_finds, word_finds,
 };
 use post_queue::Lanes;
@@ -29,7 +29,7 @@ use std::alloc::Global;
 /// Looks at a wait: ready where no entry of its queue is posted, and no read and no notification of a read stands in it.
 /// (GASPI: wait)
 fn look_at_wait(lanes: &Lanes, call: &Wait) -> Result<Option<Reply>, Refusal>
-    ensures { (posts : Posts) → posts.queues ≡ lanes.now.queues → result ≡ wait_finds posts call.now }
+    ensures { (posts : Posts) → posts.queues ≡ lanes.now.queues → result ≡ wait_result posts call.now }
 {
     if lanes.wait_ready(call.queue)? {
         Ok(Some(Reply::Done))
@@ -40,7 +40,7 @@ fn look_at_wait(lanes: &Lanes, call: &Wait) -> Result<Option<Reply>, Refusal>
 
 /// Looks at a purge: its queue is there, broken or not. (GASPI: queue_purge)
 fn look_at_purge(lanes: &Lanes, call: &Purge) -> Result<Option<Reply>, Refusal>
-    ensures { (posts : Posts) → posts.queues ≡ lanes.now.queues → result ≡ purge_finds posts call.now }
+    ensures { (posts : Posts) → posts.queues ≡ lanes.now.queues → result ≡ purge_result posts call.now }
 {
     lanes.open_count(call.queue)?;
     Ok(Some(Reply::Done))
@@ -48,7 +48,7 @@ fn look_at_purge(lanes: &Lanes, call: &Purge) -> Result<Option<Reply>, Refusal>
 
 /// Looks at the size of a queue: its open count. (GASPI: queue_size)
 fn look_at_size(lanes: &Lanes, call: &Qsize) -> Result<Option<Reply>, Refusal>
-    ensures { (posts : Posts) → posts.queues ≡ lanes.now.queues → result ≡ qsize_finds posts call.now }
+    ensures { (posts : Posts) → posts.queues ≡ lanes.now.queues → result ≡ qsize_result posts call.now }
 {
     let count = lanes.open_count(call.queue)?;
     Ok(Some(Reply::Value(u64::from(count))))
@@ -56,7 +56,7 @@ fn look_at_size(lanes: &Lanes, call: &Qsize) -> Result<Option<Reply>, Refusal>
 
 /// Checks that no entry of the rank's own uses a segment. (GASPI: segment_delete)
 fn look_at_delete(lanes: &Lanes, own: &Extents, call: &Delete) -> Result<Option<Reply>, Refusal>
-    ensures { (posts : Posts) → posts.queues ≡ lanes.now.queues → posts.segments.own ≡ own.now → result ≡ delete_finds posts call.now }
+    ensures { (posts : Posts) → posts.queues ≡ lanes.now.queues → posts.segments.own ≡ own.now → result ≡ delete_result posts call.now }
 {
     extent_in(own, call.seg).ok_or(Refusal::NoSegment)?;
     match lanes.uses(call.seg) {
@@ -74,14 +74,14 @@ fn plain_finds(
 ) -> Result<Result<Option<Reply>, Refusal>, NoMemory>
     requires corrupt { length posts.now.posts.corrupt ≤ 32 }
     requires capacity { memory.now.capacity ≡ posts.now.limits.inbox }
-    ensures finds { IfOk result (λ finds. finds ≡ plain_finds posts.now.limits posts.now.me posts.now.posts memory.now.memory call.now) }
+    ensures finds { IfOk result (λ finds. finds ≡ plain_result posts.now.limits posts.now.me posts.now.posts memory.now.memory call.now) }
     ensures ample { is_load call.now ≡ false → IsOk result }
 {
     let limits = &posts.limits;
     let table = &posts.segments;
     Ok(match call {
-        Call::Alloc(call) => alloc_finds(&table.own, call),
-        Call::Register(call) => register_finds(limits.ranks, &table.own, call),
+        Call::Alloc(call) => alloc_result(&table.own, call),
+        Call::Register(call) => register_result(limits.ranks, &table.own, call),
         Call::Delete(call) => look_at_delete(&posts.lanes, &table.own, call),
         Call::Store(call) => store_finds(&table.own, call),
         Call::Load(call) => load_finds(alloc, &table.own, &memory.segments, call)?,
@@ -146,7 +146,7 @@ fn post_finds(
     to: Posting,
     call: &Call,
 ) -> Result<Result<Option<Reply>, Refusal>, NoMemory>
-    ensures finds { IfOk result (λ finds. finds ≡ asked_finds posts.now.limits posts.now.posts to.rank to.queue (call_asks posts.now.limits posts.now.me posts.now.posts call.now)) }
+    ensures finds { IfOk result (λ finds. finds ≡ post_request_result posts.now.limits posts.now.posts to.rank to.queue (requested_kinds posts.now.limits posts.now.me posts.now.posts call.now)) }
     ensures ample { is_list_post call.now ≡ false → IsOk result }
 {
     if to.rank >= u64::from(posts.limits.ranks) {

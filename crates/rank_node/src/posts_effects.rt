@@ -2,13 +2,13 @@
 
 ghost use Rattle.std.specs.Prelude.{◌≡◌, ◌+◌, ◌<◌, ◌≤◌, ◌^◌, Ok, IsOk, IfSome, IsSomeAnd, Some, slice_set};
 ghost use Rattle.gaspi_types.specs.CallRows.{row_of};
-ghost use Rattle.gaspi_types.specs.Groups.{next_group, building_at, drop_checks};
+ghost use Rattle.gaspi_types.specs.Groups.{next_group, building_at, delete_checks};
 ghost use Rattle.gaspi_types.specs.SegmentTables.{next_generation};
 ghost use Rattle.gaspi_types.specs.declared.replies.Reply.TheVariants.{Done};
-ghost use Rattle.gaspi_model.specs.Calls.{plain_done, posts_done};
+ghost use Rattle.gaspi_model.specs.Calls.{plain_effect, posts_effect};
 ghost use Rattle.gaspi_model.specs.GroupCalls.{group_create_leaves, group_add_leaves, group_delete_leaves};
 ghost use Rattle.gaspi_model.specs.Posting.{with_post};
-ghost use Rattle.gaspi_model.specs.QueueCalls.{wait_finds, closed, purged};
+ghost use Rattle.gaspi_model.specs.QueueCalls.{wait_result, closed, purged};
 ghost use Rattle.gaspi_model.specs.SegmentCalls.{with_own, without_own, with_known};
 ghost use Rattle.gaspi_model.specs.declared.states.ThreadState.TheVariants.{Ended};
 
@@ -38,7 +38,7 @@ impl NodePosts {
 
     /// The open count of a queue that is ready returns to 0. (GASPI: wait)
     fn close_wait(&mut self, queue: u64)
-        requires { wait_finds self.old.posts (record { queue = queue }) ≡ Ok (Some Done) }
+        requires { wait_result self.old.posts (record { queue = queue }) ≡ Ok (Some Done) }
         ensures { self.new ≡ with_posts self.old (closed self.old.posts queue) }
     {
         self.lanes.close_wait(queue);
@@ -103,7 +103,7 @@ impl NodePosts {
 
     /// Drops a group. (GASPI: group_delete)
     fn delete_group(&mut self, group: u64)
-        requires { IsOk (drop_checks self.old.posts.groups group) }
+        requires { IsOk (delete_checks self.old.posts.groups group) }
         ensures { self.new ≡ with_posts self.old (group_delete_leaves self.old.posts (record { group = group })) }
     {
         match self.groups.delete(group) {
@@ -128,7 +128,7 @@ impl NodePosts {
     /// What a call leaves that posts nothing.
     fn change(&mut self, thread: ThreadId, call: &Call)
         requires { MayChangePosts self.old call.now }
-        ensures { self.new ≡ with_posts self.old (plain_done self.old.posts thread call.now) }
+        ensures { self.new ≡ with_posts self.old (plain_effect self.old.posts thread call.now) }
     {
         match call {
             Call::Alloc(call) => self.add_own(call.seg, call.size as u32),
@@ -164,7 +164,7 @@ impl NodePosts {
     )
         requires posting { posting ≡ (row_of call.now).posting }
         requires may { MayAffectPosts self.old posting call.now entries.old }
-        ensures { self.new ≡ with_posts self.old (posts_done self.old.limits self.old.me self.old.posts thread call.now) }
+        ensures { self.new ≡ with_posts self.old (posts_effect self.old.limits self.old.me self.old.posts thread call.now) }
     {
         match posting {
             Some(to) => self.post_reserved(to, entries),

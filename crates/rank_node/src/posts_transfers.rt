@@ -2,8 +2,8 @@
 
 ghost use Rattle.std.specs.Prelude.{◌≡◌, Some, IfSome};
 ghost use Rattle.gaspi_types.specs.declared.entries.Entry.{Entry};
-ghost use Rattle.gaspi_model.specs.Transfers.{taken_bytes, take_outcome, put_outcome};
-ghost use Rattle.post_queue.specs.LanesStates.{next_take, next_put, head_of};
+ghost use Rattle.gaspi_model.specs.Transfers.{source_bytes, take_outcome, put_outcome};
+ghost use Rattle.post_queue.specs.LanesStates.{front_posted_of, front_carried_of, head_of};
 ghost use Rattle.rank_node.specs.Transfers.{lanes_of, take_of, put_of, posts_taken, posts_put, memory_left, recorded, MayTakeFrom, MayPutNext};
 
 use crate::lane_transfers::{put_next, take_next};
@@ -16,8 +16,8 @@ impl NodePosts {
     /// in the rank journal. It takes no memory.
     pub(crate) fn take_from(&mut self, source: &NodeMemory, place: u64, t: &Transfer)
         requires { MayTakeFrom self.old source.now.memory t.now }
-        ensures { IfSome (next_take (lanes_of self.old) t.now.queue t.now.target) (λ (e : Entry).
-            self.new ≡ recorded self.old (posts_taken self.old.posts t.now.queue t.now.target (taken_bytes source.now.memory e.kind) (take_outcome source.now.memory e.kind)) place (take_of t.now (take_outcome source.now.memory e.kind))) }
+        ensures { IfSome (front_posted_of (lanes_of self.old) t.now.queue t.now.target) (λ (e : Entry).
+            self.new ≡ recorded self.old (posts_taken self.old.posts t.now.queue t.now.target (source_bytes source.now.memory e.kind) (take_outcome source.now.memory e.kind)) place (take_of t.now (take_outcome source.now.memory e.kind))) }
     {
         let queue = u64::from(t.queue.number());
         let outcome = take_next(&mut self.lanes, &mut self.corrupt, source, queue, t.target);
@@ -35,10 +35,10 @@ impl NodePosts {
         t: &Transfer,
     ) -> Outcome
         requires { MayPutNext self.old t.now }
-        ensures outcome { IfSome (next_put (lanes_of self.old) t.now.queue t.now.target) (λ (e : Entry). result ≡ put_outcome destination.old.memory e.kind) }
-        ensures head { IfSome (next_put (lanes_of self.old) t.now.queue t.now.target) (λ (e : Entry). head_of (lanes_of self.old) t.now.queue t.now.target ≡ Some e) }
+        ensures outcome { IfSome (front_carried_of (lanes_of self.old) t.now.queue t.now.target) (λ (e : Entry). result ≡ put_outcome destination.old.memory e.kind) }
+        ensures head { IfSome (front_carried_of (lanes_of self.old) t.now.queue t.now.target) (λ (e : Entry). head_of (lanes_of self.old) t.now.queue t.now.target ≡ Some e) }
         ensures posts { self.new ≡ recorded self.old (posts_put self.old.posts t.now.queue t.now.target result) place (put_of t.now result) }
-        ensures memory { IfSome (next_put (lanes_of self.old) t.now.queue t.now.target) (λ (e : Entry). destination.new ≡ record destination.old { memory = memory_left destination.old.memory e result }) }
+        ensures memory { IfSome (front_carried_of (lanes_of self.old) t.now.queue t.now.target) (λ (e : Entry). destination.new ≡ record destination.old { memory = memory_left destination.old.memory e result }) }
     {
         let queue = u64::from(t.queue.number());
         let outcome = put_next(

@@ -9,7 +9,7 @@ use crate::node_memory::NodeMemory;
 use crate::node_posts::NodePosts;
 use crate::rooms::Room;
 use gaspi_types::{Call, CallerId, Event, Reply};
-use plain_calls::is_idle;
+use plain_calls::is_refused_or_timeout;
 
 /// Records a call with its reply: what it leaves, and one event more. It takes no memory but what the room has.
 pub(crate) fn record(
@@ -29,7 +29,7 @@ pub(crate) fn record(
     ensures posts { posts.new ≡ recorded_posts posts.old place caller call reply }
     ensures memory { memory.new ≡ recorded_memory posts.old room.old.message memory.old call reply }
 {
-    if !is_idle(&reply) {
+    if !is_refused_or_timeout(&reply) {
         memory.affect(&call, &mut room.made, &mut room.message);
         let posting = room.row.posting;
         posts.affect(caller.thread, &call, posting, &mut room.entries);

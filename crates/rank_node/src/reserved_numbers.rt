@@ -4,7 +4,7 @@ ghost use Rattle.std.specs.Prelude.{◌≡◌, ◌≤◌, length, false, IfOk, I
 ghost use Rattle.gaspi_types.specs.CallRows.{row_of};
 ghost use Rattle.rank_node.specs.Numbers.{capacities_for, ReplyFits};
 
-use gaspi_types::{Args, Call, NoMemory, Numbers, Reply, Rows};
+use gaspi_types::{Args, Call, NoMemory, Numbers, Reply, Sequence};
 use std::alloc::Global;
 use std::marker::Model;
 
@@ -13,11 +13,11 @@ use std::marker::Model;
 #[derive(Debug, Drop)]
 pub struct ReservedNumbers {
     /// For the values of the collective that is pending.
-    pub(crate) values: Rows<i128>,
+    pub(crate) values: Sequence<i128>,
     /// For the numbers of the answer in its event.
-    pub(crate) event: Rows<i128>,
+    pub(crate) event: Sequence<i128>,
     /// For the numbers of the answer to the caller.
-    pub(crate) caller: Rows<i128>,
+    pub(crate) caller: Sequence<i128>,
 }
 
 impl Model for ReservedNumbers {
@@ -31,22 +31,22 @@ impl Model for ReservedNumbers {
 }
 
 /// So many zeros.
-pub(crate) fn blank(alloc: Global, count: usize) -> Result<Rows<i128>, NoMemory>
+pub(crate) fn blank(alloc: Global, count: usize) -> Result<Sequence<i128>, NoMemory>
     ensures { IfOk result (λ rows. length rows ≡ count) }
 {
-    Ok(Rows::from_vec(vec![in alloc; 0; count]?))
+    Ok(Sequence::from_vec(vec![in alloc; 0; count]?))
 }
 
 /// Takes a list, and leaves the empty one. It takes no memory.
-pub(crate) fn take_rows(rows: &mut Rows<i128>) -> Rows<i128>
+pub(crate) fn take_rows(rows: &mut Sequence<i128>) -> Sequence<i128>
     ensures { result ≡ rows.old }
 {
     let alloc = rows.allocator();
-    std::mem::replace(rows, Rows::new(alloc))
+    std::mem::replace(rows, Sequence::new(alloc))
 }
 
 /// Equal numbers, in a list that is long enough.
-fn copied(numbers: &Numbers, mut list: Rows<i128>) -> Numbers
+fn copied(numbers: &Numbers, mut list: Sequence<i128>) -> Numbers
     requires { length numbers.now.items ≤ length list }
     ensures { result ≡ numbers.now }
 {
@@ -57,7 +57,7 @@ fn copied(numbers: &Numbers, mut list: Rows<i128>) -> Numbers
 }
 
 /// Equal arguments, in a list that is long enough.
-pub(crate) fn copied_args(args: &Args, list: Rows<i128>) -> Args
+pub(crate) fn copied_args(args: &Args, list: Sequence<i128>) -> Args
     requires { length args.now.values.items ≤ length list }
     ensures { result ≡ args.now }
 {
@@ -68,7 +68,7 @@ pub(crate) fn copied_args(args: &Args, list: Rows<i128>) -> Args
 }
 
 /// An equal reply. Of numbers it takes the list, which is long enough.
-fn reply_in(reply: &Reply, list: &mut Rows<i128>) -> Reply
+fn reply_in(reply: &Reply, list: &mut Sequence<i128>) -> Reply
     requires { ReplyFits reply.now (length list.old) }
     ensures { result ≡ reply.now }
 {
@@ -92,9 +92,9 @@ impl ReservedNumbers {
         ensures caller { result.caller ≡ 0 }
     {
         ReservedNumbers {
-            values: Rows::new(alloc),
-            event: Rows::new(alloc),
-            caller: Rows::new(alloc),
+            values: Sequence::new(alloc),
+            event: Sequence::new(alloc),
+            caller: Sequence::new(alloc),
         }
     }
 

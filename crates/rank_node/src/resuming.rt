@@ -2,12 +2,14 @@
 
 ghost use Rattle.std.specs.Prelude.{◌≡◌, ℕ, Ok};
 ghost use Rattle.std.specs.Option.{option_copied};
-ghost use Rattle.gaspi_types.specs.Collectives.{resume, asks_same, same_args};
+ghost use Rattle.gaspi_types.specs.Collectives.{resume, has_same_args, same_args};
 ghost use Rattle.gaspi_types.specs.declared.calls.Call.TheVariants as calls;
 ghost use Rattle.gaspi_model.specs.CollectiveCalls.{element_checks, plain_args, args_of};
 
 use gaspi_model::{same_coll, same_numbers};
-use gaspi_types::{Allreduce, Args, Call, Coll, NumType, Pending, Refusal, Resume, ThreadId};
+use gaspi_types::{
+    Allreduce, Args, Call, Coll, NumType, PendingCollective, Refusal, Resume, ThreadId,
+};
 
 /// Whether a collective without values is the one that is kept.
 fn is_plain_same(coll: Coll, kept: &Args) -> bool
@@ -21,7 +23,7 @@ fn is_plain_same(coll: Coll, kept: &Args) -> bool
 /// Whether an allreduce is the one that is kept.
 fn is_reduce_same(call: &Allreduce, kept: &Args) -> bool
     requires { element_checks (calls.Allreduce call.now) ≡ Ok tt }
-    ensures { (members : ℕ) → result ≡ asks_same (args_of members (calls.Allreduce call.now)) kept.now }
+    ensures { (members : ℕ) → result ≡ has_same_args (args_of members (calls.Allreduce call.now)) kept.now }
 {
     let count = call.values.items().len() as u32;
     let coll = Coll::Allreduce(call.op, call.values.num_type(), count);
@@ -31,7 +33,7 @@ fn is_reduce_same(call: &Allreduce, kept: &Args) -> bool
 /// Whether a call asks for the arguments that are kept, where its group has those members.
 fn asks_same(members: u32, call: &Call, kept: &Args) -> bool
     requires { element_checks call.now ≡ Ok tt }
-    ensures { result ≡ asks_same (args_of members call.now) kept.now }
+    ensures { result ≡ has_same_args (args_of members call.now) kept.now }
 {
     match call {
         Call::Commit(_) => is_plain_same(Coll::Commit(members), kept),
@@ -50,7 +52,7 @@ fn asks_same(members: u32, call: &Call, kept: &Args) -> bool
 /// What a collective of a thread meets where that one of the rank is pending on its group, or none: as `gaspi_model::resume` says,
 /// without the arguments of the call. It takes no memory. (GASPI: timeouts)
 pub(crate) fn resumes(
-    pending: Option<&Pending>,
+    pending: Option<&PendingCollective>,
     thread: ThreadId,
     members: u32,
     call: &Call,

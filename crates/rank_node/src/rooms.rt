@@ -3,8 +3,8 @@
 ghost use Rattle.std.specs.Prelude.{◌≡◌, ◌≤◌, false, length, IfOk, IsOk, IsSome, None, Ok, Some};
 ghost use Rattle.gaspi_types.specs.CallRows.{row_of};
 ghost use Rattle.gaspi_types.specs.SegmentTables.{alloc_checks};
-ghost use Rattle.gaspi_model.specs.Calls.{call_asks};
-ghost use Rattle.gaspi_model.specs.PassiveCalls.{brought_by};
+ghost use Rattle.gaspi_model.specs.Calls.{requested_kinds};
+ghost use Rattle.gaspi_model.specs.PassiveCalls.{sent_message};
 ghost use Rattle.rank_node.specs.Making.{made_segment};
 ghost use Rattle.rank_node.specs.Values.{PostsValue, MemoryValue};
 ghost use Rattle.rank_node.specs.Rooms.{HasEntries, HasMade, HasBytes, IsRoomFor};
@@ -13,7 +13,7 @@ use crate::making::MadeSegment;
 use crate::node_memory::NodeMemory;
 use crate::node_posts::NodePosts;
 use crate::reserved_numbers::ReservedNumbers;
-use gaspi_types::{Bytes, Call, CallRow, Invocation, Message, NoMemory, Posting, Reply, Rows};
+use gaspi_types::{Bytes, Call, CallRow, Invocation, Message, NoMemory, Posting, Reply, Sequence};
 use plain_calls::message_of;
 use post_queue::{BuildStop, Entries, asked_entries};
 use segment_store::{check_alloc, check_own_range};
@@ -39,7 +39,7 @@ fn reserve_entries(
     call: &Call,
 ) -> Result<Option<Entries>, NoMemory>
     requires { posting ≡ (row_of call.now).posting }
-    ensures entries { IfOk result (λ entries. HasEntries (row_of call.now).posting (call_asks posts.now.limits posts.now.me posts.now.posts call.now) entries) }
+    ensures entries { IfOk result (λ entries. HasEntries (row_of call.now).posting (requested_kinds posts.now.limits posts.now.me posts.now.posts call.now) entries) }
     ensures ample { (row_of call.now).takes_memory ≡ false → IsOk result }
 {
     if posting.is_none() {
@@ -92,7 +92,7 @@ fn reserve_message(
     memory: &NodeMemory,
     call: &Call,
 ) -> Result<Option<Message>, NoMemory>
-    ensures message { IfOk result (λ message. message ≡ brought_by posts.now.me memory.now.memory call.now) }
+    ensures message { IfOk result (λ message. message ≡ sent_message posts.now.me memory.now.memory call.now) }
     ensures ample { (row_of call.now).takes_memory ≡ false → IsOk result }
 {
     match call {
@@ -112,10 +112,10 @@ fn reserve_bytes(alloc: Global, posts: &NodePosts, call: &Call) -> Result<Bytes,
     if let Call::Load(call) = call {
         let own = &posts.segments.own;
         if check_own_range(own, call.seg, call.offset, call.size).is_ok() {
-            return Ok(Rows::from_vec(vec![in alloc; 0u8; call.size as usize]?));
+            return Ok(Sequence::from_vec(vec![in alloc; 0u8; call.size as usize]?));
         }
     }
-    Ok(Rows::new(alloc))
+    Ok(Sequence::new(alloc))
 }
 
 /// The room of a call that posts nothing and takes no memory.
@@ -129,7 +129,7 @@ fn empty_room(alloc: Global, invocation: &Invocation<'_>) -> Room
         entries: None,
         made: None,
         message: None,
-        bytes: Rows::new(alloc),
+        bytes: Sequence::new(alloc),
         numbers: ReservedNumbers::nothing(alloc),
     }
 }
@@ -150,7 +150,7 @@ fn post_room(
         entries: reserve_entries(alloc, posts, row.posting, invocation.call)?,
         made: None,
         message: None,
-        bytes: Rows::new(alloc),
+        bytes: Sequence::new(alloc),
         numbers: ReservedNumbers::nothing(alloc),
     })
 }
@@ -201,7 +201,7 @@ fn take_bytes(bytes: &mut Bytes) -> Bytes
     ensures { result ≡ bytes.old }
 {
     let alloc = bytes.allocator();
-    std::mem::replace(bytes, Rows::new(alloc))
+    std::mem::replace(bytes, Sequence::new(alloc))
 }
 
 /// Equal bytes, in a list that is long enough.

@@ -5,7 +5,7 @@ use Rattle.std.proofs.lemmas.List.{length-map}
 use Rattle.std.proofs.lemmas.Option.{slice_get-get_or, slice_get_within}
 use Rattle.std.proofs.Math.Seq.{take-append_seam}
 use mathlib.Core.List.{IsPrefix}
-use Rattle.gaspi_types.specs.World.{World}
+use Rattle.gaspi_types.specs.World.{ShapeValue}
 use Rattle.gaspi_types.specs.declared.events.Event.{Event}
 use Rattle.gaspi_types.proofs.Items.{map-at, there-within}
 use Rattle.gaspi_model.specs.Settled.{IsSettled}
@@ -126,7 +126,7 @@ module _ {P T : Type 0} (world : TableValue Start) (there : AreCallersThere worl
       (λ place t at. let did = all place t at in outcome-many place did.0 t (ready place did.0 did.1) did.2)
 
 -- What is settled stays so.
-pub drained-later : ((s t : State) (events : List Event) → IsSettled s → after s events ≡ Ok t → IsSettled t) → (w : World) (seen journal : List Event) → is_legal w journal ≡ true → IsPrefix seen journal → IsDrained w seen → IsDrained w journal
+pub drained-later : ((s t : State) (events : List Event) → IsSettled s → after s events ≡ Ok t → IsSettled t) → (w : ShapeValue) (seen journal : List Event) → is_legal w journal ≡ true → IsPrefix seen journal → IsDrained w seen → IsDrained w journal
 drained-later stays w seen journal legal more drained =
     let all = leads (reached w journal) legal in
     let parts = after-both (opening w) all.0 seen more.0 (ap (reached w) more.1 ∙ all.1) in

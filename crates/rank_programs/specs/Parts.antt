@@ -9,7 +9,7 @@ use Rattle.gaspi_world.specs.Callers.{IsPassOf, IsWorkers}
 use Rattle.gaspi_world.specs.Calling.{MayCall}
 use Rattle.gaspi_world.specs.declared.launching.Task.{Task}
 use Rattle.gaspi_world.specs.declared.starts.Start.{Start}
-use Rattle.transfer_worker.specs.Turns.{GoesOn, IsDrained}
+use Rattle.transfer_worker.specs.Turns.{IsExtended, IsDrained}
 use Rattle.rank_programs.specs.declared.parts.Part.{Part}
 use Rattle.rank_programs.specs.declared.parts.Part.TheVariants.{Caller, Worker}
 
@@ -29,7 +29,7 @@ AreCallersThere world = (place : ℕ) → place < length world.start.shape.calle
 pub record HasWorked (p q : PassValue Start Event) : Type 0 where
   pub table : q.table ≡ p.table
   pub free : HoldsNone q.known
-  pub goes_on : GoesOn p.known q.known
+  pub goes_on : IsExtended p.known q.known
   pub none_left : (start : Start) → p.known.start ≡ Some start → IsDrained start.shape q.known.seen
 
 module _ {P T : Type 0} where

@@ -4,7 +4,7 @@ ghost use Rattle.std.specs.Prelude.{◌≡◌};
 ghost use Rattle.commit_table.specs.Calls.{IsOf, HoldsNone};
 ghost use Rattle.gaspi_world.specs.Calling.{MayCall};
 ghost use Rattle.gaspi_world.specs.Callers.{IsWorkers};
-ghost use Rattle.transfer_worker.specs.Turns.{GoesOn, IsDrained};
+ghost use Rattle.transfer_worker.specs.Turns.{IsExtended, IsDrained};
 
 use crate::callers::Caller;
 use crate::programs::Program;
@@ -48,7 +48,7 @@ fn drain<R: Wait>(rt: &R, world: &World, pass: &mut Pass, turns: u64)
     requires worker { IsWorkers world.now.start.shape pass.old.known }
     ensures table { pass.new.table ≡ pass.old.table }
     ensures free { HoldsNone pass.new.known }
-    ensures goes_on { GoesOn pass.old.known pass.new.known }
+    ensures goes_on { IsExtended pass.old.known pass.new.known }
     ensures drained { IsDrained world.now.start.shape pass.new.known.seen }
 {
     Worker { world, pass, turns }.drain(rt);

@@ -17,7 +17,7 @@ use crate::replies::{Unexpected, lacks};
 use gaspi_types::{
     Alloc, Allreduce, Barrier, Bytes, Call, Commit, CompareSwap, Create, Delete, FetchAdd,
     GroupAdd, GroupDelete, Item, Load, Notify, NumType, Numbers, Op, PassiveReceive, PassiveSend,
-    Purge, Qsize, Read, ReadList, ReadListNotify, ReadNotify, Register, Reset, Rows, Store,
+    Purge, Qsize, Read, ReadList, ReadListNotify, ReadNotify, Register, Reset, Sequence, Store,
     Timeout, Wait as WaitQueue, Waitsome, Write, WriteList, WriteListNotify, WriteNotify,
 };
 use std::sync::Wait;
@@ -84,7 +84,7 @@ impl<'a, R: Wait> Caller<'a, R> {
         ensures stays { StaysCaller self.old self.new }
         ensures answers { AnswersOrLacks done (calls.Store (record { seg = seg; offset = offset; bytes = bytes.now })) (Looks 1) (length bytes.now) self.old result self.new }
     {
-        let Ok(bytes) = Rows::copied_from(self.alloc, bytes) else {
+        let Ok(bytes) = Sequence::copied_from(self.alloc, bytes) else {
             return Err(lacks("gaspi_store"));
         };
         let args = Store { seg, offset, bytes };
@@ -210,7 +210,7 @@ impl<'a, R: Wait> Caller<'a, R> {
         ensures stays { StaysCaller self.old self.new }
         ensures answers { AnswersOrLacks done (calls.WriteList (record { rank = rank; queue = queue; items = items.now })) (Looks 1) (length items.now) self.old result self.new }
     {
-        let Ok(items) = Rows::copied_from(self.alloc, items) else {
+        let Ok(items) = Sequence::copied_from(self.alloc, items) else {
             return Err(lacks("gaspi_write_list"));
         };
         let args = WriteList { rank, queue, items };
@@ -231,7 +231,7 @@ impl<'a, R: Wait> Caller<'a, R> {
         ensures stays { StaysCaller self.old self.new }
         ensures answers { AnswersOrLacks done (calls.WriteListNotify (record { rank = rank; queue = queue; nseg = nseg; note = note; value = value; items = items.now })) (Looks 1) (length items.now) self.old result self.new }
     {
-        let Ok(items) = Rows::copied_from(self.alloc, items) else {
+        let Ok(items) = Sequence::copied_from(self.alloc, items) else {
             return Err(lacks("gaspi_write_list_notify"));
         };
         let args = WriteListNotify {
@@ -255,7 +255,7 @@ impl<'a, R: Wait> Caller<'a, R> {
         ensures stays { StaysCaller self.old self.new }
         ensures answers { AnswersOrLacks done (calls.ReadList (record { rank = rank; queue = queue; items = items.now })) (Looks 1) (length items.now) self.old result self.new }
     {
-        let Ok(items) = Rows::copied_from(self.alloc, items) else {
+        let Ok(items) = Sequence::copied_from(self.alloc, items) else {
             return Err(lacks("gaspi_read_list"));
         };
         let args = ReadList { rank, queue, items };
@@ -275,7 +275,7 @@ impl<'a, R: Wait> Caller<'a, R> {
         ensures stays { StaysCaller self.old self.new }
         ensures answers { AnswersOrLacks done (calls.ReadListNotify (record { rank = rank; queue = queue; nseg = nseg; note = note; items = items.now })) (Looks 1) (length items.now) self.old result self.new }
     {
-        let Ok(items) = Rows::copied_from(self.alloc, items) else {
+        let Ok(items) = Sequence::copied_from(self.alloc, items) else {
             return Err(lacks("gaspi_read_list_notify"));
         };
         let args = ReadListNotify {
@@ -512,7 +512,7 @@ impl<'a, R: Wait> Caller<'a, R> {
         ensures stays { StaysCaller self.old self.new }
         ensures answers { AnswersOrLacks replies.List (calls.Allreduce (record { group = group; op = op; values = record { num_type = num_type; items = numbers.now } })) timeout (length numbers.now) self.old result self.new }
     {
-        let Ok(items) = Rows::copied_from(self.alloc, numbers) else {
+        let Ok(items) = Sequence::copied_from(self.alloc, numbers) else {
             return Err(lacks("gaspi_allreduce"));
         };
         let values = Numbers::new(num_type, items);

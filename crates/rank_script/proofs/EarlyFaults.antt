@@ -1,7 +1,7 @@
 -- The faults of a line that show before its arguments are read.
 use Rattle.std.proofs.Common.{◌≡◌, ℕ, Bool, true, false, cond, List, Option, Some, None, refl}
 use Rattle.rank_script.specs.Lines.{is_bad_line}
-use Rattle.rank_script.specs.WorldText.{Said, Line, lacks_world, is_unknown, is_misplaced, is_miscounted, fault_in}
+use Rattle.rank_script.specs.WorldText.{WorldReading, Line, lacks_world, is_unknown, is_misplaced, is_miscounted, fault_in}
 use Rattle.rank_script.specs.Readings.{early_fault, late_fault}
 
 -- the early faults come first
@@ -26,11 +26,11 @@ early false false false true e rest fault h = cc
 early false false false false true rest fault h = cc
 early false false false false false rest fault h = absurd (let no : ⊥ = cc in no)
 
-pub fault_in-late : (said : Said) (bytes : List ℕ) (line : Line) → early_fault said bytes line ≡ None → fault_in said bytes line ≡ late_fault said line
+pub fault_in-late : (said : WorldReading) (bytes : List ℕ) (line : Line) → early_fault said bytes line ≡ None → fault_in said bytes line ≡ late_fault said line
 fault_in-late said bytes line h =
     late (lacks_world said line) (is_bad_line bytes) (is_unknown line) (is_misplaced said line) (is_miscounted line) (late_fault said line) h
 
-pub fault_in-early : (said : Said) (bytes : List ℕ) (line : Line) (fault : ℕ) → Some fault ≡ early_fault said bytes line → fault_in said bytes line ≡ Some fault
+pub fault_in-early : (said : WorldReading) (bytes : List ℕ) (line : Line) (fault : ℕ) → Some fault ≡ early_fault said bytes line → fault_in said bytes line ≡ Some fault
 fault_in-early said bytes line fault h =
     early (lacks_world said line) (is_bad_line bytes) (is_unknown line) (is_misplaced said line) (is_miscounted line) (late_fault said line) fault h
 
@@ -43,13 +43,13 @@ none-of false false false true e h = absurd (let no : ⊥ = cc in no)
 none-of false false false false true h = absurd (let no : ⊥ = cc in no)
 none-of false false false false false h = (refl, refl, refl, refl)
 
-pub record IsPlaced (said : Said) (line : Line) : Type 0 where
+pub record IsPlaced (said : WorldReading) (line : Line) : Type 0 where
   pub world : lacks_world said line ≡ false
   pub known : is_unknown line ≡ false
   pub placed : is_misplaced said line ≡ false
   pub count : is_miscounted line ≡ false
 
-pub placed : (said : Said) (bytes : List ℕ) (line : Line) → None ≡ early_fault said bytes line → IsPlaced said line
+pub placed : (said : WorldReading) (bytes : List ℕ) (line : Line) → None ≡ early_fault said bytes line → IsPlaced said line
 placed said bytes line h =
     let parts = none-of (lacks_world said line) (is_bad_line bytes) (is_unknown line) (is_misplaced said line) (is_miscounted line) h in
     record { world = parts.0; known = parts.1; placed = parts.2; count = parts.3 }

@@ -6,10 +6,10 @@ use Rattle.std.proofs.Math.Seq.{take-append-add}
 use Rattle.std.proofs.lemmas.Bool.Decides.{nat_tests}
 use Rattle.call_texts.specs.Lines.{fed_lines, plain_line}
 use Rattle.call_texts.proofs.FedLines.{concat-fed_lines, fed_lines-take}
-use Rattle.rank_script.specs.WorldText.{nothing_said, read_lines, world_text, is_journal_line, journal_from, journal_place, world_part, checked_world, Reads, ReadsInput}
+use Rattle.rank_script.specs.WorldText.{empty_reading, read_lines, world_text, is_journal_line, journal_from, journal_offset, world_text_bytes, checked_world, Reads, ReadsInput}
 use Rattle.rank_script.specs.Lines.{input_limit}
 use Rattle.rank_script.specs.UntilJournal.{lines_until, until_text}
-use Rattle.gaspi_types.specs.World.{World}
+use Rattle.gaspi_types.specs.World.{ShapeValue}
 use Rattle.rank_script.specs.declared.scripts.Script.{Script}
 use Rattle.rank_script.specs.declared.scripts.ScriptFault.{ScriptFault}
 use Rattle.rank_script.specs.declared.scripts.ScriptFault.TheVariants as faults
@@ -27,7 +27,7 @@ same-fault : (fault : ScriptFault) (text : List ℕ) (place : Option (ℕ × ℕ
 same-fault (faults.At number line) text place h = sym (world-until text) ∙ h
 same-fault faults.NoMemory text place h = tt
 
-pub world-faulty : (result : Result (World × List Script) ScriptFault) (fault : ScriptFault) (text : List ℕ) (place : Option (ℕ × ℕ)) → IsErr result → IsErrAnd result (λ e. e ≡ fault)
+pub world-faulty : (result : Result (ShapeValue × List Script) ScriptFault) (fault : ScriptFault) (text : List ℕ) (place : Option (ℕ × ℕ)) → IsErr result → IsErrAnd result (λ e. e ≡ fault)
     → ReadsInput (Err fault) (until_text false text) place → Reads result (world_text text)
 world-faulty (Ok read) fault text place is same h = absurd (let no : ⊥ = cc in no)
 world-faulty (Err e) fault text place is same h = subst (λ (f : ScriptFault). Reads (Err f) (world_text text)) (sym same) (same-fault fault text place h)
@@ -38,10 +38,10 @@ count_until : List (List ℕ) → ℕ
 count_until [] = 0
 count_until (line ∷ lines) = cond (is_journal_line (plain_line line)) 0 (suc (count_until lines))
 
-lines-taken : (lines : List (List ℕ)) → lines_until true lines ≡ take (count_until lines) lines
+lines-spelled : (lines : List (List ℕ)) → lines_until true lines ≡ take (count_until lines) lines
 unfolding count_until
-lines-taken [] = refl
-lines-taken (line ∷ lines) = go (is_journal_line (plain_line line)) (lines-taken lines)
+lines-spelled [] = refl
+lines-spelled (line ∷ lines) = go (is_journal_line (plain_line line)) (lines-spelled lines)
   where
     go : (begins : Bool) → lines_until true lines ≡ take (count_until lines) lines
         → cond begins [] (line ∷ lines_until true lines) ≡ take (cond begins 0 (suc (count_until lines))) (line ∷ lines)
@@ -86,27 +86,27 @@ first-lines (suc count) (line ∷ lines) =
     ∙ take-append-add line (concat lines) (length (concat (take count lines))) ∙ ap (λ (bytes : List ℕ). line ++ bytes) (first-lines count lines)
 
 -- the lines of the world text of an input
-part-lines : (text : List ℕ) → fed_lines (world_part text) ≡ lines_until true (fed_lines text)
-part-lines text = go (journal_place text) refl
+part-lines : (text : List ℕ) → fed_lines (world_text_bytes text) ≡ lines_until true (fed_lines text)
+part-lines text = go (journal_offset text) refl
   where
-    go : (place : Option (ℕ × ℕ)) → journal_place text ≡ place → fed_lines (world_part text) ≡ lines_until true (fed_lines text)
+    go : (place : Option (ℕ × ℕ)) → journal_offset text ≡ place → fed_lines (world_text_bytes text) ≡ lines_until true (fed_lines text)
     go None none =
-        let part : world_part text ≡ text = rw none refl in
+        let part : world_text_bytes text ≡ text = rw none refl in
         ap fed_lines part ∙ sym (no-journal 0 1 (fed_lines text) none)
     go (Some place) some =
         let count = count_until (fed_lines text) in
-        let taken = lines-taken (fed_lines text) in
-        let part : world_part text ≡ take place.0 text = rw some refl in
+        let taken = lines-spelled (fed_lines text) in
+        let part : world_text_bytes text ≡ take place.0 text = rw some refl in
         let long : place.0 ≡ length (concat (take count (fed_lines text))) =
         journal-behind 0 1 (fed_lines text) place some ∙ zero-add _ ∙ ap (λ (lines : List (List ℕ)). length (concat lines)) taken in
         let front : take place.0 text ≡ concat (take count (fed_lines text)) =
         ap (λ (n : ℕ). take n text) long ∙ ap (λ (bytes : List ℕ). take (length (concat (take count (fed_lines text)))) bytes) (sym (concat-fed_lines text)) ∙ first-lines count (fed_lines text) in
         ap fed_lines (part ∙ front) ∙ fed_lines-take text count ∙ sym taken
 
-part-short : (text : List ℕ) → length (world_part text) ≤ length text
-part-short text = go (journal_place text) refl
+part-short : (text : List ℕ) → length (world_text_bytes text) ≤ length text
+part-short text = go (journal_offset text) refl
   where
-    go : (place : Option (ℕ × ℕ)) → journal_place text ≡ place → length (world_part text) ≤ length text
+    go : (place : Option (ℕ × ℕ)) → journal_offset text ≡ place → length (world_text_bytes text) ≤ length text
     go None none = rw none (omega arith)
     go (Some place) some = rw some (omega (arith, length-take place.0 text))
 
@@ -120,5 +120,5 @@ same-short false long first second same = same refl
 pub input-until : (text : List ℕ) → until_text true text ≡ checked_world text
 input-until text = same-short (nat_lt input_limit (length text)) _ _ _ (λ test.
     let fits = not-long input_limit (length text) test in
-    let within : length (world_part text) ≤ input_limit = omega (arith, part-short text) in
-    ap (λ (lines : List (List ℕ)). read_lines nothing_said 1 (map plain_line lines)) (sym (part-lines text)) ∙ sym (within-limit input_limit (length (world_part text)) _ _ within))
+    let within : length (world_text_bytes text) ≤ input_limit = omega (arith, part-short text) in
+    ap (λ (lines : List (List ℕ)). read_lines empty_reading 1 (map plain_line lines)) (sym (part-lines text)) ∙ sym (within-limit input_limit (length (world_text_bytes text)) _ _ within))

@@ -6,7 +6,7 @@ use Rattle.std.proofs.lemmas.Bool.{ne_eqb, lt-ltb}
 use Rattle.std.proofs.lemmas.List.Elements.{All-nil, All-append}
 use Rattle.std.proofs.lemmas.List.Folds.{list_any-append}
 use Rattle.std.proofs.lemmas.List.Sums.{sum_by-append}
-use Rattle.gaspi_types.specs.World.{World, is_segment, is_caller, segment_added, caller_added, Declares}
+use Rattle.gaspi_types.specs.World.{ShapeValue, is_segment, is_caller, segment_added, caller_added, Declares}
 use Rattle.gaspi_types.specs.declared.shapes.CallerId.{CallerId}
 use Rattle.gaspi_types.specs.declared.shapes.ShapeFault.{ShapeFault}
 use Rattle.gaspi_types.specs.declared.shapes.ShapeFault.TheVariants as faults
@@ -37,48 +37,48 @@ no-callers rank (suc count) below =
     ∙ rw (no-callers rank count (omega arith)) (rw other refl)
 
 -- the world with the segments of one rank more, and with the callers of as many
-abbrev pub with_segment : World → ℕ → World
+abbrev pub with_segment : ShapeValue → ℕ → ShapeValue
 with_segment w rank = record { limits = w.limits; segments = bench_segments (rank + 1); callers = w.callers }
 
-abbrev pub with_caller : World → ℕ → World
+abbrev pub with_caller : ShapeValue → ℕ → ShapeValue
 with_caller w rank = record { limits = w.limits; segments = w.segments; callers = bench_callers (rank + 1) }
 
 -- the segment of the next rank is declared
-pub next-segment : (w : World) (rank : ℕ) → rank < w.limits.ranks → w.segments ≡ bench_segments rank → segment_added w rank 0 16 ≡ Ok (with_segment w rank)
+pub next-segment : (w : ShapeValue) (rank : ℕ) → rank < w.limits.ranks → w.segments ≡ bench_segments rank → segment_added w rank 0 16 ≡ Ok (with_segment w rank)
 next-segment w rank there segments =
     let within = lt-ltb rank w.limits.ranks there in
     rw (add-one, within, segments) (rw (no-segment rank rank (omega arith)) refl)
 
 -- and its caller
-pub next-caller : (w : World) (rank : ℕ) → rank < w.limits.ranks → 0 < w.limits.events → w.callers ≡ bench_callers rank → caller_added w rank 0 ≡ Ok (with_caller w rank)
+pub next-caller : (w : ShapeValue) (rank : ℕ) → rank < w.limits.ranks → 0 < w.limits.events → w.callers ≡ bench_callers rank → caller_added w rank 0 ≡ Ok (with_caller w rank)
 next-caller w rank there room callers =
     let within = lt-ltb rank w.limits.ranks there in
     let some = lt-ltb 0 w.limits.events room in
     rw (add-one, within, callers) (rw (no-caller rank rank (omega arith)) (rw (no-callers rank rank (omega arith)) (rw some refl)))
 
 -- A declaration that is refused where it could be made found no memory.
-pub only-memory : (fault : ShapeFault) (old new made : World) → Declares (Err fault) old new (Ok made) → fault ≡ faults.NoMemory
+pub only-memory : (fault : ShapeFault) (old new made : ShapeValue) → Declares (Err fault) old new (Ok made) → fault ≡ faults.NoMemory
 only-memory faults.Limit old new made h = absurd (let e = h.0 in let no : ⊥ = cc in no)
 only-memory faults.Twice old new made h = absurd (let e = h.0 in let no : ⊥ = cc in no)
 only-memory faults.Threads old new made h = absurd (let e = h.0 in let no : ⊥ = cc in no)
 only-memory faults.NoMemory old new made h = refl
 
 -- that of the next rank's segment
-pub refused-segment : (fault : ShapeFault) (w new : World) (rank n : ℕ) → n ≡ rank → rank < w.limits.ranks → w.segments ≡ bench_segments rank
+pub refused-segment : (fault : ShapeFault) (w new : ShapeValue) (rank n : ℕ) → n ≡ rank → rank < w.limits.ranks → w.segments ≡ bench_segments rank
     → Declares (Err fault) w new (segment_added w n 0 16) → fault ≡ faults.NoMemory
 refused-segment fault w new rank n same there segments h =
     let made : segment_added w n 0 16 ≡ Ok (with_segment w rank) = rw same (next-segment w rank there segments) in
-    only-memory fault w new (with_segment w rank) (subst (λ (made : Result World ShapeFault). Declares (Err fault) w new made) made h)
+    only-memory fault w new (with_segment w rank) (subst (λ (made : Result ShapeValue ShapeFault). Declares (Err fault) w new made) made h)
 
 -- that of its caller, which comes after that of the segment
-pub refused-caller : (fault : ShapeFault) (w between new : World) (rank n m : ℕ) → n ≡ rank → m ≡ rank → rank < w.limits.ranks → 0 < w.limits.events
+pub refused-caller : (fault : ShapeFault) (w between new : ShapeValue) (rank n m : ℕ) → n ≡ rank → m ≡ rank → rank < w.limits.ranks → 0 < w.limits.events
     → w.segments ≡ bench_segments rank → w.callers ≡ bench_callers rank → segment_added w n 0 16 ≡ Ok between
     → Declares (Err fault) between new (caller_added between m 0) → fault ≡ faults.NoMemory
 refused-caller fault w between new rank n m same same_too there room segments callers added h =
     let made : segment_added w n 0 16 ≡ Ok (with_segment w rank) = rw same (next-segment w rank there segments) in
     let is : between ≡ with_segment w rank = cc in
     let then : caller_added between m 0 ≡ Ok (with_caller (with_segment w rank) rank) = rw (same_too, is) (next-caller (with_segment w rank) rank there room callers) in
-    only-memory fault between new (with_caller (with_segment w rank) rank) (subst (λ (made : Result World ShapeFault). Declares (Err fault) between new made) then h)
+    only-memory fault between new (with_caller (with_segment w rank) rank) (subst (λ (made : Result ShapeValue ShapeFault). Declares (Err fault) between new made) then h)
 
 -- Its lines.
 

@@ -1,10 +1,10 @@
 -- The lines of a text read one after the other, up to its journal where that is looked for.
 use Rattle.std.proofs.Common.{◌≡◌, ℕ, ◌+◌, ◌≤◌, Bool, true, false, ◌&&◌, nat_lt, if◌then◌else◌, List, ◌∷◌, length, Option, None, Result, Ok, Err, map, IsErr, IsErrAnd, refl, sym, ◌∙◌, ap, subst, arith}
 use Rattle.std.proofs.lemmas.Bool.Decides.{nat_tests}
-use Rattle.gaspi_types.specs.World.{World}
+use Rattle.gaspi_types.specs.World.{ShapeValue}
 use Rattle.call_texts.specs.Lines.{fed_lines, plain_line}
 use Rattle.rank_script.specs.Lines.{input_limit}
-use Rattle.rank_script.specs.WorldText.{Said, TextFault, nothing_said, fault_of, after_line, read_lines, is_journal_line, ReadsInput}
+use Rattle.rank_script.specs.WorldText.{WorldReading, TextFault, empty_reading, fault_of, after_line, read_lines, is_journal_line, ReadsInput}
 use Rattle.rank_script.specs.Readings.{ReadsLine}
 use Rattle.rank_script.specs.UntilJournal.{lines_until, until_text, until_from}
 use Rattle.rank_script.specs.declared.scripts.Script.{Script}
@@ -28,7 +28,7 @@ pub record IsNext (journal : Bool) (rest line later plain : List ℕ) : Type 0 w
 next-other : (journal : Bool) (rest line later plain : List ℕ) → IsNext journal rest line later plain → (journal && is_journal_line (plain_line line)) ≡ false
 next-other journal rest line later plain next = ap (λ (l : List ℕ). journal && is_journal_line l) (sym next.is) ∙ next.other
 
-pub lines-later : (journal : Bool) (said : Said) (number : ℕ) (rest line later plain : List ℕ) → IsNext journal rest line later plain
+pub lines-later : (journal : Bool) (said : WorldReading) (number : ℕ) (rest line later plain : List ℕ) → IsNext journal rest line later plain
     → read_lines said number (map plain_line (lines_until journal (fed_lines rest))) ≡ read_lines said number (plain ∷ map plain_line (lines_until journal (fed_lines later)))
 lines-later journal said number rest line later plain next =
     ap (λ (lines : List (List ℕ)). read_lines said number (map plain_line (lines_until journal lines))) next.first
@@ -50,20 +50,20 @@ pub within-limit : {A : Type 0} (limit n : ℕ) (long short : A) → n ≤ limit
 within-limit limit n long short fits = rw (not-over limit n fits) refl
 
 -- a line with a fault
-pub line-faulty : (fault : ScriptFault) (journal : Bool) (old new : Said) (number : ℕ) (text line : List ℕ) (lines : List (List ℕ)) (place : Option (ℕ × ℕ)) → length text ≤ input_limit
-    → read_lines nothing_said 1 (map plain_line (lines_until journal (fed_lines text))) ≡ read_lines old number (line ∷ lines) → ReadsLine (Err fault) old new number line
+pub line-faulty : (fault : ScriptFault) (journal : Bool) (old new : WorldReading) (number : ℕ) (text line : List ℕ) (lines : List (List ℕ)) (place : Option (ℕ × ℕ)) → length text ≤ input_limit
+    → read_lines empty_reading 1 (map plain_line (lines_until journal (fed_lines text))) ≡ read_lines old number (line ∷ lines) → ReadsLine (Err fault) old new number line
     → ReadsInput (Err fault) (until_text journal text) place
 line-faulty (faults.At fault at) journal old new number text line lines place fits same h =
     within-limit input_limit (length text) _ _ fits ∙ same ∙ rw h.0 (ap (λ (n : ℕ). Err (record { number = fault; line = n })) (sym h.1))
 line-faulty faults.NoMemory journal old new number text line lines place fits same h = tt
 
 -- the fault is passed on
-pub passed-on : (result : Result (World × List Script × Option (ℕ × ℕ)) ScriptFault) (fault : ScriptFault) (text : Result Said TextFault) (place : Option (ℕ × ℕ)) → IsErr result → IsErrAnd result (λ e. e ≡ fault)
+pub passed-on : (result : Result (ShapeValue × List Script × Option (ℕ × ℕ)) ScriptFault) (fault : ScriptFault) (text : Result WorldReading TextFault) (place : Option (ℕ × ℕ)) → IsErr result → IsErrAnd result (λ e. e ≡ fault)
     → ReadsInput (Err fault) text place → ReadsInput result text place
 passed-on (Ok read) fault text place is same h = absurd (let no : ⊥ = cc in no)
 passed-on (Err e) fault text place is same h = subst (λ (f : ScriptFault). ReadsInput (Err f) text place) (sym same) h
 
 -- a line without one
-pub line-read : (old new : Said) (number : ℕ) (line : List ℕ) (lines : List (List ℕ)) → fault_of old line ≡ None → new ≡ after_line old number line
+pub line-read : (old new : WorldReading) (number : ℕ) (line : List ℕ) (lines : List (List ℕ)) → fault_of old line ≡ None → new ≡ after_line old number line
     → read_lines old number (line ∷ lines) ≡ read_lines new (number + 1) lines
 line-read old new number line lines none is = rw (none, is) refl

@@ -1,7 +1,7 @@
 -- The world of `bench`: ranks in a ring, each of which sends a number to its right neighbour in each round. (own choice)
 use Rattle.std.specs.Prelude.{ℕ, zero, suc, ◌+◌, ◌-◌, ◌*◌, ◌%◌, List, [], ◌∷◌, ◌++◌, Option, None, Some}
 use Rattle.byteorder.specs.Endian.{little_bytes}
-use Rattle.gaspi_types.specs.World.{World}
+use Rattle.gaspi_types.specs.World.{ShapeValue}
 use Rattle.gaspi_types.specs.declared.calls.Call.{Call}
 use Rattle.gaspi_types.specs.declared.calls.Call.TheVariants as calls
 use Rattle.gaspi_types.specs.declared.calls.Timeout.{Timeout}
@@ -9,7 +9,7 @@ use Rattle.gaspi_types.specs.declared.calls.Timeout.TheVariants.{Looks, Block}
 use Rattle.gaspi_types.specs.declared.replies.Reply.{Reply}
 use Rattle.gaspi_types.specs.declared.replies.Reply.TheVariants as replies
 use Rattle.gaspi_types.specs.declared.shapes.CallerId.{CallerId}
-use Rattle.gaspi_types.specs.declared.shapes.Declared.{Declared}
+use Rattle.gaspi_types.specs.declared.shapes.DeclaredSegment.{DeclaredSegment}
 use Rattle.rank_script.specs.Generator.{after_draws}
 use Rattle.rank_script.specs.declared.scripts.ScriptLine.{ScriptLine}
 
@@ -72,7 +72,7 @@ module _ (seed ranks rounds : ℕ) where
   bench_lines rank (suc round) = bench_lines rank round ++ round_lines rank round
 
 -- a segment of sixteen bytes for each of so many ranks
-abbrev pub bench_segments : ℕ → List Declared
+abbrev pub bench_segments : ℕ → List DeclaredSegment
 bench_segments zero = []
 bench_segments (suc rank) = bench_segments rank ++ record { rank = rank; segment = 0; size = 16 } ∷ []
 
@@ -82,7 +82,7 @@ bench_callers zero = []
 bench_callers (suc rank) = bench_callers rank ++ record { rank = rank; thread = 0 } ∷ []
 
 -- The world: one queue, four entries deep, one notification slot, and room for twelve events of a rank in a round, and its end.
-abbrev pub bench_shape : ℕ → ℕ → World
+abbrev pub bench_shape : ℕ → ℕ → ShapeValue
 bench_shape ranks rounds = record {
   limits = record { ranks = ranks; queues = 1; depth = 4; notes = 1; inbox = 1; events = 12 * rounds + 1 };
   segments = bench_segments ranks;

@@ -3,8 +3,8 @@ use Rattle.std.specs.Prelude.{map}
 use Rattle.std.specs.Option.{option_copied, option_map}
 use Rattle.rank_script.specs.WorldText.{LineCall, Line, WorldLine, SegmentLine, SectionLine, CallLine, LoneAgain, UnknownLine}
 use Rattle.rank_script.specs.declared.call_lines.CallParts.{CallParts}
-use Rattle.rank_script.specs.declared.line_parts.LineParts.{LineParts}
-use Rattle.rank_script.specs.declared.line_parts.LineParts.TheVariants.{World, Segment, Section, Call, Again, Unknown}
+use Rattle.rank_script.specs.declared.line_fields.LineParts.{LineParts}
+use Rattle.rank_script.specs.declared.line_fields.LineParts.TheVariants.{World, Segment, Section, Call, Again, Unknown}
 
 -- the call of a line that was cut
 abbrev pub call_in : CallParts → LineCall

@@ -1,21 +1,21 @@
 -- What reading a line does to what was said before it. (own choice)
 use Rattle.std.specs.Prelude.{◌≡◌, map, ℕ, List, [], Option, None, Some, Result, Ok, Err, if◌then◌else◌}
-use Rattle.gaspi_types.specs.World.{World}
+use Rattle.gaspi_types.specs.World.{ShapeValue}
 use Rattle.gaspi_types.specs.declared.shapes.CallerId.{CallerId}
 use Rattle.gaspi_types.specs.declared.shapes.ShapeFault.{ShapeFault}
 use Rattle.gaspi_types.specs.declared.shapes.ShapeFault.TheVariants as shape_faults
-use Rattle.rank_script.specs.WorldText.{Said, Line, LineCall, lacks_world, is_unknown, is_misplaced, is_miscounted, is_malformed, is_malformed_call, is_outside, is_outside_call, is_repeated, is_crowded, fault_of, after_line, said_after, script_line}
+use Rattle.rank_script.specs.WorldText.{WorldReading, Line, LineCall, lacks_world, is_unknown, is_misplaced, is_miscounted, is_malformed, is_malformed_call, is_outside, is_outside_call, is_repeated, is_crowded, fault_of, after_line, reading_after, script_line}
 use Rattle.rank_script.specs.Lines.{is_bad_line}
 use Rattle.rank_script.specs.declared.readings.Reading.{Reading}
 use Rattle.rank_script.specs.declared.scripts.ScriptFault.{ScriptFault}
 use Rattle.rank_script.specs.declared.scripts.ScriptLine.{ScriptLine}
 use Rattle.rank_script.specs.declared.scripts.ScriptFault.TheVariants as faults
 
-abbrev pub said_of : Reading → Said
-said_of reading = record { world = reading.shape; scripts = reading.scripts }
+abbrev pub reading_of : Reading → WorldReading
+reading_of reading = record { world = reading.shape; scripts = reading.scripts }
 
 -- the first of the faults of a line that show before its arguments are read
-abbrev pub early_fault : Said → List ℕ → Line → Option ℕ
+abbrev pub early_fault : WorldReading → List ℕ → Line → Option ℕ
 early_fault said bytes line =
     if lacks_world said line then Some 1
     else (if is_bad_line bytes then Some 2
@@ -24,7 +24,7 @@ early_fault said bytes line =
     else (if is_miscounted line then Some 5 else None))))
 
 -- the first of the faults of a line that show in its arguments
-abbrev pub late_fault : Said → Line → Option ℕ
+abbrev pub late_fault : WorldReading → Line → Option ℕ
 late_fault said line =
     if is_malformed line then Some 6
     else (if is_outside said line then Some 7
@@ -32,16 +32,16 @@ late_fault said line =
     else (if is_crowded said line then Some 9 else None)))
 
 -- A line was read: it has no fault and was added, or its fault is named. Want of memory is no fault of it.
-abbrev pub ReadsLine : Result (Unit {0}) ScriptFault → Said → Said → ℕ → List ℕ → Type 0
+abbrev pub ReadsLine : Result (Unit {0}) ScriptFault → WorldReading → WorldReading → ℕ → List ℕ → Type 0
 ReadsLine (Ok done) old new number line = (fault_of old line ≡ None) × (new ≡ after_line old number line)
 ReadsLine (Err (faults.At fault at)) old new number line = (fault_of old line ≡ Some fault) × (at ≡ number)
 ReadsLine (Err faults.NoMemory) old new number line = Unit {0}
 
 -- the same of the parts of a line whose early faults were ruled out
-abbrev pub ReadsParts : Result (Unit {0}) ScriptFault → Said → Said → ℕ → Line → Type 0
-ReadsParts (Ok done) old new number line = (late_fault old line ≡ None) × (new ≡ said_after old number line)
-ReadsParts (Err (faults.At fault at)) old new number line = (late_fault old line ≡ Some fault) × (at ≡ number)
-ReadsParts (Err faults.NoMemory) old new number line = Unit {0}
+abbrev pub ReadsLineFields : Result (Unit {0}) ScriptFault → WorldReading → WorldReading → ℕ → Line → Type 0
+ReadsLineFields (Ok done) old new number line = (late_fault old line ≡ None) × (new ≡ reading_after old number line)
+ReadsLineFields (Err (faults.At fault at)) old new number line = (late_fault old line ≡ Some fault) × (at ≡ number)
+ReadsLineFields (Err faults.NoMemory) old new number line = Unit {0}
 
 -- a fault of a call line that shows in its arguments
 abbrev pub call_fault : LineCall → Option ℕ
@@ -60,10 +60,10 @@ fault_for shape_faults.Twice line = faults.At 8 line
 fault_for shape_faults.Threads line = faults.At 9 line
 fault_for shape_faults.NoMemory line = faults.NoMemory
 
-abbrev pub callers_so_far : Option World → List CallerId
+abbrev pub callers_so_far : Option ShapeValue → List CallerId
 callers_so_far None = []
 callers_so_far (Some w) = w.callers
 
 -- the sections so far are those of the callers so far
-abbrev pub Accords : Said → Type 0
+abbrev pub Accords : WorldReading → Type 0
 Accords said = map (λ s. s.caller) said.scripts ≡ callers_so_far said.world

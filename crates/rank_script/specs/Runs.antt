@@ -10,8 +10,8 @@ use Rattle.gaspi_types.specs.declared.replies.Reply.TheVariants as replies
 use Rattle.rank_script.specs.declared.scripts.ScriptLine.{ScriptLine}
 use Rattle.rank_script.specs.declared.scripts.RunOutcome.{RunOutcome}
 use Rattle.rank_script.specs.declared.scripts.RunOutcome.TheVariants as outcomes
-use Rattle.rank_script.specs.declared.scripts.Halted.{Halted}
-use Rattle.rank_script.specs.declared.scripts.Halted.TheVariants as halts
+use Rattle.rank_script.specs.declared.scripts.RunStop.{RunStop}
+use Rattle.rank_script.specs.declared.scripts.RunStop.TheVariants as halts
 
 abbrev pub is_block : Timeout → Bool
 is_block (Looks n) = false
@@ -44,32 +44,32 @@ is_failed line reply = differs line.expected
     differs (Some expected) = not (same_reply reply expected)
 
 -- How far a run has come: the present line with how often its call was made, and the lines behind it, or how it ended.
-pub data Progress : Type 0 where
-  Going : (line : ScriptLine) (made : ℕ) (lines : List ScriptLine) → Progress
-  Over : (outcome : RunOutcome) → Progress
+pub data RunPosition : Type 0 where
+  AtLine : (line : ScriptLine) (made : ℕ) (lines : List ScriptLine) → RunPosition
+  RunEnded : (outcome : RunOutcome) → RunPosition
 
 -- a run that goes on with these lines
-abbrev pub going_on : List ScriptLine → Progress
-going_on [] = Over outcomes.Ended
-going_on (line ∷ lines) = Going line 0 lines
+abbrev pub at_first_line : List ScriptLine → RunPosition
+at_first_line [] = RunEnded outcomes.Ended
+at_first_line (line ∷ lines) = AtLine line 0 lines
 
 -- after the reply of the present call
-abbrev pub advanced : Progress → Reply → Progress
-advanced (Over outcome) reply = Over outcome
-advanced (Going line made lines) reply =
-    if is_stuck line reply then Over (outcomes.Stuck line.number)
-    else (if is_retried line made reply then Going line (made + 1) lines
-    else (if is_failed line reply then Over (outcomes.Failed line.number) else going_on lines))
+abbrev pub advanced : RunPosition → Reply → RunPosition
+advanced (RunEnded outcome) reply = RunEnded outcome
+advanced (AtLine line made lines) reply =
+    if is_stuck line reply then RunEnded (outcomes.Stuck line.number)
+    else (if is_retried line made reply then AtLine line (made + 1) lines
+    else (if is_failed line reply then RunEnded (outcomes.Failed line.number) else at_first_line lines))
 
 -- ended before the present call, which is not made
-abbrev pub stopped : Progress → Halted → Progress
-stopped (Over outcome) halted = Over outcome
-stopped (Going line made lines) halts.Limit = Over (outcomes.Limit line.number)
-stopped (Going line made lines) halts.NoMemory = Over (outcomes.NoMemory line.number)
+abbrev pub stopped : RunPosition → RunStop → RunPosition
+stopped (RunEnded outcome) halted = RunEnded outcome
+stopped (AtLine line made lines) halts.Limit = RunEnded (outcomes.Limit line.number)
+stopped (AtLine line made lines) halts.NoMemory = RunEnded (outcomes.NoMemory line.number)
 
-abbrev pub outcome_of : Progress → Option RunOutcome
-outcome_of (Going line made lines) = None
-outcome_of (Over outcome) = Some outcome
+abbrev pub outcome_of : RunPosition → Option RunOutcome
+outcome_of (AtLine line made lines) = None
+outcome_of (RunEnded outcome) = Some outcome
 
 -- the outcome of a run that ended before the call of a line
 abbrev pub IsStopped : ℕ → RunOutcome → Type 0
@@ -102,17 +102,17 @@ IsRun lines pairs outcome = IsRunFrom 0 lines pairs outcome
 -- What a run so far says.
 
 -- the present call, with its timeout
-abbrev pub present_of : Progress → Option (Call × Timeout)
-present_of (Going line made lines) = Some (line.call, line.timeout)
-present_of (Over outcome) = None
+abbrev pub present_of : RunPosition → Option (Call × Timeout)
+present_of (AtLine line made lines) = Some (line.call, line.timeout)
+present_of (RunEnded outcome) = None
 
 -- the line of the present call; 0 where the run is over
-abbrev pub line_of : Progress → ℕ
-line_of (Going line made lines) = line.number
-line_of (Over outcome) = 0
+abbrev pub line_of : RunPosition → ℕ
+line_of (AtLine line made lines) = line.number
+line_of (RunEnded outcome) = 0
 
 -- pairs that lead from one point of a run to another: each has the call that is present then
-abbrev pub Follows : Progress → List (Call × Reply) → Progress → Type 0
+abbrev pub Follows : RunPosition → List (Call × Reply) → RunPosition → Type 0
 Follows p [] q = q ≡ p
-Follows (Over outcome) (pair ∷ pairs) q = ⊥
-Follows (Going line made lines) (pair ∷ pairs) q = (pair.0 ≡ line.call) × Follows (advanced (Going line made lines) pair.1) pairs q
+Follows (RunEnded outcome) (pair ∷ pairs) q = ⊥
+Follows (AtLine line made lines) (pair ∷ pairs) q = (pair.0 ≡ line.call) × Follows (advanced (AtLine line made lines) pair.1) pairs q

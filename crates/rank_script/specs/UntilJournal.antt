@@ -2,17 +2,17 @@
 use Rattle.std.specs.Prelude.{map, ℕ, Bool, ◌&&◌, nat_lt, List, [], ◌∷◌, length, Option, None, Result, Err, if◌then◌else◌}
 use Rattle.call_texts.specs.Lines.{fed_lines, plain_line}
 use Rattle.rank_script.specs.Lines.{input_limit}
-use Rattle.rank_script.specs.WorldText.{Said, TextFault, nothing_said, read_lines, is_journal_line, journal_from}
+use Rattle.rank_script.specs.WorldText.{WorldReading, TextFault, empty_reading, read_lines, is_journal_line, journal_from}
 
 abbrev pub lines_until : Bool → List (List ℕ) → List (List ℕ)
 lines_until journal [] = []
 lines_until journal (line ∷ lines) = if journal && is_journal_line (plain_line line) then [] else line ∷ lines_until journal lines
 
 -- what they give
-abbrev pub until_text : Bool → List ℕ → Result Said TextFault
+abbrev pub until_text : Bool → List ℕ → Result WorldReading TextFault
 until_text journal bytes =
     if nat_lt input_limit (length bytes) then Err (record { number = 1; line = 0 })
-    else read_lines nothing_said 1 (map plain_line (lines_until journal (fed_lines bytes)))
+    else read_lines empty_reading 1 (map plain_line (lines_until journal (fed_lines bytes)))
 
 -- where the journal begins, where it is looked for
 abbrev pub until_from : Bool → ℕ → ℕ → List (List ℕ) → Option (ℕ × ℕ)

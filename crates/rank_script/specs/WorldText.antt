@@ -10,7 +10,7 @@ use Rattle.call_texts.specs.CallText.{call_word_of, given_count, has_timeout, ca
 use Rattle.call_texts.specs.declared.call_words.CallWord.{CallWord}
 use Rattle.call_texts.specs.Steps.{◌>>=◌}
 use Rattle.gaspi_texts.specs.ReplyText.{reply_of}
-use Rattle.gaspi_types.specs.World.{World, world_of, segment_added, caller_added, is_caller}
+use Rattle.gaspi_types.specs.World.{ShapeValue, shape_of, segment_added, caller_added, is_caller}
 use Rattle.gaspi_types.specs.declared.shapes.Limits.{Limits}
 use Rattle.gaspi_types.specs.declared.shapes.CallerId.{CallerId}
 use Rattle.gaspi_types.specs.declared.shapes.ShapeFault.{ShapeFault}
@@ -26,12 +26,12 @@ use Rattle.rank_script.specs.declared.scripts.ScriptFault.{ScriptFault}
 use Rattle.rank_script.specs.declared.scripts.ScriptFault.TheVariants as faults
 
 -- What the lines so far have said: the world, where its line has come, and the sections, the newest last.
-pub record Said : Type 0 where
-  pub world : Option World
+pub record WorldReading : Type 0 where
+  pub world : Option ShapeValue
   pub scripts : List Script
 
-abbrev pub nothing_said : Said
-nothing_said = record { world = None; scripts = [] }
+abbrev pub empty_reading : WorldReading
+empty_reading = record { world = None; scripts = [] }
 
 -- The words of a line.
 
@@ -108,9 +108,9 @@ again_line (tries ∷ []) = LoneAgain
 again_line (tries ∷ word ∷ words) = call_line (Some tries) (call_word_of word) words
 
 -- the words of a line, cut into its parts
-abbrev pub parts_of : List (List ℕ) → Line
-parts_of [] = UnknownLine
-parts_of (word ∷ words) =
+abbrev pub line_fields : List (List ℕ) → Line
+line_fields [] = UnknownLine
+line_fields (word ∷ words) =
     if is_world_word word then WorldLine words
     else (if is_segment_word word then SegmentLine words
     else (if is_rank_word word then SectionLine words
@@ -200,30 +200,30 @@ is_section_line _ = false
 abbrev pub section_caller : List (List ℕ) → CallerId
 section_caller words = record { rank = number_at words 0; thread = number_at words 2 }
 
-abbrev pub segment_declared : World → List (List ℕ) → Result World ShapeFault
+abbrev pub segment_declared : ShapeValue → List (List ℕ) → Result ShapeValue ShapeFault
 segment_declared w words = segment_added w (number_at words 0) (number_at words 1) (number_at words 2)
 
-abbrev pub caller_declared : World → List (List ℕ) → Result World ShapeFault
+abbrev pub caller_declared : ShapeValue → List (List ℕ) → Result ShapeValue ShapeFault
 caller_declared w words = caller_added w (number_at words 0) (number_at words 2)
 
 -- what the declaration of a line gives: that of the world itself, or that of a segment or of a section in it
-abbrev pub declared : Option World → Line → Option (Result World ShapeFault)
-declared world (WorldLine words) = Some (world_of (limits_of words))
+abbrev pub declared : Option ShapeValue → Line → Option (Result ShapeValue ShapeFault)
+declared world (WorldLine words) = Some (shape_of (limits_of words))
 declared world (SegmentLine words) = option_map (λ w. segment_declared w words) world
 declared world (SectionLine words) = option_map (λ w. caller_declared w words) world
 declared world (CallLine call) = None
 declared world LoneAgain = None
 declared world UnknownLine = None
 
-abbrev pub is_limit_fault : Option (Result World ShapeFault) → Bool
+abbrev pub is_limit_fault : Option (Result ShapeValue ShapeFault) → Bool
 is_limit_fault (Some (Err shape_faults.Limit)) = true
 is_limit_fault _ = false
 
-abbrev pub is_twice_fault : Option (Result World ShapeFault) → Bool
+abbrev pub is_twice_fault : Option (Result ShapeValue ShapeFault) → Bool
 is_twice_fault (Some (Err shape_faults.Twice)) = true
 is_twice_fault _ = false
 
-abbrev pub is_threads_fault : Option (Result World ShapeFault) → Bool
+abbrev pub is_threads_fault : Option (Result ShapeValue ShapeFault) → Bool
 is_threads_fault (Some (Err shape_faults.Threads)) = true
 is_threads_fault _ = false
 
@@ -235,7 +235,7 @@ is_world_line (WorldLine words) = true
 is_world_line _ = false
 
 -- S1: the first line with words does not begin with `world`
-abbrev pub lacks_world : Said → Line → Bool
+abbrev pub lacks_world : WorldReading → Line → Bool
 lacks_world said line = is_none said.world && not (is_world_line line)
 
 -- S3: the first word is no word of a line or call; behind `again` and one word more stands no word of a call
@@ -244,7 +244,7 @@ is_unknown UnknownLine = true
 is_unknown _ = false
 
 -- S4: a second world line, a segment line after a section, or a call before any section
-abbrev pub is_misplaced : Said → Line → Bool
+abbrev pub is_misplaced : WorldReading → Line → Bool
 is_misplaced said (WorldLine words) = is_some said.world
 is_misplaced said (SegmentLine words) = not (length said.scripts == 0)
 is_misplaced said (SectionLine words) = false
@@ -286,20 +286,20 @@ is_outside_call call =
     not (option_map_or are_tries_within (line_tries call) false && option_map_or is_timeout_within (line_timeout call) false)
 
 -- S7: a number of a world, segment or rank line, of `again` or of a timeout is outside its limits
-abbrev pub is_outside : Said → Line → Bool
+abbrev pub is_outside : WorldReading → Line → Bool
 is_outside said (CallLine call) = is_outside_call call
 is_outside said line = is_limit_fault (declared said.world line)
 
 -- S8: a segment or a caller is declared twice
-abbrev pub is_repeated : Said → Line → Bool
+abbrev pub is_repeated : WorldReading → Line → Bool
 is_repeated said line = is_twice_fault (declared said.world line)
 
 -- S9: the section gives its rank more threads than events
-abbrev pub is_crowded : Said → Line → Bool
+abbrev pub is_crowded : WorldReading → Line → Bool
 is_crowded said line = is_threads_fault (declared said.world line)
 
 -- of the faults of a line with these parts, the one with the smallest number
-abbrev pub fault_in : Said → List ℕ → Line → Option ℕ
+abbrev pub fault_in : WorldReading → List ℕ → Line → Option ℕ
 fault_in said bytes line =
     if lacks_world said line then Some 1
     else (if is_bad_line bytes then Some 2
@@ -312,11 +312,11 @@ fault_in said bytes line =
     else (if is_crowded said line then Some 9 else None))))))))
 
 -- the fault of any line: a comment has none, and a line without words at most that of its length
-abbrev pub fault_of : Said → List ℕ → Option ℕ
+abbrev pub fault_of : WorldReading → List ℕ → Option ℕ
 fault_of said line =
     if is_comment (words_of line) then None
     else (if length (words_of line) == 0 then (if is_bad_line line then Some 2 else None)
-    else fault_in said line (parts_of (words_of line)))
+    else fault_in said line (line_fields (words_of line)))
 
 -- What a line without a fault adds.
 
@@ -340,7 +340,7 @@ with_line (script ∷ next ∷ scripts) line = script ∷ with_line (next ∷ sc
 abbrev pub with_section : List Script → CallerId → List Script
 with_section scripts caller = scripts ++ record { caller = caller; lines = [] } ∷ []
 
-abbrev pub world_after : Option World → Option (Result World ShapeFault) → Option World
+abbrev pub world_after : Option ShapeValue → Option (Result ShapeValue ShapeFault) → Option ShapeValue
 world_after old (Some (Ok new)) = Some new
 world_after old _ = old
 
@@ -349,16 +349,16 @@ scripts_after scripts number (SectionLine words) = with_section scripts (section
 scripts_after scripts number (CallLine call) = with_line scripts (script_line number call)
 scripts_after scripts number _ = scripts
 
-abbrev pub said_after : Said → ℕ → Line → Said
-said_after said number line =
+abbrev pub reading_after : WorldReading → ℕ → Line → WorldReading
+reading_after said number line =
     record { world = world_after said.world (declared said.world line); scripts = scripts_after said.scripts number line }
 
 abbrev pub is_skipped : List (List ℕ) → Bool
 is_skipped words = is_comment words || (length words == 0)
 
-abbrev pub after_line : Said → ℕ → List ℕ → Said
+abbrev pub after_line : WorldReading → ℕ → List ℕ → WorldReading
 after_line said number line =
-    if is_skipped (words_of line) then said else said_after said number (parts_of (words_of line))
+    if is_skipped (words_of line) then said else reading_after said number (line_fields (words_of line))
 
 -- Whole texts.
 
@@ -368,29 +368,29 @@ pub record TextFault : Type 0 where
   pub line : ℕ
 
 -- a line's fault, or what the lines after it give
-abbrev pub fault_or : Option ℕ → ℕ → Result Said TextFault → Result Said TextFault
+abbrev pub fault_or : Option ℕ → ℕ → Result WorldReading TextFault → Result WorldReading TextFault
 fault_or (Some fault) number rest = Err (record { number = fault; line = number })
 fault_or None number rest = rest
 
 -- the lines from a number on: the first line with a fault is named; where no line with words comes, the one after the last
-abbrev pub read_lines : Said → ℕ → List (List ℕ) → Result Said TextFault
+abbrev pub read_lines : WorldReading → ℕ → List (List ℕ) → Result WorldReading TextFault
 read_lines said number [] = if is_none said.world then Err (record { number = 1; line = number }) else Ok said
 read_lines said number (line ∷ lines) =
     fault_or (fault_of said line) number (read_lines (after_line said number line) (number + 1) lines)
 
 -- a text that is too long is faulty at line 0
-abbrev pub world_text : List ℕ → Result Said TextFault
+abbrev pub world_text : List ℕ → Result WorldReading TextFault
 world_text bytes =
-    if nat_lt input_limit (length bytes) then Err (record { number = 1; line = 0 }) else read_lines nothing_said 1 (lines_of bytes)
+    if nat_lt input_limit (length bytes) then Err (record { number = 1; line = 0 }) else read_lines empty_reading 1 (lines_of bytes)
 
 -- What reading a text gave: its world and scripts, or its first fault, unless memory ran out.
-abbrev pub Reads : Result (World × List Script) ScriptFault → Result Said TextFault → Type 0
+abbrev pub Reads : Result (ShapeValue × List Script) ScriptFault → Result WorldReading TextFault → Type 0
 Reads (Ok read) text = text ≡ Ok (record { world = Some read.0; scripts = read.1 })
 Reads (Err (faults.At number line)) text = text ≡ Err (record { number = number; line = line })
 Reads (Err faults.NoMemory) text = Unit {0}
 
 -- the scripts are those of the world's callers, in their order
-abbrev pub AreScriptsOf : World → List Script → Type 0
+abbrev pub AreScriptsOf : ShapeValue → List Script → Type 0
 AreScriptsOf w scripts = map (λ s. s.caller) scripts ≡ w.callers
 
 abbrev pub is_script_of : CallerId → Script → Bool
@@ -408,25 +408,25 @@ journal_from byte number (line ∷ lines) =
     if is_journal_line (plain_line line) then Some (byte, number) else journal_from (byte + length line) (number + 1) lines
 
 -- the byte at which that line begins, and its number
-abbrev pub journal_place : List ℕ → Option (ℕ × ℕ)
-journal_place bytes = journal_from 0 1 (fed_lines bytes)
+abbrev pub journal_offset : List ℕ → Option (ℕ × ℕ)
+journal_offset bytes = journal_from 0 1 (fed_lines bytes)
 
 -- the world text of an input: what stands before its journal, or all of it
-abbrev pub world_part : List ℕ → List ℕ
-world_part input = before (journal_place input)
+abbrev pub world_text_bytes : List ℕ → List ℕ
+world_text_bytes input = before (journal_offset input)
   where
     before : Option (ℕ × ℕ) → List ℕ
     before None = input
     before (Some place) = take place.0 input
 
 -- what that world text gives; the whole input may not be too long
-abbrev pub checked_world : List ℕ → Result Said TextFault
+abbrev pub checked_world : List ℕ → Result WorldReading TextFault
 checked_world input =
-    if nat_lt input_limit (length input) then Err (record { number = 1; line = 0 }) else world_text (world_part input)
+    if nat_lt input_limit (length input) then Err (record { number = 1; line = 0 }) else world_text (world_text_bytes input)
 
 -- What reading an input gave: the world and the scripts of its world text, with the place of its journal, or the first
 -- fault, unless memory ran out.
-abbrev pub ReadsInput : Result (World × List Script × Option (ℕ × ℕ)) ScriptFault → Result Said TextFault → Option (ℕ × ℕ) → Type 0
+abbrev pub ReadsInput : Result (ShapeValue × List Script × Option (ℕ × ℕ)) ScriptFault → Result WorldReading TextFault → Option (ℕ × ℕ) → Type 0
 ReadsInput (Ok read) text place = (text ≡ Ok (record { world = Some read.0; scripts = read.1 })) × (read.2 ≡ place)
 ReadsInput (Err (faults.At number line)) text place = text ≡ Err (record { number = number; line = line })
 ReadsInput (Err faults.NoMemory) text place = Unit {0}

@@ -1,11 +1,11 @@
 //! The arguments of lines.
 
 ghost use Rattle.std.specs.Prelude.{◌≡◌, map, length, true, Some, None, IfSome, if◌then◌else◌};
-ghost use Rattle.gaspi_types.specs.World.{world_of};
+ghost use Rattle.gaspi_types.specs.World.{shape_of};
 ghost use Rattle.rank_script.specs.PlainScripts.{has_look_in};
 ghost use Rattle.rank_script.specs.WorldText.{all_numbers, number_at, limits_of, timeout_of, is_timeout_within, as_timeout, are_tries_within, is_section_line};
 
-use crate::line_parts::is_word;
+use crate::line_fields::is_word;
 use gaspi_texts::read_number;
 use gaspi_types::{Shape, ShapeFault, Timeout};
 use std::alloc::Global;
@@ -20,7 +20,7 @@ const MOST_TRIES: u64 = 1_000_000;
 pub(crate) fn read_shape(alloc: Global, words: &[&[u8]]) -> Option<Result<Shape, ShapeFault>>
     requires { length words.now ≡ 6 }
     ensures { let words = map (λ word. word.now) words.now in
-        result ≡ (if all_numbers words then Some (world_of (limits_of words)) else None) }
+        result ≡ (if all_numbers words then Some (shape_of (limits_of words)) else None) }
 {
     let (ranks, queues, depth, notes, inbox, events) = read_limits(words)?;
     Some(Shape::new(alloc, ranks, queues, depth, notes, inbox, events))

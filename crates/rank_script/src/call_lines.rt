@@ -8,7 +8,7 @@ ghost use Rattle.rank_script.specs.WorldText.{is_equals_word, before_equals, aft
 ghost use Rattle.rank_script.specs.CutLines.{call_in};
 
 use crate::arguments::read_looks;
-use crate::line_parts::is_word;
+use crate::line_fields::is_word;
 use call_texts::{read_arguments, words_spell_no_end};
 use gaspi_texts::{CallWord, read_number, read_reply_words};
 use gaspi_types::{Call, NoMemory, Reply};

@@ -2,10 +2,10 @@
 
 ghost use Rattle.std.specs.Prelude.{◌≡◌, ◌+◌, ◌<◌, ◌^◌, true, IfOk};
 ghost use Rattle.std.specs.Option.{option_map};
-ghost use Rattle.rank_script.specs.Runs.{Over, going_on, advanced, stopped, present_of, line_of, outcome_of, is_stuck, is_retried, is_failed, is_timeout};
+ghost use Rattle.rank_script.specs.Runs.{RunEnded, at_first_line, advanced, stopped, present_of, line_of, outcome_of, is_stuck, is_retried, is_failed, is_timeout};
 
 use crate::remaining::Remaining;
-use crate::scripts::{Halted, RunOutcome, Script, ScriptLine};
+use crate::scripts::{RunOutcome, RunStop, Script, ScriptLine};
 use gaspi_model::same_reply;
 use gaspi_types::{Call, NoMemory, Reply, Timeout};
 use std::alloc::Global;
@@ -23,9 +23,9 @@ pub struct Cursor<'a> {
 }
 
 impl<'a> Model for Cursor<'a> {
-    ghost use Rattle.rank_script.specs.Runs.{Progress};
+    ghost use Rattle.rank_script.specs.Runs.{RunPosition};
 
-    ghost Value = { Progress };
+    ghost Value = { RunPosition };
 
     ghost use Rattle.rank_script.specs.Cursors.{going_or_over};
 
@@ -35,7 +35,7 @@ impl<'a> Model for Cursor<'a> {
 impl<'a> Cursor<'a> {
     /// Before the first line. Lines that no memory holds take that of one round here, and none while the run goes on.
     pub fn new(alloc: Global, script: &'a Script) -> Result<Cursor<'a>, NoMemory>
-        ensures { IfOk result (λ cursor. cursor ≡ going_on script.now.lines) }
+        ensures { IfOk result (λ cursor. cursor ≡ at_first_line script.now.lines) }
     {
         Ok(Cursor {
             left: Remaining::new(alloc, &script.lines)?,
@@ -76,14 +76,14 @@ impl<'a> Cursor<'a> {
 
     /// Ends the run.
     fn end(&mut self, outcome: RunOutcome)
-        ensures { self.new ≡ Over outcome }
+        ensures { self.new ≡ RunEnded outcome }
     {
         self.left.clear();
         self.ending = outcome;
     }
 
     /// Ends the run before the present call. A run that has ended stays as it is.
-    pub fn stop(&mut self, halted: Halted)
+    pub fn stop(&mut self, halted: RunStop)
         ensures { self.new ≡ stopped self.old halted }
     {
         let Some(line) = self.left.first() else {
@@ -91,8 +91,8 @@ impl<'a> Cursor<'a> {
         };
         let line = line.number;
         self.end(match halted {
-            Halted::Limit => RunOutcome::Limit { line },
-            Halted::NoMemory => RunOutcome::NoMemory { line },
+            RunStop::Limit => RunOutcome::Limit { line },
+            RunStop::NoMemory => RunOutcome::NoMemory { line },
         });
     }
 

@@ -9,7 +9,7 @@ ghost use Rattle.rank_script.specs.declared.scripts.ScriptFault.TheVariants.{At}
 
 use crate::arguments::{read_section, read_segment, read_shape, timeout_of, tries_of};
 use crate::call_lines::CallParts;
-use crate::line_parts::LineParts;
+use crate::line_fields::LineParts;
 use crate::lines::is_bad_line;
 use crate::scripts::{ScriptFault, ScriptLine, Scripts};
 use call_texts::set_words;
@@ -24,12 +24,12 @@ pub(crate) struct Reading {
 }
 
 impl Reading {
-    ghost use Rattle.rank_script.specs.WorldText.{nothing_said};
-    ghost use Rattle.rank_script.specs.Readings.{said_of, early_fault, ReadsLine, ReadsParts, Accords};
+    ghost use Rattle.rank_script.specs.WorldText.{empty_reading};
+    ghost use Rattle.rank_script.specs.Readings.{reading_of, early_fault, ReadsLine, ReadsLineFields, Accords};
 
     /// Nothing said. It takes no memory.
     pub(crate) fn new(alloc: Global) -> Reading
-        ensures { said_of result ≡ nothing_said }
+        ensures { reading_of result ≡ empty_reading }
     {
         Reading {
             shape: None,
@@ -45,8 +45,8 @@ impl Reading {
         number: u64,
         line: &'a [u8],
     ) -> Result<(), ScriptFault>
-        ensures exact { ReadsLine result (said_of self.old) (said_of self.new) number line.now }
-        ensures accords { Accords (said_of self.old) → OnOk result (Accords (said_of self.new)) }
+        ensures exact { ReadsLine result (reading_of self.old) (reading_of self.new) number line.now }
+        ensures accords { Accords (reading_of self.old) → OnOk result (Accords (reading_of self.new)) }
     {
         set_words(list, line)?;
         let words = list.as_slice();
@@ -69,13 +69,13 @@ impl Reading {
                 number: fault,
                 line: number,
             }),
-            None => self.read_parts(alloc, number, parts),
+            None => self.read_line_fields(alloc, number, parts),
         }
     }
 
     /// The first of the faults of a line that show before its arguments are read.
     fn early_fault(&self, line: &[u8], parts: LineParts) -> Option<u32>
-        ensures { result ≡ early_fault (said_of self.now) line.now (line_in parts.entry) }
+        ensures { result ≡ early_fault (reading_of self.now) line.now (line_in parts.entry) }
     {
         if self.shape.is_none() && !parts.is_world() {
             return Some(1);
@@ -97,7 +97,7 @@ impl Reading {
 
     /// Whether a line of these parts may not come next.
     fn is_misplaced(&self, parts: LineParts) -> bool
-        ensures { result ≡ is_misplaced (said_of self.now) (line_in parts.entry) }
+        ensures { result ≡ is_misplaced (reading_of self.now) (line_in parts.entry) }
     {
         match parts {
             LineParts::World(_) => self.shape.is_some(),
@@ -108,18 +108,18 @@ impl Reading {
     }
 
     /// Reads the arguments of a line that has its place.
-    fn read_parts(
+    fn read_line_fields(
         &mut self,
         alloc: Global,
         number: u64,
         parts: LineParts,
     ) -> Result<(), ScriptFault>
         requires known { is_unknown (line_in parts) ≡ false }
-        requires world { lacks_world (said_of self.old) (line_in parts) ≡ false }
-        requires placed { is_misplaced (said_of self.old) (line_in parts) ≡ false }
+        requires world { lacks_world (reading_of self.old) (line_in parts) ≡ false }
+        requires placed { is_misplaced (reading_of self.old) (line_in parts) ≡ false }
         requires count { is_miscounted (line_in parts) ≡ false }
-        ensures exact { ReadsParts result (said_of self.old) (said_of self.new) number (line_in parts.entry) }
-        ensures accords { Accords (said_of self.old) → OnOk result (Accords (said_of self.new)) }
+        ensures exact { ReadsLineFields result (reading_of self.old) (reading_of self.new) number (line_in parts.entry) }
+        ensures accords { Accords (reading_of self.old) → OnOk result (Accords (reading_of self.new)) }
     {
         match parts {
             LineParts::World(words) => self.read_world_line(alloc, number, words),
@@ -139,8 +139,8 @@ impl Reading {
     ) -> Result<(), ScriptFault>
         requires count { length words.now ≡ 6 }
         requires first { self.old.shape ≡ None }
-        ensures exact { ReadsParts result (said_of self.old) (said_of self.new) number (WorldLine (map (λ word. word.now) words.now)) }
-        ensures accords { Accords (said_of self.old) → OnOk result (Accords (said_of self.new)) }
+        ensures exact { ReadsLineFields result (reading_of self.old) (reading_of self.new) number (WorldLine (map (λ word. word.now) words.now)) }
+        ensures accords { Accords (reading_of self.old) → OnOk result (Accords (reading_of self.new)) }
     {
         match read_shape(alloc, words) {
             None => Err(malformed(number)),
@@ -156,8 +156,8 @@ impl Reading {
     fn read_segment_line(&mut self, number: u64, words: &[&[u8]]) -> Result<(), ScriptFault>
         requires count { length words.now ≡ 3 }
         requires world { IsSome self.old.shape }
-        ensures exact { ReadsParts result (said_of self.old) (said_of self.new) number (SegmentLine (map (λ word. word.now) words.now)) }
-        ensures accords { Accords (said_of self.old) → OnOk result (Accords (said_of self.new)) }
+        ensures exact { ReadsLineFields result (reading_of self.old) (reading_of self.new) number (SegmentLine (map (λ word. word.now) words.now)) }
+        ensures accords { Accords (reading_of self.old) → OnOk result (Accords (reading_of self.new)) }
     {
         let Some(shape) = &mut self.shape else {
             unreachable!()
@@ -180,8 +180,8 @@ impl Reading {
     ) -> Result<(), ScriptFault>
         requires count { length words.now ≡ 3 }
         requires world { IsSome self.old.shape }
-        ensures exact { ReadsParts result (said_of self.old) (said_of self.new) number (SectionLine (map (λ word. word.now) words.now)) }
-        ensures accords { Accords (said_of self.old) → OnOk result (Accords (said_of self.new)) }
+        ensures exact { ReadsLineFields result (reading_of self.old) (reading_of self.new) number (SectionLine (map (λ word. word.now) words.now)) }
+        ensures accords { Accords (reading_of self.old) → OnOk result (Accords (reading_of self.new)) }
     {
         let Some(shape) = &mut self.shape else {
             unreachable!()
@@ -208,8 +208,8 @@ impl Reading {
         call: CallParts,
     ) -> Result<(), ScriptFault>
         requires { 0 < length self.old.scripts }
-        ensures exact { ReadsParts result (said_of self.old) (said_of self.new) number (CallLine (call_in call.entry)) }
-        ensures accords { Accords (said_of self.old) → OnOk result (Accords (said_of self.new)) }
+        ensures exact { ReadsLineFields result (reading_of self.old) (reading_of self.new) number (CallLine (call_in call.entry)) }
+        ensures accords { Accords (reading_of self.old) → OnOk result (Accords (reading_of self.new)) }
     {
         let line = read_script_line(alloc, number, call)?;
         self.scripts.add_line(line)?;

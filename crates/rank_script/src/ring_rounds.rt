@@ -10,7 +10,7 @@ use crate::ring_ranks::RingRank;
 use crate::scripts::ScriptLine;
 use byteorder::{ByteOrder, LittleEndian};
 use gaspi_types::{
-    Barrier, Bytes, Call, Load, NoMemory, Reply, Reset, Rows, Store, Timeout, Wait, Waitsome,
+    Barrier, Bytes, Call, Load, NoMemory, Reply, Reset, Sequence, Store, Timeout, Wait, Waitsome,
     WriteNotify,
 };
 use std::alloc::Global;
@@ -88,7 +88,7 @@ impl Round {
         let store = Call::Store(Store {
             seg: 0,
             offset: 0,
-            bytes: Rows::copied_from(alloc, &number_bytes(sent))?,
+            bytes: Sequence::copied_from(alloc, &number_bytes(sent))?,
         });
         let post = Call::WriteNotify(WriteNotify {
             seg: 0,
@@ -116,7 +116,7 @@ impl Round {
         let barrier = Call::Barrier(Barrier { group: 0 });
         let slot = Some(Reply::Id(0));
         let value = Some(Reply::Value(1));
-        let bytes: Bytes = Rows::copied_from(alloc, &number_bytes(received))?;
+        let bytes: Bytes = Sequence::copied_from(alloc, &number_bytes(received))?;
         let bytes = Some(Reply::Bytes(bytes));
         Ok(Round {
             store: once_line(number, store, Timeout::Looks(1), None),

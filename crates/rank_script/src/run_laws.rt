@@ -6,21 +6,21 @@ ghost use Rattle.gaspi_types.specs.declared.replies.Reply.{Reply};
 ghost use Rattle.gaspi_types.specs.Replies.{same_reply};
 ghost use Rattle.rank_script.specs.declared.scripts.ScriptLine.{ScriptLine};
 ghost use Rattle.rank_script.specs.declared.scripts.RunOutcome.{RunOutcome};
-ghost use Rattle.rank_script.specs.Runs.{Progress, Going, Over, going_on, advanced, end_pair, Follows, IsStopped, IsRun};
+ghost use Rattle.rank_script.specs.Runs.{RunPosition, AtLine, RunEnded, at_first_line, advanced, end_pair, Follows, IsStopped, IsRun};
 
 /// Pairs that lead to a line, and one more with its call, lead to where the line's reply leads. Pairs that lead to an
 /// ending make a whole run with it, once the caller's end is added; so do pairs that lead to a line before which the
 /// run is stopped. Where a line's call is to be made again, it was made less often than the line allows. A run goes on
 /// behind a line that expects a reply only after that reply.
 pub fn runs()
-    ensures onward { (p : Progress) (pairs : List (Call × Reply)) (line : ScriptLine) (made : ℕ) (lines : List ScriptLine) (reply : Reply)
-        → Follows p pairs (Going line made lines) → Follows p (pairs ++ (line.call, reply) ∷ []) (advanced (Going line made lines) reply) }
+    ensures onward { (p : RunPosition) (pairs : List (Call × Reply)) (line : ScriptLine) (made : ℕ) (lines : List ScriptLine) (reply : Reply)
+        → Follows p pairs (AtLine line made lines) → Follows p (pairs ++ (line.call, reply) ∷ []) (advanced (AtLine line made lines) reply) }
     ensures ended { (lines : List ScriptLine) (pairs : List (Call × Reply)) (outcome : RunOutcome)
-        → Follows (going_on lines) pairs (Over outcome) → IsRun lines (pairs ++ end_pair) outcome }
+        → Follows (at_first_line lines) pairs (RunEnded outcome) → IsRun lines (pairs ++ end_pair) outcome }
     ensures stopped { (lines : List ScriptLine) (pairs : List (Call × Reply)) (line : ScriptLine) (made : ℕ) (rest : List ScriptLine) (outcome : RunOutcome)
-        → Follows (going_on lines) pairs (Going line made rest) → IsStopped line.number outcome → IsRun lines (pairs ++ end_pair) outcome }
+        → Follows (at_first_line lines) pairs (AtLine line made rest) → IsStopped line.number outcome → IsRun lines (pairs ++ end_pair) outcome }
     ensures bounded { (lines : List ScriptLine) (pairs : List (Call × Reply)) (line : ScriptLine) (made : ℕ) (rest : List ScriptLine)
-        → Follows (going_on lines) pairs (Going line made rest) → (made ≡ 0) ⊎ (made < line.tries) }
+        → Follows (at_first_line lines) pairs (AtLine line made rest) → (made ≡ 0) ⊎ (made < line.tries) }
     ensures met { (line : ScriptLine) (made : ℕ) (lines : List ScriptLine) (reply : Reply) (expected : Reply)
-        → line.expected ≡ Some expected → advanced (Going line made lines) reply ≡ going_on lines → same_reply reply expected ≡ true }
+        → line.expected ≡ Some expected → advanced (AtLine line made lines) reply ≡ at_first_line lines → same_reply reply expected ≡ true }
 {}

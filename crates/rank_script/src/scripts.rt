@@ -4,7 +4,7 @@ ghost use Rattle.std.specs.Prelude.{◌≡◌, ◌<◌, ◌++◌, ◌∷◌, [],
 ghost use Rattle.rank_script.specs.declared.scripts.ScriptFault.TheVariants.{NoMemory};
 
 use crate::ring_ranks::RingRank;
-use gaspi_types::{Call, CallerId, NoMemory, Reply, Rows, Timeout};
+use gaspi_types::{Call, CallerId, NoMemory, Reply, Sequence, Timeout};
 use std::alloc::Global;
 use std::marker::Model;
 use thiserror::Error;
@@ -26,7 +26,7 @@ pub struct ScriptLine {
 #[derive(Debug, Drop)]
 pub struct ScriptLines {
     pub(crate) ring: Option<RingRank>,
-    pub(crate) others: Rows<ScriptLine>,
+    pub(crate) others: Sequence<ScriptLine>,
 }
 
 impl Model for ScriptLines {
@@ -48,7 +48,7 @@ impl ScriptLines {
     {
         ScriptLines {
             ring: None,
-            others: Rows::new(alloc),
+            others: Sequence::new(alloc),
         }
     }
 
@@ -58,7 +58,7 @@ impl ScriptLines {
     {
         ScriptLines {
             ring: Some(ring),
-            others: Rows::new(alloc),
+            others: Sequence::new(alloc),
         }
     }
 
@@ -95,7 +95,7 @@ pub enum RunOutcome {
 
 /// Why a run is ended from outside.
 #[derive(Clone, Copy, Debug, PartialEq, Eq)]
-pub enum Halted {
+pub enum RunStop {
     /// The rank has no room for the present call.
     Limit,
     /// Want of memory.
@@ -125,7 +125,7 @@ impl From<NoMemory> for ScriptFault {
 /// script. The call of each line may look at least once.
 #[derive(Debug, Drop)]
 pub struct Scripts {
-    scripts: Rows<Script>,
+    scripts: Sequence<Script>,
 }
 
 impl Model for Scripts {
@@ -149,7 +149,7 @@ impl Scripts {
         ensures { result ≡ [] }
     {
         Scripts {
-            scripts: Rows::new(alloc),
+            scripts: Sequence::new(alloc),
         }
     }
 

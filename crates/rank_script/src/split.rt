@@ -4,15 +4,15 @@ ghost use Rattle.std.specs.Prelude.{◌≡◌, ◌==◌, ◌≤◌, ◌+◌, len
 ghost use Rattle.std.specs.List.{slice_split};
 ghost use Rattle.std.specs.Option.{option_map};
 ghost use Rattle.call_texts.specs.Words.{is_blank};
-ghost use Rattle.rank_script.specs.WorldText.{is_journal_line, journal_place};
+ghost use Rattle.rank_script.specs.WorldText.{is_journal_line, journal_offset};
 
-use crate::line_parts::is_word;
+use crate::line_fields::is_word;
 use call_texts::{first_line, plain_line};
 
 /// The byte at which the first line begins whose first word is `journal`, and that line's number, from 1; none exactly
 /// where no line begins so. It takes no memory.
 pub fn split_input(text: &[u8]) -> Option<(u64, u64)>
-    ensures place { result ≡ journal_place text.now }
+    ensures place { result ≡ journal_offset text.now }
     ensures within { IfSome result (λ found. (1 ≤ found.1) × (found.1 ≤ found.0 + 1) × (found.0 ≤ length text.now)) }
 {
     let mut rest = text;

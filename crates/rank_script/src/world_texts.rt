@@ -1,12 +1,12 @@
 //! World texts.
 
 ghost use Rattle.std.specs.Prelude.{◌≡◌, ◌≤◌, ◌+◌, [], length, IfOk, IfSome};
-ghost use Rattle.gaspi_types.specs.World.{IsWorld};
+ghost use Rattle.gaspi_types.specs.World.{IsShape};
 ghost use Rattle.call_texts.specs.Lines.{fed_lines};
-ghost use Rattle.rank_script.specs.WorldText.{world_text, checked_world, journal_place, read_lines, Reads, ReadsInput, AreScriptsOf};
+ghost use Rattle.rank_script.specs.WorldText.{world_text, checked_world, journal_offset, read_lines, Reads, ReadsInput, AreScriptsOf};
 ghost use Rattle.rank_script.specs.Lines.{input_limit};
 ghost use Rattle.rank_script.specs.UntilJournal.{until_text, until_from};
-ghost use Rattle.rank_script.specs.Readings.{said_of, Accords};
+ghost use Rattle.rank_script.specs.Readings.{reading_of, Accords};
 
 use crate::readings::Reading;
 use crate::scripts::{ScriptFault, Scripts};
@@ -22,7 +22,7 @@ pub const MOST_INPUT_BYTES: usize = 268_435_456;
 /// fault, the answer is the first such line and the smallest number of its faults.
 pub fn read_world(alloc: Global, text: &[u8]) -> Result<(Shape, Scripts), ScriptFault>
     ensures exact { Reads result (world_text text.now) }
-    ensures world { IfOk result (λ read. IsWorld read.0) }
+    ensures world { IfOk result (λ read. IsShape read.0) }
     ensures callers { IfOk result (λ read. AreScriptsOf read.0 read.1) }
 {
     let (shape, scripts, _) = read_until(alloc, text, false)?;
@@ -36,8 +36,8 @@ pub fn read_input(
     alloc: Global,
     text: &[u8],
 ) -> Result<(Shape, Scripts, Option<(u64, u64)>), ScriptFault>
-    ensures exact { ReadsInput result (checked_world text.now) (journal_place text.now) }
-    ensures world { IfOk result (λ read. IsWorld read.0) }
+    ensures exact { ReadsInput result (checked_world text.now) (journal_offset text.now) }
+    ensures world { IfOk result (λ read. IsShape read.0) }
     ensures callers { IfOk result (λ read. AreScriptsOf read.0 read.1) }
     ensures short { IfOk result (λ read. length text.now ≤ input_limit) }
     ensures within { IfOk result (λ read. IfSome read.2 (λ found. (1 ≤ found.1) × (found.1 ≤ found.0 + 1) × (found.0 ≤ length text.now))) }
@@ -52,7 +52,7 @@ fn read_until(
     journal: bool,
 ) -> Result<(Shape, Scripts, Option<(u64, u64)>), ScriptFault>
     ensures exact { ReadsInput result (until_text journal text.now) (until_from journal 0 1 (fed_lines text.now)) }
-    ensures world { IfOk result (λ read. IsWorld read.0) }
+    ensures world { IfOk result (λ read. IsShape read.0) }
     ensures callers { IfOk result (λ read. AreScriptsOf read.0 read.1) }
     ensures short { IfOk result (λ read. length text.now ≤ input_limit) }
     ensures within { IfOk result (λ read. IfSome read.2 (λ found. (1 ≤ found.1) × (found.1 ≤ found.0 + 1) × (found.0 ≤ length text.now))) }
@@ -82,9 +82,9 @@ fn read_until(
 
 /// What was read, where the lines end before one of that number.
 fn finish(reading: Reading, number: u64) -> Result<(Shape, Scripts), ScriptFault>
-    requires { Accords (said_of reading) }
-    ensures exact { Reads result (read_lines (said_of reading) number []) }
-    ensures world { IfOk result (λ read. IsWorld read.0) }
+    requires { Accords (reading_of reading) }
+    ensures exact { Reads result (read_lines (reading_of reading) number []) }
+    ensures world { IfOk result (λ read. IsShape read.0) }
     ensures callers { IfOk result (λ read. AreScriptsOf read.0 read.1) }
 {
     let Reading { shape, scripts } = reading;

@@ -11,10 +11,10 @@ use Rattle.gaspi_types.specs.declared.segments.SegmentTable.{SegmentTable}
 use Rattle.gaspi_types.proofs.Extents.{generation-grows, generation-set, extent-at, extent-set}
 use Rattle.gaspi_types.proofs.Items.{slice_get-replicate, slice_get-changed_at, length-changed_at}
 use Rattle.gaspi_types.proofs.Written.{extents_of-with_bytes, set-extents}
-use Rattle.segment_store.specs.Segments.{Stored, IsSound, nothing_known}
+use Rattle.segment_store.specs.Segments.{SegmentsValue, IsSound, nothing_known}
 
 -- as many bytes in the place of those of a segment
-pub sound-bytes : (s : Stored) (own : List (Option Segment)) (segment : ℕ) (bytes : List ℕ) → IsSound s → own ≡ with_bytes s.segments segment bytes
+pub sound-bytes : (s : SegmentsValue) (own : List (Option Segment)) (segment : ℕ) (bytes : List ℕ) → IsSound s → own ≡ with_bytes s.segments segment bytes
     → length bytes ≡ length (bytes_of s.segments segment) → IsSound (record { table = s.table; segments = own })
 sound-bytes s own segment bytes sound is same = record {
   segments = ap length is ∙ length-set s.segments segment _ ∙ sound.segments;
@@ -27,7 +27,7 @@ sound-bytes s own segment bytes sound is same = record {
 }
 
 -- a segment less
-pub sound-deleted : (s : Stored) (table : SegmentTable) (own : List (Option Segment)) (segment : ℕ) → IsSound s → table ≡ without_own s.table segment → own ≡ slice_set s.segments segment None
+pub sound-deleted : (s : SegmentsValue) (table : SegmentTable) (own : List (Option Segment)) (segment : ℕ) → IsSound s → table ≡ without_own s.table segment → own ≡ slice_set s.segments segment None
     → IsSound (record { table = table; segments = own })
 sound-deleted s table own segment sound without less = rw (without, less) (record {
   segments = length-set s.segments segment None ∙ sound.segments;
@@ -47,7 +47,7 @@ sound-deleted s table own segment sound without less = rw (without, less) (recor
         go (inr there) = there
 
 -- a segment more
-pub sound-made : (s : Stored) (segment size : ℕ) → IsSound s → segment < 32 → is_segment_size size ≡ true
+pub sound-made : (s : SegmentsValue) (segment size : ℕ) → IsSound s → segment < 32 → is_segment_size size ≡ true
     → IsSound (record { table = with_own s.table segment size; segments = slice_set s.segments segment (Some (new_segment (next_generation s.table.next_generations segment) size)) })
 sound-made s segment size sound below sized = record {
   segments = length-set s.segments segment _ ∙ sound.segments;
@@ -88,7 +88,7 @@ sound-made s segment size sound below sized = record {
         omega arith
 
 -- a segment made known
-pub sound-known : (s : Stored) (table : SegmentTable) (owner segment : ℕ) (extent : Option Extent) → IsSound s → table ≡ with_known owner segment extent s.table → IsSound (record { table = table; segments = s.segments })
+pub sound-known : (s : SegmentsValue) (table : SegmentTable) (owner segment : ℕ) (extent : Option Extent) → IsSound s → table ≡ with_known owner segment extent s.table → IsSound (record { table = table; segments = s.segments })
 sound-known s table owner segment extent sound is = rw is (record {
   segments = sound.segments;
   next = sound.next;

@@ -1,5 +1,5 @@
 pub mod Kept
 mod ListPosts
 mod OneTransfer
-pub mod Told
+pub mod Found
 pub mod Written

@@ -1,7 +1,7 @@
 -- Posts of lists: their checks, and then their entries.
 use Rattle.std.proofs.Common.{◌≡◌, ℕ, not, ◌==◌, nat_lt, List, [], ◌∷◌, ◌++◌, length, Result, Ok, Err, refl, ◌∙◌}
-use Rattle.gaspi_types.specs.Checks.{◌>>=◌, check, found, check_each}
-use Rattle.gaspi_types.specs.Posts.{is_list_length, has_segments, has_size, slot_in, transfers_of, checked_transfers, noted_writes, listed}
+use Rattle.gaspi_types.specs.Checks.{◌>>=◌, check, ok_or, check_each}
+use Rattle.gaspi_types.specs.Posts.{is_list_length, has_segments, has_size, slot_in, transfers_of, checked_transfers, writes_with_notification, listed}
 use Rattle.gaspi_types.specs.SegmentTables.{known_extent}
 use Rattle.gaspi_types.specs.declared.calls.posts.Item.{Item}
 use Rattle.gaspi_types.specs.declared.entries.Direction.{Direction}
@@ -46,11 +46,11 @@ put_together (Ok k) (Ok ks) (Ok n) (Err e) last = refl
 put_together (Ok k) (Ok ks) (Ok n) (Ok v) last = refl
 
 pub list_noted_writes : (notes me : ℕ) (table : SegmentTable) (rank : ℕ) (items : List Item) (segment note value : ℕ)
-    → listed items (noted_writes notes me table rank items segment note value)
-    ≡ (list_checks me table rank items (found (known_extent me table rank segment) Unregistered)
+    → listed items (writes_with_notification notes me table rank items segment note value)
+    ≡ (list_checks me table rank items (ok_or (known_extent me table rank segment) Unregistered)
     >>= (λ theirs. transfers_then Outward me table rank items (notification notes theirs segment note value)))
 list_noted_writes notes me table rank items segment note value =
-    let beside : Result Extent Refusal = found (known_extent me table rank segment) Unregistered in
+    let beside : Result Extent Refusal = ok_or (known_extent me table rank segment) Unregistered in
     let noted : Result (Unit {0}) Refusal = check (nat_lt note notes) BadNote in
     let valued : Result (Unit {0}) Refusal = check (not (value == 0)) ZeroValue in
     list-checked Outward me table rank items beside (λ checked. noted >>= (λ n. valued >>= (λ v. Ok (checked.1 ++ Notify (slot_in checked.0 segment note) value ∷ []))))

@@ -6,8 +6,8 @@ use Rattle.gaspi_types.specs.declared.replies.Refusal.{Refusal}
 use Rattle.gaspi_types.specs.declared.replies.Refusal.TheVariants.{BadNote}
 
 -- the least slot of a range that is set, where one is (notify_waitsome)
-abbrev pub found_slot : List ℕ → ℕ → ℕ → Result (Option ℕ) Refusal
-found_slot slots begin num = do
+abbrev pub first_slot : List ℕ → ℕ → ℕ → Result (Option ℕ) Refusal
+first_slot slots begin num = do
   noted ← check (is_slot_range begin num (length slots)) BadNote
   Ok (first_set slots begin num)
 

@@ -7,13 +7,13 @@ use Rattle.gaspi_types.specs.declared.inboxes.Message.{Message}
 use Rattle.gaspi_types.specs.declared.replies.Refusal.{Refusal}
 
 -- how many messages an inbox holds at most, and those that it holds, the earliest first
-pub record Held : Type 0 where
+pub record InboxValue : Type 0 where
   pub most : ℕ
   pub messages : List Message
 
 -- the inbox that is kept in a ring
-abbrev pub held_of : Buffer Message → Held
-held_of ring = record { most = ring.capacity; messages = ring.items }
+abbrev pub inbox_value : Buffer Message → InboxValue
+inbox_value ring = record { most = ring.capacity; messages = ring.items }
 
 -- a ring of 1 to 64 places, of messages of 1 to 4,096 bytes
 pub record IsInbox (ring : Buffer Message) : Type 0 where
@@ -27,11 +27,11 @@ abbrev pub message_of : ℕ → List ℕ → Message
 message_of sender bytes = record { sender = sender; bytes = bytes }
 
 -- a message comes back where the inbox has no room for it, and else is in (passive_send)
-abbrev pub deposit_answer : Held → Message → Result (Unit {0}) Message
+abbrev pub deposit_answer : InboxValue → Message → Result (Unit {0}) Message
 deposit_answer inbox message = if has_room inbox.most inbox.messages then Ok tt else Err message
 
 -- the inbox after that: the message stands last, or nothing has changed
-abbrev pub with_deposit : Held → Message → Held
+abbrev pub with_deposit : InboxValue → Message → InboxValue
 with_deposit inbox message = if has_room inbox.most inbox.messages then record inbox { messages = deposited inbox.messages message } else inbox
 
 -- the sender and the size of the first message
@@ -41,7 +41,7 @@ front_of (message ∷ messages) = Some (message.sender, length message.bytes)
 
 -- What a receive did to an inbox, by its answer: a message that is given was the first, and exactly the others are left, in their
 -- order; where none is given, or the receive is refused, all are left (passive_receive).
-abbrev pub Receives : Held → Held → Result (Option Message) Refusal → Type 0
+abbrev pub Receives : InboxValue → InboxValue → Result (Option Message) Refusal → Type 0
 Receives old new (Ok (Some message)) = (old.messages ≡ message ∷ new.messages) × (new.most ≡ old.most)
 Receives old new (Ok None) = new ≡ old
 Receives old new (Err refusal) = new ≡ old

@@ -7,18 +7,18 @@ use Rattle.gaspi_types.specs.declared.entries.Kind.TheVariants.{Notify, ReadNote
 use Rattle.gaspi_types.specs.declared.segments.Extent.{Extent}
 use Rattle.gaspi_types.specs.declared.replies.Refusal.{Refusal}
 use Rattle.gaspi_types.specs.declared.replies.Refusal.TheVariants.{BadNote, ZeroValue}
-use Rattle.segment_store.specs.declared.kinds.Kinds.{Kinds}
-use Rattle.segment_store.specs.declared.kinds.Kinds.TheVariants.{Nothing, One, Two, Many}
+use Rattle.segment_store.specs.declared.kinds.EntryKinds.{EntryKinds}
+use Rattle.segment_store.specs.declared.kinds.EntryKinds.TheVariants.{Nothing, One, Two, Many}
 
 -- the kinds of the entries, in order
-abbrev pub kinds_of : Kinds → List Kind
+abbrev pub kinds_of : EntryKinds → List Kind
 kinds_of Nothing = []
 kinds_of (One kinds) = kinds
 kinds_of (Two kinds) = kinds
 kinds_of (Many kinds) = kinds
 
 -- what a call asks to be appended is that, or its refusal
-abbrev pub Asks : Result Kinds Refusal → Result (List Kind) Refusal → Type 0
+abbrev pub Asks : Result EntryKinds Refusal → Result (List Kind) Refusal → Type 0
 Asks (Ok kinds) asked = asked ≡ Ok (kinds_of kinds)
 Asks (Err refusal) asked = asked ≡ Err refusal
 

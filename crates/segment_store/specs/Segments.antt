@@ -1,7 +1,7 @@
 -- The segments of one rank with their bytes, and what it knows of the segments of all ranks. (GASPI: segments)
 use Rattle.std.specs.Prelude.{◌≡◌, ℕ, ◌<◌, ◌≤◌, true, List, [], length, replicate, slice_get, slice_set, Option, None, Some, Result, Ok}
 use Rattle.std.specs.Option.{unwrap_or}
-use Rattle.gaspi_types.specs.Checks.{◌>>=◌, found}
+use Rattle.gaspi_types.specs.Checks.{◌>>=◌, ok_or}
 use Rattle.gaspi_types.specs.SegmentBytes.{range_of, with_range}
 use Rattle.gaspi_types.specs.SegmentTables.{extent_in, own_range_checks, next_generation, with_own, without_own, with_known}
 use Rattle.gaspi_types.specs.SegmentWords.{word_checks, word_at, with_sum, with_swap}
@@ -14,7 +14,7 @@ use Rattle.gaspi_types.specs.declared.replies.Refusal.{Refusal}
 use Rattle.gaspi_types.specs.declared.replies.Refusal.TheVariants.{NoSegment, Unregistered}
 
 -- the table of what a rank has and knows of segments, and its own segments with their bytes, by their numbers
-pub record Stored : Type 0 where
+pub record SegmentsValue : Type 0 where
   pub table : SegmentTable
   pub segments : List (Option Segment)
 
@@ -22,7 +22,7 @@ pub record Stored : Type 0 where
 abbrev pub nothing_known : ℕ → SegmentTable
 nothing_known ranks = record { own = replicate 32 None; next_generations = replicate 32 0; known = replicate ranks (replicate 32 None) }
 
-abbrev pub nothing_stored : ℕ → Stored
+abbrev pub nothing_stored : ℕ → SegmentsValue
 nothing_stored ranks = record { table = nothing_known ranks; segments = replicate 32 None }
 
 -- what is known of the segments of a rank
@@ -30,7 +30,7 @@ abbrev pub known_of : List (List (Option Extent)) → ℕ → List (Option Exten
 known_of known owner = unwrap_or (slice_get known owner) []
 
 -- A segment may be made: its generation, and the one after it, are numbers of 32 bits. A number that is over 31 is refused.
-abbrev pub HasNextGeneration : Stored → ℕ → Type 0
+abbrev pub HasNextGeneration : SegmentsValue → ℕ → Type 0
 HasNextGeneration s segment = segment < 32 → next_generation s.table.next_generations segment < 4294967295
 
 -- What calls check beside what the checks of all segments say.
@@ -38,18 +38,18 @@ HasNextGeneration s segment = segment < 32 → next_generation s.table.next_gene
 -- what a segment that is to be deleted is refused for (segment_delete)
 abbrev pub delete_checks : List (Option Extent) → ℕ → Result (Unit {0}) Refusal
 delete_checks own segment = do
-  mine ← found (extent_in own segment) NoSegment
+  mine ← ok_or (extent_in own segment) NoSegment
   Ok tt
 
 -- What a word of an own segment is refused for. An atomic comes from any rank, to which a segment that is not there is one
 -- that it does not know. (atomics)
 abbrev pub own_word_checks : List (Option Extent) → ℕ → ℕ → Result (Unit {0}) Refusal
 own_word_checks own segment offset = do
-  mine ← found (extent_in own segment) Unregistered
+  mine ← ok_or (extent_in own segment) Unregistered
   word_checks mine.size offset
 
 -- what a load answers: the bytes of the range (own choice)
-abbrev pub own_bytes : Stored → ℕ → ℕ → ℕ → Result (List ℕ) Refusal
+abbrev pub own_bytes : SegmentsValue → ℕ → ℕ → ℕ → Result (List ℕ) Refusal
 own_bytes s segment offset size = do
   fits ← own_range_checks s.table.own segment offset size
   Ok (range_of (bytes_of s.segments segment) offset size)
@@ -60,7 +60,7 @@ word_by own segments segment offset = do
   fits ← own_word_checks own segment offset
   Ok (word_at (bytes_of segments segment) offset)
 
-abbrev pub own_word : Stored → ℕ → ℕ → Result ℕ Refusal
+abbrev pub own_word : SegmentsValue → ℕ → ℕ → Result ℕ Refusal
 own_word s segment offset = word_by s.table.own s.segments segment offset
 
 -- the same of the segments by themselves, whose generations and sizes are the table
@@ -70,31 +70,31 @@ word_in segments segment offset = word_by (extents_of segments) segments segment
 -- What calls change.
 
 -- a segment more, all zeros, of the next generation of its number (segment_alloc)
-abbrev pub with_zeros : Stored → ℕ → ℕ → Stored
+abbrev pub with_zeros : SegmentsValue → ℕ → ℕ → SegmentsValue
 with_zeros s segment size = record {
   table = with_own s.table segment size;
   segments = slice_set s.segments segment (Some (new_segment (next_generation s.table.next_generations segment) size));
 }
 
 -- a segment less (segment_delete)
-abbrev pub without : Stored → ℕ → Stored
+abbrev pub without : SegmentsValue → ℕ → SegmentsValue
 without s segment = record { table = without_own s.table segment; segments = slice_set s.segments segment None }
 
 -- bytes stored into a segment, from an offset on (own choice)
-abbrev pub with_stored : Stored → ℕ → ℕ → List ℕ → Stored
+abbrev pub with_stored : SegmentsValue → ℕ → ℕ → List ℕ → SegmentsValue
 with_stored s segment offset new = record s { segments = with_bytes s.segments segment (with_range (bytes_of s.segments segment) offset new) }
 
 -- a value added to a word of a segment (atomic_fetch_add)
-abbrev pub with_added : Stored → ℕ → ℕ → ℕ → Stored
+abbrev pub with_added : SegmentsValue → ℕ → ℕ → ℕ → SegmentsValue
 with_added s segment offset value = record s { segments = with_bytes s.segments segment (with_sum (bytes_of s.segments segment) offset value) }
 
 -- a word of a segment replaced, where the comparator stands there (atomic_compare_swap)
-abbrev pub with_swapped : Stored → ℕ → ℕ → ℕ → ℕ → Stored
+abbrev pub with_swapped : SegmentsValue → ℕ → ℕ → ℕ → ℕ → SegmentsValue
 with_swapped s segment offset comparator new =
     record s { segments = with_bytes s.segments segment (with_swap (bytes_of s.segments segment) offset comparator new) }
 
 -- a segment of a rank made known in an extent (segment_register)
-abbrev pub with_registered : Stored → ℕ → ℕ → Extent → Stored
+abbrev pub with_registered : SegmentsValue → ℕ → ℕ → Extent → SegmentsValue
 with_registered s owner segment extent = record s { table = with_known owner segment (Some extent) s.table }
 
 -- each segment of a table has as many bytes as a segment may have
@@ -103,7 +103,7 @@ pub record AreSized (table : List (Option Extent)) : Type 0 where
 
 -- What holds of the segments of a rank at any time: each table has its length, the table of own segments has the
 -- generations and sizes of those that are there, which are of a segment's size and of a generation before the next one.
-pub record IsSound (s : Stored) : Type 0 where
+pub record IsSound (s : SegmentsValue) : Type 0 where
   pub segments : length s.segments ≡ 32
   pub next : length s.table.next_generations ≡ 32
   pub ranks : length s.table.known ≤ 16

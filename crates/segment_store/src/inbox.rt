@@ -16,11 +16,11 @@ pub struct Inbox {
 }
 
 impl Model for Inbox {
-    ghost use Rattle.segment_store.specs.Held.{Held, held_of, IsInbox};
+    ghost use Rattle.segment_store.specs.Held.{InboxValue, inbox_value, IsInbox};
 
-    ghost Value = { Held };
+    ghost Value = { InboxValue };
 
-    ghost view = { λ inbox. held_of inbox.ring };
+    ghost view = { λ inbox. inbox_value inbox.ring };
 
     ghost invariant = { λ inbox. IsInbox inbox.ring };
 }

@@ -24,7 +24,7 @@ mod tables;
 mod words;
 
 pub use inbox::Inbox;
-pub use kinds::Kinds;
+pub use kinds::EntryKinds;
 pub use laws::{extents, writes};
 pub use posts::call_kinds;
 pub use ranges::{check_range, is_transfer_size, is_within, range_of, set_range};

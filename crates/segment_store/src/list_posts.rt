@@ -7,12 +7,12 @@ ghost use Rattle.gaspi_types.specs.Posts.{has_segments, has_size, transfers_of, 
 ghost use Rattle.segment_store.specs.PostKinds.{kinds_of, Asks};
 ghost use Rattle.segment_store.specs.ListPosts.{list_checks, transfers_then};
 
-use crate::kinds::Kinds;
+use crate::kinds::EntryKinds;
 use crate::posts::{ends_of, known_segment, notification, own_segment, read_notification};
 use crate::ranges::is_transfer_size;
 use gaspi_types::{
-    Direction, Item, Kind, NoMemory, RankId, ReadList, ReadListNotify, Refusal, Rows, SegmentTable,
-    WriteList, WriteListNotify, is_list_length,
+    Direction, Item, Kind, NoMemory, RankId, ReadList, ReadListNotify, Refusal, SegmentTable,
+    Sequence, WriteList, WriteListNotify, is_list_length,
 };
 use std::alloc::Global;
 
@@ -88,12 +88,12 @@ fn transfers_of(
     table: &SegmentTable,
     rank: u64,
     items: &[Item],
-) -> Result<Result<Rows<Kind>, Refusal>, NoMemory>
+) -> Result<Result<Sequence<Kind>, Refusal>, NoMemory>
     requires { length items.now ≤ 256 }
     ensures kinds { IfOk result (λ asked. asked ≡ transfers_of direction me table.now rank items.now) }
     ensures count { IfOk result (λ asked. IfOk asked (λ kinds. length kinds ≡ length items.now)) }
 {
-    let mut kinds = Rows::with_room(alloc, items.len() + 1)?;
+    let mut kinds = Sequence::with_capacity(alloc, items.len() + 1)?;
     for item in items {
         match ends_of(me, table, rank, item) {
             Ok(ends) => kinds.push(ends.kind(direction))?,
@@ -112,7 +112,7 @@ fn transfers_then(
     rank: u64,
     items: &[Item],
     last: Result<Kind, Refusal>,
-) -> Result<Result<Kinds, Refusal>, NoMemory>
+) -> Result<Result<EntryKinds, Refusal>, NoMemory>
     requires { length items.now ≤ 256 }
     ensures asks { IfOk result (λ asked. Asks asked (transfers_then direction me table.now rank items.now last)) }
     ensures few { IfOk result (λ asked. IfOk asked (λ kinds. length (kinds_of kinds) ≤ 257)) }
@@ -125,7 +125,7 @@ fn transfers_then(
         Ok(kind) => kinds.push(kind)?,
         Err(refusal) => return Ok(Err(refusal)),
     }
-    Ok(Ok(Kinds::Many(kinds)))
+    Ok(Ok(EntryKinds::Many(kinds)))
 }
 
 /// The transfers of a list alone.
@@ -136,14 +136,14 @@ fn list_kinds(
     table: &SegmentTable,
     rank: u64,
     items: &[Item],
-) -> Result<Result<Kinds, Refusal>, NoMemory>
+) -> Result<Result<EntryKinds, Refusal>, NoMemory>
     ensures asks { IfOk result (λ asked. Asks asked (listed items.now (transfers_alone direction me table.now rank items.now))) }
     ensures few { IfOk result (λ asked. IfOk asked (λ kinds. length (kinds_of kinds) ≤ 257)) }
 {
     match check_list(me, table, rank, items, Ok(())) {
         Ok(()) => {
             let asked = transfers_of(alloc, direction, me, table, rank, items)?;
-            Ok(asked.map(Kinds::Many))
+            Ok(asked.map(EntryKinds::Many))
         }
         Err(refusal) => Ok(Err(refusal)),
     }
@@ -155,7 +155,7 @@ pub(crate) fn write_list_kinds(
     me: RankId,
     table: &SegmentTable,
     call: &WriteList,
-) -> Result<Result<Kinds, Refusal>, NoMemory>
+) -> Result<Result<EntryKinds, Refusal>, NoMemory>
     ensures asks { IfOk result (λ asked. Asks asked (write_list_kinds me table.now call.now)) }
     ensures few { IfOk result (λ asked. IfOk asked (λ kinds. length (kinds_of kinds) ≤ 257)) }
 {
@@ -169,7 +169,7 @@ pub(crate) fn read_list_kinds(
     me: RankId,
     table: &SegmentTable,
     call: &ReadList,
-) -> Result<Result<Kinds, Refusal>, NoMemory>
+) -> Result<Result<EntryKinds, Refusal>, NoMemory>
     ensures asks { IfOk result (λ asked. Asks asked (read_list_kinds me table.now call.now)) }
     ensures few { IfOk result (λ asked. IfOk asked (λ kinds. length (kinds_of kinds) ≤ 257)) }
 {
@@ -186,7 +186,7 @@ pub(crate) fn write_list_notify_kinds(
     me: RankId,
     table: &SegmentTable,
     call: &WriteListNotify,
-) -> Result<Result<Kinds, Refusal>, NoMemory>
+) -> Result<Result<EntryKinds, Refusal>, NoMemory>
     ensures asks { IfOk result (λ asked. Asks asked (write_list_notify_kinds notes me table.now call.now)) }
     ensures few { IfOk result (λ asked. IfOk asked (λ kinds. length (kinds_of kinds) ≤ 257)) }
 {
@@ -209,7 +209,7 @@ pub(crate) fn read_list_notify_kinds(
     me: RankId,
     table: &SegmentTable,
     call: &ReadListNotify,
-) -> Result<Result<Kinds, Refusal>, NoMemory>
+) -> Result<Result<EntryKinds, Refusal>, NoMemory>
     ensures asks { IfOk result (λ asked. Asks asked (read_list_notify_kinds notes me table.now call.now)) }
     ensures few { IfOk result (λ asked. IfOk asked (λ kinds. length (kinds_of kinds) ≤ 257)) }
 {

@@ -1,27 +1,27 @@
 //! What the calls that post ask of a table of segments. (GASPI: one-sided communication)
 
 ghost use Rattle.std.specs.Prelude.{◌≡◌, ◌<◌, ◌≤◌, ◌^◌, false, length, IfOk, IsOk};
-ghost use Rattle.gaspi_types.specs.Checks.{found};
+ghost use Rattle.gaspi_types.specs.Checks.{ok_or};
 ghost use Rattle.gaspi_types.specs.SegmentTables.{extent_in, known_extent};
 ghost use Rattle.gaspi_types.specs.declared.replies.Refusal.TheVariants.{NoSegment, Unregistered};
-ghost use Rattle.gaspi_types.specs.Posts.{slot_in, ends_of, write_kinds, read_kinds, notify_kinds, write_notify_kinds, read_notify_kinds, call_kinds, is_list_post};
+ghost use Rattle.gaspi_types.specs.Posts.{slot_in, endpoints_of, write_kinds, read_kinds, notify_kinds, write_notify_kinds, read_notify_kinds, call_kinds, is_list_post};
 ghost use Rattle.segment_store.specs.PostKinds.{kinds_of, Asks, notification, read_notification};
 
-use crate::kinds::Kinds;
+use crate::kinds::EntryKinds;
 use crate::list_posts::{
     read_list_kinds, read_list_notify_kinds, write_list_kinds, write_list_notify_kinds,
 };
 use crate::ranges::{is_transfer_size, is_within};
 use crate::segment_tables::{extent_in, known_extent};
 use gaspi_types::{
-    ByteRange, Call, Direction, Ends, Extent, Item, Kind, NoMemory, NoteSlot, Notify, RankId, Read,
-    ReadNotify, Refusal, SegmentTable, Write, WriteNotify,
+    ByteRange, Call, Direction, Endpoints, Extent, Item, Kind, NoMemory, NoteSlot, Notify, RankId,
+    Read, ReadNotify, Refusal, SegmentTable, Write, WriteNotify,
 };
 use std::alloc::Global;
 
 /// An own segment (`NoSegment`).
 pub(crate) fn own_segment(table: &SegmentTable, segment: u64) -> Result<Extent, Refusal>
-    ensures found { result ≡ found (extent_in table.now.own segment) NoSegment }
+    ensures found { result ≡ ok_or (extent_in table.now.own segment) NoSegment }
     ensures bound { IfOk result (λ mine. segment < 32) }
 {
     extent_in(&table.own, segment).ok_or(Refusal::NoSegment)
@@ -34,7 +34,7 @@ pub(crate) fn known_segment(
     rank: u64,
     segment: u64,
 ) -> Result<Extent, Refusal>
-    ensures found { result ≡ found (known_extent me table.now rank segment) Unregistered }
+    ensures found { result ≡ ok_or (known_extent me table.now rank segment) Unregistered }
     ensures bound { IfOk result (λ theirs. segment < 32) }
 {
     known_extent(me, table, rank, segment).ok_or(Refusal::Unregistered)
@@ -47,8 +47,8 @@ pub(crate) fn ends_of(
     table: &SegmentTable,
     rank: u64,
     item: &Item,
-) -> Result<Ends, Refusal>
-    ensures { result ≡ ends_of me table.now rank item.now }
+) -> Result<Endpoints, Refusal>
+    ensures { result ≡ endpoints_of me table.now rank item.now }
 {
     let mine = own_segment(table, item.seg)?;
     let theirs = known_segment(me, table, rank, item.rseg)?;
@@ -62,7 +62,7 @@ pub(crate) fn ends_of(
         return Err(Refusal::BadRange { size: theirs.size });
     }
     let size = item.size as u32;
-    Ok(Ends {
+    Ok(Endpoints {
         mine,
         theirs,
         own: ByteRange {
@@ -206,21 +206,25 @@ pub fn call_kinds(
     me: RankId,
     table: &SegmentTable,
     call: &Call,
-) -> Result<Result<Kinds, Refusal>, NoMemory>
+) -> Result<Result<EntryKinds, Refusal>, NoMemory>
     ensures asks { IfOk result (λ asked. Asks asked (call_kinds notes me table.now call.now)) }
     ensures few { IfOk result (λ asked. IfOk asked (λ kinds. length (kinds_of kinds) ≤ 257)) }
     ensures ample { is_list_post call.now ≡ false → IsOk result }
 {
     match call {
-        Call::Write(call) => Ok(write_kinds(me, table, call).map(Kinds::One)),
-        Call::Read(call) => Ok(read_kinds(me, table, call).map(Kinds::One)),
-        Call::Notify(call) => Ok(notify_kinds(notes, me, table, call).map(Kinds::One)),
-        Call::WriteNotify(call) => Ok(write_notify_kinds(notes, me, table, call).map(Kinds::Two)),
-        Call::ReadNotify(call) => Ok(read_notify_kinds(notes, me, table, call).map(Kinds::Two)),
+        Call::Write(call) => Ok(write_kinds(me, table, call).map(EntryKinds::One)),
+        Call::Read(call) => Ok(read_kinds(me, table, call).map(EntryKinds::One)),
+        Call::Notify(call) => Ok(notify_kinds(notes, me, table, call).map(EntryKinds::One)),
+        Call::WriteNotify(call) => Ok(write_notify_kinds(notes, me, table, call).map(
+            EntryKinds::Two,
+        )),
+        Call::ReadNotify(call) => Ok(read_notify_kinds(notes, me, table, call).map(
+            EntryKinds::Two,
+        )),
         Call::WriteList(call) => write_list_kinds(alloc, me, table, call),
         Call::ReadList(call) => read_list_kinds(alloc, me, table, call),
         Call::WriteListNotify(call) => write_list_notify_kinds(alloc, notes, me, table, call),
         Call::ReadListNotify(call) => read_list_notify_kinds(alloc, notes, me, table, call),
-        _ => Ok(Ok(Kinds::Nothing)),
+        _ => Ok(Ok(EntryKinds::Nothing)),
     }
 }

@@ -6,7 +6,7 @@ ghost use Rattle.gaspi_types.specs.SegmentTables.{extent_in, known_extent, own_r
 
 use crate::ranges::{check_range, is_within};
 use gaspi_types::{
-    Extent, Extents, RankId, Refusal, Rows, SegmentTable, is_passive_size, is_segment_size,
+    Extent, Extents, RankId, Refusal, SegmentTable, Sequence, is_passive_size, is_segment_size,
 };
 
 /// What stands in a table of segments at a number, which is below 32.
@@ -79,7 +79,7 @@ pub fn check_alloc(own: &Extents, seg: u64, size: u64) -> Result<(), Refusal>
 }
 
 /// The generation that the next segment of a number has; of a number over 31, 0.
-pub fn next_generation(generations: &Rows<u32>, seg: u64) -> u32
+pub fn next_generation(generations: &Sequence<u32>, seg: u64) -> u32
     ensures { result ≡ next_generation generations.now seg }
 {
     generations
@@ -90,7 +90,7 @@ pub fn next_generation(generations: &Rows<u32>, seg: u64) -> u32
 }
 
 /// Uses a generation of a number.
-fn use_generation(generations: &mut Rows<u32>, seg: u64)
+fn use_generation(generations: &mut Sequence<u32>, seg: u64)
     requires { next_generation generations.old seg + 1 < 2 ^ 32 }
     ensures { generations.new ≡ with_generation generations.old seg }
 {

@@ -13,7 +13,7 @@ use crate::{
     swap_in_segment, word_at,
 };
 use gaspi_types::{
-    Bytes, Extent, NoMemory, OwnSegments, RankId, Refusal, Rows, Segment, SegmentTable,
+    Bytes, Extent, NoMemory, OwnSegments, RankId, Refusal, Segment, SegmentTable, Sequence,
 };
 use std::alloc::Global;
 use std::marker::Model;
@@ -29,9 +29,9 @@ pub struct Segments {
 }
 
 impl Model for Segments {
-    ghost use Rattle.segment_store.specs.Segments.{Stored, IsSound};
+    ghost use Rattle.segment_store.specs.Segments.{SegmentsValue, IsSound};
 
-    ghost Value = { Stored };
+    ghost Value = { SegmentsValue };
 
     ghost view = { λ s. record { table = s.table; segments = s.own } };
 
@@ -165,7 +165,7 @@ impl Segments {
     {
         check_own_range(&self.table.own, seg, offset, size)?;
         let bytes = range_of(bytes_of(&self.own, seg), offset as usize, size as usize);
-        Ok(Rows::copied_from(alloc, bytes)?)
+        Ok(Sequence::copied_from(alloc, bytes)?)
     }
 
     /// The bytes of a range of an own segment, lent.

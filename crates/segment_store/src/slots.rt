@@ -3,7 +3,7 @@
 ghost use Rattle.std.specs.Prelude.{◌≡◌, ◌<◌, ◌≤◌, IfOk, OnOk, OnErr, length, replicate, slice_set};
 
 use crate::slot_ranges::{first_set, is_slot_range};
-use gaspi_types::{NoMemory, Refusal, Rows};
+use gaspi_types::{NoMemory, Refusal, Sequence};
 use std::alloc::Global;
 use std::marker::Model;
 
@@ -13,7 +13,7 @@ use std::marker::Model;
 /// The numbers of slots are those that a caller wrote, so any number may come.
 #[derive(Debug, Drop)]
 pub struct Slots {
-    values: Rows<u32>,
+    values: Sequence<u32>,
 }
 
 impl Model for Slots {
@@ -28,8 +28,8 @@ impl Model for Slots {
 
 impl Slots {
     ghost use Rattle.gaspi_types.specs.Slots.{IsSlotSet};
-    ghost use Rattle.segment_store.specs.Answers.{found_slot, slot_value};
-    ghost use Rattle.segment_store.specs.Found.{Tells};
+    ghost use Rattle.segment_store.specs.Answers.{first_slot, slot_value};
+    ghost use Rattle.segment_store.specs.Found.{IsLeastSlot};
 
     /// So many slots, at most 1,024, which is the most that a world may have; no notification stands in them. Their
     /// memory is taken here, and none after. (GASPI: segment_alloc)
@@ -38,7 +38,7 @@ impl Slots {
         ensures { IfOk result (λ slots. slots ≡ replicate notes 0) }
     {
         Ok(Slots {
-            values: Rows::from_vec(vec![in alloc; 0; notes as usize]?),
+            values: Sequence::from_vec(vec![in alloc; 0; notes as usize]?),
         })
     }
 
@@ -70,8 +70,8 @@ impl Slots {
     /// none stands in the range. `BadNote` where the range has no slot, or does not lie within the slots.
     /// (GASPI: notify_waitsome)
     pub fn waitsome(&self, begin: u64, num: u64) -> Result<Option<u32>, Refusal>
-        ensures answer { result ≡ found_slot self.now begin num }
-        ensures least { IfOk result (λ found. Tells self.now begin num found) }
+        ensures answer { result ≡ first_slot self.now begin num }
+        ensures least { IfOk result (λ found. IsLeastSlot self.now begin num found) }
     {
         if !is_slot_range(begin, num, self.values.len()) {
             return Err(Refusal::BadNote);

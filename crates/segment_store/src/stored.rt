@@ -9,7 +9,7 @@ ghost use Rattle.gaspi_types.specs.Segments.{new_segment, segment_in, bytes_of, 
 
 use crate::ranges::set_range;
 use crate::words::{add_to_word, swap_word};
-use gaspi_types::{NoMemory, OwnSegments, Rows, Segment};
+use gaspi_types::{NoMemory, OwnSegments, Segment, Sequence};
 use std::alloc::Global;
 
 /// A segment as it is made: all its bytes are zero. (GASPI: segments)
@@ -18,7 +18,7 @@ pub fn new_segment(alloc: Global, generation: u32, size: u32) -> Result<Segment,
 {
     Ok(Segment {
         generation,
-        bytes: Rows::from_vec(vec![in alloc; 0u8; size as usize]?),
+        bytes: Sequence::from_vec(vec![in alloc; 0u8; size as usize]?),
     })
 }
 

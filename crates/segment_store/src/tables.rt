@@ -5,14 +5,14 @@ ghost use Rattle.std.specs.Prelude.{◌≡◌, IfOk, length, replicate, None};
 ghost use Rattle.segment_store.specs.Segments.{nothing_known, own_word_checks, delete_checks};
 
 use crate::{check_word, extent_in};
-use gaspi_types::{Bytes, Extents, NoMemory, OwnSegments, Refusal, Rows, SegmentTable};
+use gaspi_types::{Bytes, Extents, NoMemory, OwnSegments, Refusal, SegmentTable, Sequence};
 use std::alloc::Global;
 
 /// No own segment.
 pub fn no_segments(alloc: Global) -> Result<OwnSegments, NoMemory>
     ensures { IfOk result (λ own. own ≡ replicate 32 None) }
 {
-    let mut own = Rows::new(alloc);
+    let mut own = Sequence::new(alloc);
     for _segment in 0..32u32 {
         own.push(None)?;
     }
@@ -23,14 +23,14 @@ pub fn no_segments(alloc: Global) -> Result<OwnSegments, NoMemory>
 fn no_extents(alloc: Global) -> Result<Extents, NoMemory>
     ensures { IfOk result (λ own. own ≡ replicate 32 None) }
 {
-    Ok(Rows::from_vec(vec![in alloc; None; 32]?))
+    Ok(Sequence::from_vec(vec![in alloc; None; 32]?))
 }
 
 /// Nothing was made known of so many ranks.
-fn no_known(alloc: Global, ranks: u32) -> Result<Rows<Extents>, NoMemory>
+fn no_known(alloc: Global, ranks: u32) -> Result<Sequence<Extents>, NoMemory>
     ensures { IfOk result (λ known. known ≡ replicate ranks (replicate 32 None)) }
 {
-    let mut known = Rows::new(alloc);
+    let mut known = Sequence::new(alloc);
     for _rank in 0..ranks {
         known.push(no_extents(alloc)?)?;
     }
@@ -44,7 +44,7 @@ pub fn nothing_known(alloc: Global, ranks: u32) -> Result<SegmentTable, NoMemory
 {
     Ok(SegmentTable {
         own: no_extents(alloc)?,
-        next_generations: Rows::from_vec(vec![in alloc; 0; 32]?),
+        next_generations: Sequence::from_vec(vec![in alloc; 0; 32]?),
         known: no_known(alloc, ranks)?,
     })
 }
@@ -55,7 +55,7 @@ pub fn zeroed(room: Bytes) -> Bytes
 {
     let mut bytes = room.into_vec();
     bytes.fill(0);
-    Rows::from_vec(bytes)
+    Sequence::from_vec(bytes)
 }
 
 /// Checks that a segment is there (`NoSegment`).

@@ -1,6 +1,6 @@
 -- What is pending on a group. (GASPI: timeouts)
 use Rattle.std.specs.Prelude.{◌≡◌, ℕ, Option, None, Some}
-use Rattle.gaspi_types.specs.declared.groups.Pending.{Pending as Kept}
+use Rattle.gaspi_types.specs.declared.groups.PendingCollective.{PendingCollective as Kept}
 
 -- it is there, and a thread's
 abbrev pub IsOfThread : Option Kept → ℕ → Type 0

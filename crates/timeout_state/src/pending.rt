@@ -2,9 +2,9 @@
 
 ghost use Rattle.std.specs.Prelude.{◌≡◌, None, Some, IfOk, option_copied, replicate, slice_set};
 ghost use Rattle.gaspi_types.specs.Collectives.{resume};
-ghost use Rattle.gaspi_types.specs.Tables.{entry_at};
+ghost use Rattle.gaspi_types.specs.Tables.{item_at};
 
-use gaspi_types::{Args, GroupId, NoMemory, Refusal, Resume, Rows, ThreadId};
+use gaspi_types::{Args, GroupId, NoMemory, Refusal, Resume, Sequence, ThreadId};
 use std::alloc::Global;
 use std::marker::Model;
 
@@ -12,12 +12,12 @@ use std::marker::Model;
 /// the list of them by the groups' numbers, 0 to 7.
 #[derive(Debug, Drop)]
 pub struct Pending {
-    table: Rows<Option<gaspi_types::Pending>>,
+    table: Sequence<Option<gaspi_types::PendingCollective>>,
 }
 
 impl Model for Pending {
     ghost use Rattle.std.specs.Prelude.{◌≡◌, List, Option, length};
-    ghost use Rattle.gaspi_types.specs.declared.groups.Pending.{Pending as Kept};
+    ghost use Rattle.gaspi_types.specs.declared.groups.PendingCollective.{PendingCollective as Kept};
 
     ghost Value = { List (Option Kept) };
 
@@ -33,7 +33,7 @@ impl Pending {
     pub fn new(alloc: Global) -> Result<Pending, NoMemory>
         ensures { IfOk result (λ pending. pending ≡ replicate 8 None) }
     {
-        let mut table = Rows::with_room(alloc, 8)?;
+        let mut table = Sequence::with_capacity(alloc, 8)?;
         for _group in 0..8u32 {
             table.push(None)?;
         }
@@ -41,15 +41,15 @@ impl Pending {
     }
 
     /// What is pending on a group, lent: the thread that joined it, and its arguments. None exactly where none is. (GASPI: timeouts)
-    pub fn on(&self, group: GroupId) -> Option<&gaspi_types::Pending>
-        ensures { option_copied result ≡ entry_at self.now group }
+    pub fn on(&self, group: GroupId) -> Option<&gaspi_types::PendingCollective>
+        ensures { option_copied result ≡ item_at self.now group }
     {
         self.table.at(group.index()).as_ref()
     }
 
     /// What is pending on the group with a number, lent: as `on`, and None of a number that no group has. (GASPI: timeouts)
-    pub fn named(&self, group: u64) -> Option<&gaspi_types::Pending>
-        ensures { option_copied result ≡ entry_at self.now group }
+    pub fn named(&self, group: u64) -> Option<&gaspi_types::PendingCollective>
+        ensures { option_copied result ≡ item_at self.now group }
     {
         match self.table.get(group as usize) {
             Some(Some(pending)) => Some(pending),
@@ -61,7 +61,7 @@ impl Pending {
     /// `ActiveCollective` where that is another thread's, or `ResumeOther` where it differs in kind, arguments or values.
     /// (GASPI: timeouts)
     pub fn state(&self, group: GroupId, thread: ThreadId, args: &Args) -> Result<Resume, Refusal>
-        ensures { result ≡ resume (entry_at self.now group) thread (Some args.now) }
+        ensures { result ≡ resume (item_at self.now group) thread (Some args.now) }
     {
         let pending = self.on(group);
         gaspi_model::resume(pending, thread, Some(args))
@@ -69,17 +69,17 @@ impl Pending {
 
     /// Makes a collective of a thread pending on a group, on which none is. It takes no memory. (GASPI: collectives)
     pub fn put_in(&mut self, group: GroupId, thread: ThreadId, args: Args)
-        requires { entry_at self.old group ≡ None }
+        requires { item_at self.old group ≡ None }
         ensures { self.new ≡ slice_set self.old group (Some (record { thread = thread; args = args })) }
     {
-        *self.table.at_mut(group.index()) = Some(gaspi_types::Pending { thread, args });
+        *self.table.at_mut(group.index()) = Some(gaspi_types::PendingCollective { thread, args });
     }
 
     /// Takes out the collective that is pending on a group, which is this thread's, and gives its arguments. It takes no memory.
     /// (GASPI: collectives)
     pub fn take_out(&mut self, group: GroupId, thread: ThreadId) -> Args
-        requires { IsOfThread (entry_at self.old group) thread }
-        ensures taken { entry_at self.old group ≡ Some (record { thread = thread; args = result }) }
+        requires { IsOfThread (item_at self.old group) thread }
+        ensures taken { item_at self.old group ≡ Some (record { thread = thread; args = result }) }
         ensures others { self.new ≡ slice_set self.old group None }
     {
         let _ = thread;

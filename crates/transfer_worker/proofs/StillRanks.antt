@@ -32,11 +32,11 @@ use Rattle.gaspi_model.proofs.Histories.{after-first}
 use Rattle.gaspi_model.proofs.IdleSteps.{only-counted}
 use Rattle.gaspi_model.proofs.Listed.Steps.{take-listed, put-listed}
 use Rattle.gaspi_model.proofs.Made.{step-called, step-take, step-put}
-use Rattle.gaspi_model.proofs.MetPosts.{met-called, met-joined}
+use Rattle.gaspi_model.proofs.CollectivePosts.{on_group-called, on_group-joined}
 use Rattle.gaspi_model.proofs.Same.{same_reply-same}
 use Rattle.gaspi_model.proofs.Settled.EmptyLanes.{lanes-empty}
 use Rattle.gaspi_model.proofs.Sound.Steps.{limits-stay}
-use Rattle.gaspi_model.proofs.Sound.Told.{IsTold, told, told-get}
+use Rattle.gaspi_model.proofs.Sound.Registered.{IsTold, registering, registered-get}
 use Rattle.transfer_worker.specs.StillRanks.{HasStopped}
 
 -- What stands in lists.
@@ -154,13 +154,13 @@ stopped-same s t rank same stopped = record { none = none; ended = λ thread. en
     ended thread None at = rw at refl
     ended thread (Some p) at = (let was = same.posts p at in of-posts thread p at was.0 was.1 was.3)
 
-told-same : (s t : State) (rank : ℕ) → t.limits ≡ s.limits → IsTold s.posts t.posts rank → AreSame s t rank
-told-same s t rank limits (inl same) = record { limits = limits; posts = λ after at. (after, sym same ∙ at, refl, refl) }
-told-same s t rank limits (inr (x, known, before, now)) = record { limits = limits; posts = λ p at. (let both : ◌≡◌ {A = Option Posts} (Some (record x { segments = record x.segments { known = known } })) (Some p) = sym now ∙ at in let same : record x { segments = record x.segments { known = known } } ≡ p = cc in (x, before, ap (λ (q : Posts). q.queues) (sym same), ap (λ (q : Posts). q.threads) (sym same))) }
+answered-same : (s t : State) (rank : ℕ) → t.limits ≡ s.limits → IsTold s.posts t.posts rank → AreSame s t rank
+answered-same s t rank limits (inl same) = record { limits = limits; posts = λ after at. (after, sym same ∙ at, refl, refl) }
+answered-same s t rank limits (inr (x, known, before, now)) = record { limits = limits; posts = λ p at. (let both : ◌≡◌ {A = Option Posts} (Some (record x { segments = record x.segments { known = known } })) (Some p) = sym now ∙ at in let same : record x { segments = record x.segments { known = known } } ≡ p = cc in (x, before, ap (λ (q : Posts). q.queues) (sym same), ap (λ (q : Posts). q.threads) (sym same))) }
 
 -- an event of another rank
 other-same : (s t : State) (e : Event) (rank : ℕ) → step s e ≡ Ok t → (owner_of e == rank) ≡ false → AreSame s t rank
-other-same s t e rank h other = told-same s t rank (limits-stay s t e h) (by-event e h other)
+other-same s t e rank h other = answered-same s t rank (limits-stay s t e h) (by-event e h other)
   where
     set : (owner : ℕ) (after : Posts) → (owner == rank) ≡ false → slice_get (slice_set s.posts owner after) rank ≡ slice_get s.posts rank
     set owner after apart = slice_get-set_other s.posts owner rank after (λ e. eqb-false owner rank apart e)
@@ -173,13 +173,13 @@ other-same s t e rank h other = told-same s t rank (limits-stay s t e h) (by-eve
     by-event (Called c call reply) h apart = by-group (row_of call).group refl
       where
         by-group : (o : Option ℕ) → (row_of call).group ≡ o → IsTold s.posts t.posts rank
-        by-group (Some id) named = (let m = met-called s t c id call reply named h in inl (rw m.2.leaves (set c.rank m.1 apart)))
+        by-group (Some id) named = (let m = on_group-called s t c id call reply named h in inl (rw m.2.leaves (set c.rank m.1 apart)))
         by-group None plain =
             let made = step-called s t c call reply plain h in
             let m = made.3 in
             subst (λ (all : List Posts). IsTold s.posts all rank) (sym (ap (λ (x : State). x.posts) m.leaves))
-            (told-set c.rank made.2.posts apart (told s.limits.ranks c.rank made.0 call reply (slice_set s.posts c.rank made.2.posts)) (told-get s.limits.ranks c.rank made.0 call reply (slice_set s.posts c.rank made.2.posts) rank))
-    by-event (Joined c id args) h apart = (let m = met-joined s t c id args h in inl (rw m.2.leaves (set c.rank m.1 apart)))
+            (told-set c.rank made.2.posts apart (registering s.limits.ranks c.rank made.0 call reply (slice_set s.posts c.rank made.2.posts)) (registered-get s.limits.ranks c.rank made.0 call reply (slice_set s.posts c.rank made.2.posts) rank))
+    by-event (Joined c id args) h apart = (let m = on_group-joined s t c id args h in inl (rw m.2.leaves (set c.rank m.1 apart)))
     by-event (Take origin queue target number outcome) h apart = (let made = step-take s t origin queue target number outcome h in inl (rw made.4.leaves (set origin made.2 apart)))
     by-event (Put origin queue target number outcome) h apart = (let made = step-put s t origin queue target number outcome h in inl (rw made.4.leaves (set origin made.2.posts apart)))
 

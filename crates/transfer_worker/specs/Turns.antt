@@ -1,13 +1,13 @@
 -- What a turn of a worker through all ranks of its world tells. (GASPI: one-sided communication)
 use Rattle.std.specs.Prelude.{◌≡◌, ℕ, ◌<◌, true, List, [], ◌∷◌, ◌++◌, length, Ok}
 use mathlib.Core.List.{IsPrefix}
-use Rattle.gaspi_types.specs.World.{World}
+use Rattle.gaspi_types.specs.World.{ShapeValue}
 use Rattle.gaspi_types.specs.declared.events.Event.{Event}
 use Rattle.gaspi_model.specs.Settled.{IsSettled}
 use Rattle.gaspi_model.specs.Step.{reached}
 use Rattle.gaspi_model.specs.declared.states.State.{State}
-use Rattle.commit_table.specs.declared.views.Known.{Known}
-use Rattle.gaspi_world.specs.Moves.{is_transfer_of, HasNoTransfer, HasActive, HaveEnded, IsBusyMove}
+use Rattle.commit_table.specs.declared.views.PassView.{PassView}
+use Rattle.gaspi_world.specs.Transfers.{is_transfer_of, HasNoEnabledTransfer, HasActive, HaveEnded, IsBusyMove}
 use Rattle.gaspi_world.specs.declared.moving.Moving.{Moving}
 use Rattle.gaspi_world.specs.declared.moving.Moving.TheVariants as moves
 use Rattle.transfer_worker.specs.declared.turns.Turn.{Turn}
@@ -22,7 +22,7 @@ with_try so_far moves.Empty = so_far
 with_try so_far moves.Ended = so_far
 
 -- what a pass knew it knows still, and of its party it has committed nothing
-pub record GoesOn {S E : Type 0} (v n : Known S E) : Type 0 where
+pub record IsExtended {S E : Type 0} (v n : PassView S E) : Type 0 where
   pub seen : IsPrefix v.seen n.seen
   pub commits : IsPrefix v.commits n.commits
   pub looks : IsPrefix v.looks n.looks
@@ -31,13 +31,13 @@ pub record GoesOn {S E : Type 0} (v n : Known S E) : Type 0 where
   pub party : n.party ≡ v.party
   pub start : n.start ≡ v.start
 
-module _ (w : World) where
+module _ (w : ShapeValue) where
   -- the history leads to a state in which nothing is left to do
   abbrev pub IsDrained : List Event → Type 0
   IsDrained history = (s : State) × (reached w history ≡ Ok s) × IsSettled s
 
   -- one transfer was committed, behind a history that goes on from what had been seen
-  pub record IsMoved {S : Type 0} (v n : Known S Event) : Type 0 where
+  pub record IsTransferMade {S : Type 0} (v n : PassView S Event) : Type 0 where
     pub origin : ℕ
     pub rank : origin < w.limits.ranks
     pub event : Event
@@ -49,46 +49,46 @@ module _ (w : World) where
 
   -- nothing was committed, and the try of one rank was busy: what was known before it goes on from what the turn began with, and what is
   -- known goes on from what was known after it
-  pub record IsMissed {S : Type 0} (v n : Known S Event) : Type 0 where
+  pub record HasMissed {S : Type 0} (v n : PassView S Event) : Type 0 where
     pub commits : n.commits ≡ v.commits
     pub origin : ℕ
     pub rank : origin < w.limits.ranks
-    pub before : Known S Event
-    pub after : Known S Event
-    pub since : GoesOn v before
+    pub before : PassView S Event
+    pub after : PassView S Event
+    pub since : IsExtended v before
     pub busy : IsBusyMove w origin before after
-    pub until : GoesOn after n
+    pub until : IsExtended after n
 
   -- a history that was seen in the turn, after which no transfer of a rank may come next
-  pub record IsStill {S : Type 0} (v n : Known S Event) (rank : ℕ) : Type 0 where
+  pub record HasNoTransferSeen {S : Type 0} (v n : PassView S Event) (rank : ℕ) : Type 0 where
     pub history : List Event
     pub since : IsPrefix v.seen history
     pub until : IsPrefix history n.seen
-    pub none : HasNoTransfer w history rank
+    pub none : HasNoEnabledTransfer w history rank
 
   -- and then a thread of it has not ended; or all have
-  abbrev pub IsActive : {S : Type 0} → Known S Event → Known S Event → ℕ → Type 0
-  IsActive v n rank = (still : IsStill v n rank) × HasActive w still.history rank
+  abbrev pub IsActive : {S : Type 0} → PassView S Event → PassView S Event → ℕ → Type 0
+  IsActive v n rank = (still : HasNoTransferSeen v n rank) × HasActive w still.history rank
 
-  abbrev pub IsEnded : {S : Type 0} → Known S Event → Known S Event → ℕ → Type 0
-  IsEnded v n rank = (still : IsStill v n rank) × HaveEnded w still.history rank
+  abbrev pub IsEnded : {S : Type 0} → PassView S Event → PassView S Event → ℕ → Type 0
+  IsEnded v n rank = (still : HasNoTransferSeen v n rank) × HaveEnded w still.history rank
 
   -- nothing was committed and nothing missed: each of these ranks was tried, with one look for each of so many tries
-  pub record AreTried {S : Type 0} (Is : ℕ → Type 0) (tries : ℕ) (v n : Known S Event) : Type 0 where
+  pub record AreRanksTried {S : Type 0} (Is : ℕ → Type 0) (tries : ℕ) (v n : PassView S Event) : Type 0 where
     pub commits : n.commits ≡ v.commits
     pub missed : n.missed ≡ v.missed
     pub looks : (these : List ℕ) × (n.looks ≡ v.looks ++ these) × (length these ≡ tries)
-    pub still : (rank : ℕ) → Is rank → IsStill v n rank
+    pub still : (rank : ℕ) → Is rank → HasNoTransferSeen v n rank
 
   -- each rank was tried, and a thread of one has not ended; or nothing is left to do
-  abbrev pub IsIdle : {S : Type 0} → Known S Event → Known S Event → Type 0
-  IsIdle v n = AreTried (λ rank. rank < w.limits.ranks) w.limits.ranks v n × ((rank : ℕ) × (rank < w.limits.ranks) × IsActive v n rank)
+  abbrev pub IsIdle : {S : Type 0} → PassView S Event → PassView S Event → Type 0
+  IsIdle v n = AreRanksTried (λ rank. rank < w.limits.ranks) w.limits.ranks v n × ((rank : ℕ) × (rank < w.limits.ranks) × IsActive v n rank)
 
-  abbrev pub AreDone : {S : Type 0} → Known S Event → Known S Event → Type 0
-  AreDone v n = AreTried (λ rank. rank < w.limits.ranks) w.limits.ranks v n × IsDrained n.seen
+  abbrev pub AreDone : {S : Type 0} → PassView S Event → PassView S Event → Type 0
+  AreDone v n = AreRanksTried (λ rank. rank < w.limits.ranks) w.limits.ranks v n × IsDrained n.seen
 
-  abbrev pub Turned : {S : Type 0} → Known S Event → Turn → Known S Event → Type 0
-  Turned v Moved n = IsMoved v n
-  Turned v Busy n = IsMissed v n
+  abbrev pub Turned : {S : Type 0} → PassView S Event → Turn → PassView S Event → Type 0
+  Turned v Moved n = IsTransferMade v n
+  Turned v Busy n = HasMissed v n
   Turned v Idle n = IsIdle v n
   Turned v Drained n = AreDone v n

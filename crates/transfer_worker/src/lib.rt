@@ -8,7 +8,7 @@
 
 mod laws;
 mod quiet;
-mod rounds;
+mod tries;
 mod turns;
 mod workers;
 

@@ -5,12 +5,12 @@ ghost use Rattle.commit_table.specs.Calls.{IsOf, HoldsNone};
 ghost use Rattle.gaspi_model.specs.Step.{is_legal};
 ghost use Rattle.gaspi_world.specs.Callers.{IsWorkers};
 ghost use Rattle.transfer_worker.specs.Order.{Drains, GoesPast, MakesTurn, Rests, first_rank, next_turn};
-ghost use Rattle.transfer_worker.specs.Turns.{GoesOn, Turned, IsDrained};
+ghost use Rattle.transfer_worker.specs.Turns.{IsExtended, Turned, IsDrained};
 
 use crate::quiet::QuietRanks;
-use crate::rounds::{Others, try_all, try_others};
+use crate::tries::{Others, try_others, try_ranks};
 use crate::turns::Turn;
-use commit_table::Pauses;
+use commit_table::BackOff;
 use gaspi_world::{Pass, World};
 use std::sync::Wait;
 
@@ -61,14 +61,14 @@ impl<'a> Worker<'a> {
         ensures table { self.new.pass.now.table ≡ self.old.pass.now.table }
         ensures free { HoldsNone self.new.pass.now.known }
         ensures turns { self.new.turns ≡ (self.old.turns + 1) % 2 ^ 64 }
-        ensures goes_on { GoesOn self.old.pass.now.known self.new.pass.now.known }
+        ensures goes_on { IsExtended self.old.pass.now.known self.new.pass.now.known }
         ensures legal { is_legal self.old.world.now.start.shape self.new.pass.now.known.seen ≡ true }
         ensures turned { Turned self.old.world.now.start.shape self.old.pass.now.known result self.new.pass.now.known }
         ensures order { MakesTurn self.old.world.now.start.shape (first_rank self.old.world.now.start.shape self.old.turns) self.old.pass.now.known result self.new.pass.now.known }
     {
         let first = self.first();
         self.count();
-        try_all(self.world, self.pass, first)
+        try_ranks(self.world, self.pass, first)
     }
 
     /// Makes a turn past those ranks that are known to be quiet. Where no rank was tried, it is not counted.
@@ -79,7 +79,7 @@ impl<'a> Worker<'a> {
         ensures same { (self.new.world.now ≡ self.old.world.now) × (self.new.pass.ghost_name ≡ self.old.pass.ghost_name) }
         ensures table { self.new.pass.now.table ≡ self.old.pass.now.table }
         ensures free { HoldsNone self.new.pass.now.known }
-        ensures goes_on { GoesOn self.old.pass.now.known self.new.pass.now.known }
+        ensures goes_on { IsExtended self.old.pass.now.known self.new.pass.now.known }
         ensures past { GoesPast self.old.world.now.start.shape self.old.turns quiet.old.counts self.old.pass.now.known result self.new.turns quiet.new.counts self.new.pass.now.known }
     {
         let first = self.first();
@@ -89,14 +89,14 @@ impl<'a> Worker<'a> {
     }
 
     /// Pauses where all ranks are quiet, and makes a turn where none has posted meanwhile: whether nothing is left to do.
-    fn rest<R: Wait>(&mut self, rt: &R, pauses: &mut Pauses, quiet: &QuietRanks<'_>) -> bool
+    fn rest<R: Wait>(&mut self, rt: &R, pauses: &mut BackOff, quiet: &QuietRanks<'_>) -> bool
         requires pass { IsOf self.old.world.now self.old.pass.now }
         requires free { HoldsNone self.old.pass.now.known }
         requires worker { IsWorkers self.old.world.now.start.shape self.old.pass.now.known }
         ensures same { (self.new.world.now ≡ self.old.world.now) × (self.new.pass.ghost_name ≡ self.old.pass.ghost_name) }
         ensures table { self.new.pass.now.table ≡ self.old.pass.now.table }
         ensures free { HoldsNone self.new.pass.now.known }
-        ensures goes_on { GoesOn self.old.pass.now.known self.new.pass.now.known }
+        ensures goes_on { IsExtended self.old.pass.now.known self.new.pass.now.known }
         ensures drained { result ≡ true → (is_legal self.old.world.now.start.shape self.new.pass.now.known.seen ≡ true) × IsDrained self.old.world.now.start.shape self.new.pass.now.known.seen }
         ensures rests { Rests self.old.world.now.start.shape self.old.turns self.old.pass.now.known result self.new.turns self.new.pass.now.known }
     {
@@ -119,12 +119,12 @@ impl<'a> Worker<'a> {
         ensures same { (self.new.world.now ≡ self.old.world.now) × (self.new.pass.ghost_name ≡ self.old.pass.ghost_name) }
         ensures table { self.new.pass.now.table ≡ self.old.pass.now.table }
         ensures free { HoldsNone self.new.pass.now.known }
-        ensures goes_on { GoesOn self.old.pass.now.known self.new.pass.now.known }
+        ensures goes_on { IsExtended self.old.pass.now.known self.new.pass.now.known }
         ensures legal { is_legal self.old.world.now.start.shape self.new.pass.now.known.seen ≡ true }
         ensures drained { IsDrained self.old.world.now.start.shape self.new.pass.now.known.seen }
         ensures turns { Drains self.old.world.now.start.shape self.old.turns self.old.pass.now.known self.new.turns self.new.pass.now.known }
     {
-        let mut pauses = Pauses::new();
+        let mut pauses = BackOff::new();
         let mut quiet = QuietRanks::none(self.world);
         for _ in rt.forever() {
             match self.go_past(&mut quiet) {

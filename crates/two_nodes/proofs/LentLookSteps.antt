@@ -17,13 +17,13 @@ use Rattle.gaspi_types.specs.declared.replies.Ready.TheVariants as ready
 use Rattle.gaspi_types.specs.declared.replies.Reply.{Reply}
 use Rattle.gaspi_types.specs.declared.shapes.CallerId.{CallerId}
 use Rattle.gaspi_types.specs.declared.shapes.Limits.{Limits}
-use Rattle.gaspi_types.specs.declared.touches.Touch.{Touch}
-use Rattle.gaspi_types.specs.Touches.{reach_of}
+use Rattle.gaspi_types.specs.declared.footprints.DeclaredFootprint.{DeclaredFootprint}
+use Rattle.gaspi_types.specs.Footprints.{footprint_of}
 use Rattle.gaspi_model.specs.CollectiveCalls.{joining_call, group_of, join_event, is_joining, segment_checks}
 use Rattle.gaspi_model.specs.Calls.{recorded_reply}
 use Rattle.gaspi_model.specs.Sound.{IsSound}
 use Rattle.gaspi_model.specs.State.{owed, thread_at, is_running}
-use Rattle.gaspi_model.specs.Step.{step, answer_in, is_full_in, is_pending_on, room_taken, is_pending, is_active}
+use Rattle.gaspi_model.specs.Step.{step, answer_in, lacks_room_in, is_pending_on, used_room, is_pending, is_active}
 use Rattle.gaspi_model.specs.declared.states.Posts.{Posts}
 use Rattle.gaspi_model.specs.declared.states.State.{State}
 use Rattle.gaspi_model.proofs.GroupEffects.{join-step}
@@ -60,14 +60,14 @@ answered-at s c call own peer group found lent is = subst (λ (r : ℕ). answer_
 
 -- Whether there is room is told by the own node.
 full-as : (s : State) (c : CallerId) (call : Call) (posts : Posts) → slice_get s.posts c.rank ≡ Some posts
-    → is_full_in s c call ≡ nat_lt s.limits.events (posts.events + owed posts + need_of call (is_pending_on c.thread posts (row_of call).group) (not (is_running (thread_at posts c.thread))))
+    → lacks_room_in s c call ≡ nat_lt s.limits.events (posts.events + owed posts + need_of call (is_pending_on c.thread posts (row_of call).group) (not (is_running (thread_at posts c.thread))))
 full-as s c call posts at = rw at refl
 
-pub full-told : (s : State) (c : CallerId) (call : Call) (own : Node) (peer : Option Node) (group : Option GroupNode) (room need : ℕ) → AreLentTo s c call own peer group
+pub full-answered : (s : State) (c : CallerId) (call : Call) (own : Node) (peer : Option Node) (group : Option GroupNode) (room need : ℕ) → AreLentTo s c call own peer group
     → room ≡ own.posts.limits.events - (own.posts.posts.events + owed own.posts.posts)
     → need ≡ need_of call (is_pending_on c.thread own.posts.posts (row_of call).group) (not (is_running (thread_at own.posts.posts c.thread)))
-    → (room < need → is_full_in s c call ≡ true) × (need ≤ room → is_full_in s c call ≡ false)
-full-told s c call own peer group room need lent room_is need_is =
+    → (room < need → lacks_room_in s c call ≡ true) × (need ≤ room → lacks_room_in s c call ≡ false)
+full-answered s c call own peer group room need lent room_is need_is =
     let posts = lent.lends.own_node.posts in
     let limits : own.posts.limits.events ≡ s.limits.events = ap (λ (l : Limits). l.events) posts.limits in
     let kept = (lent.sound.posts c.rank own.posts.posts posts.posts).room in
@@ -78,12 +78,12 @@ full-told s c call own peer group room need lent room_is need_is =
     )
 
 -- a call that has room
-has-room : (s : State) (c : CallerId) (call : Call) → is_full_in s c call ≡ false → room_taken s c.rank + need_of call (is_pending s c.rank c.thread call) (not (is_active s c.rank c.thread)) ≤ s.limits.events
+has-room : (s : State) (c : CallerId) (call : Call) → lacks_room_in s c call ≡ false → used_room s c.rank + need_of call (is_pending s c.rank c.thread call) (not (is_active s c.rank c.thread)) ≤ s.limits.events
 has-room s c call room = ltb-false s.limits.events _ room
 
 -- Nothing was recorded.
 module _ (s : State) (c : CallerId) (call : Call) (own : Node) (peer : Option Node) (group : Option GroupNode) (place : ℕ) where
-  pub looked-full : AreLentTo s c call own peer group → is_full_in s c call ≡ true → HaveLooked s c call (Err EventLimit) place place own own peer peer group
+  pub looked-full : AreLentTo s c call own peer group → lacks_room_in s c call ≡ true → HaveLooked s c call (Err EventLimit) place place own own peer peer group
   looked-full lent full = record {
     after = s;
     events = [];
@@ -94,7 +94,7 @@ module _ (s : State) (c : CallerId) (call : Call) (own : Node) (peer : Option No
     peer_journal = refl;
   }
 
-  pub looked-short : AreLentTo s c call own peer group → is_full_in s c call ≡ false → HaveLooked s c call (Err NoMemory) place place own own peer peer group
+  pub looked-short : AreLentTo s c call own peer group → lacks_room_in s c call ≡ false → HaveLooked s c call (Err NoMemory) place place own own peer peer group
   looked-short lent room = record {
     after = s;
     events = [];
@@ -105,7 +105,7 @@ module _ (s : State) (c : CallerId) (call : Call) (own : Node) (peer : Option No
     peer_journal = refl;
   }
 
-  pub looked-waiting : AreLentTo s c call own peer group → is_full_in s c call ≡ false → answer_in s c.rank c.thread call ≡ Some ready.NotReady → HaveLooked s c call (Ok None) place place own own peer peer group
+  pub looked-waiting : AreLentTo s c call own peer group → lacks_room_in s c call ≡ false → answer_in s c.rank c.thread call ≡ Some ready.NotReady → HaveLooked s c call (Ok None) place place own own peer peer group
   looked-waiting lent room waits = record {
     after = s;
     events = [];
@@ -117,7 +117,7 @@ module _ (s : State) (c : CallerId) (call : Call) (own : Node) (peer : Option No
   }
 
 -- A call that is answered is recorded.
-pub settles : (s : State) (c : CallerId) (call : Call) (own : Node) (peer : Option Node) (group : Option GroupNode) (reply : Reply) → AreLentTo s c call own peer group → is_full_in s c call ≡ false
+pub settles : (s : State) (c : CallerId) (call : Call) (own : Node) (peer : Option Node) (group : Option GroupNode) (reply : Reply) → AreLentTo s c call own peer group → lacks_room_in s c call ≡ false
     → answer_in s c.rank c.thread call ≡ Some (ready.Reply reply) → (t : State) × IsStepOn s t (Called c call reply) own peer group
 settles s c call own peer group reply lent room is =
     let ok : IsOk (step s (Called c call reply)) = recorded-is_step s c call (ready.Reply reply) lent.sound lent.declared (has-room s c call room) is refl in
@@ -127,7 +127,7 @@ settles s c call own peer group reply lent room is =
 placed-own : (rank place : ℕ) (e : Event) (rest : List PlacedEvent) (owner : ℕ) → owner ≡ rank → (if owner == rank then record { place = place; event = e } ∷ rest else rest) ≡ record { place = place; event = e } ∷ rest
 placed-own rank place e rest owner is = rw (eq-eqb owner rank is) refl
 
-pub looked-settled : (s t : State) (c : CallerId) (call : Call) (reply : Reply) (place next : ℕ) (own own' : Node) (peer peer' : Option Node) (group group' : Option GroupNode) → is_full_in s c call ≡ false
+pub looked-settled : (s t : State) (c : CallerId) (call : Call) (reply : Reply) (place next : ℕ) (own own' : Node) (peer peer' : Option Node) (group group' : Option GroupNode) → lacks_room_in s c call ≡ false
     → answer_in s c.rank c.thread call ≡ Some (ready.Reply reply) → IsStepOn s t (Called c call reply) own peer group → next ≡ place + 1 → IsLeft s t (Called c call reply) place own own' peer peer' group'
     → HaveLooked s c call (Ok (Some reply)) place next own own' peer peer' group'
 looked-settled s t c call reply place next own own' peer peer' group group' room is on next_is left = record {
@@ -150,7 +150,7 @@ joins s c call args own peer group is =
       m.0,
       record {
         sound = is.lent.sound;
-        lends = subst (λ (x : Touch). Lends s c.rank (reach_of s.limits.ranks c.rank x) own peer group) (sym touch) is.lent.lends;
+        lends = subst (λ (x : DeclaredFootprint). Lends s c.rank (footprint_of s.limits.ranks c.rank x) own peer group) (sym touch) is.lent.lends;
         is_step = m.1;
       },
     )
@@ -208,7 +208,7 @@ module _ (s m : State) (c : CallerId) (call : Call) (args : Args) (place : ℕ) 
   joined-limits = limits-stay s m (Joined c (group_of call) args) on.is_step
 
   joined-there : Lends m c.rank (call_footprint s.limits c.rank call) own' peer' group'
-  joined-there = subst (λ (x : Touch). Lends m c.rank (reach_of s.limits.ranks c.rank x) own' peer' group') (join-touches s c call args is.joins) left.lends
+  joined-there = subst (λ (x : DeclaredFootprint). Lends m c.rank (footprint_of s.limits.ranks c.rank x) own' peer' group') (join-touches s c call args is.joins) left.lends
 
   joined-lends : Lends m c.rank (call_footprint m.limits c.rank call) own' peer' group'
   joined-lends = subst (λ (l : Limits). Lends m c.rank (call_footprint l c.rank call) own' peer' group') (sym joined-limits) joined-there

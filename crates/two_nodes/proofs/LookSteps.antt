@@ -1,7 +1,7 @@
 -- What a look at a call leaves of a state.
 use Rattle.std.proofs.Common.{◌≡◌, ℕ, ◌+◌, inl, inr, false, List, [], ◌∷◌, length, Option, None, Some, Result, Ok, Err, IsOk, refl, sym, ap, ◌∙◌}
 use Rattle.gaspi_types.specs.CallRows.{row_of}
-use Rattle.gaspi_types.specs.Touches.{reach_of}
+use Rattle.gaspi_types.specs.Footprints.{footprint_of}
 use Rattle.gaspi_types.specs.declared.calls.Call.{Call}
 use Rattle.gaspi_types.specs.declared.collectives.Coll.{Coll}
 use Rattle.gaspi_types.specs.declared.collectives.Coll.TheVariants as colls
@@ -12,12 +12,12 @@ use Rattle.gaspi_types.specs.declared.replies.Ready.TheVariants.{Join}
 use Rattle.gaspi_types.specs.declared.replies.Reply.{Reply}
 use Rattle.gaspi_types.specs.declared.shapes.CallerId.{CallerId}
 use Rattle.gaspi_types.specs.declared.shapes.Limits.{Limits}
-use Rattle.gaspi_types.specs.declared.touches.Touch.{Touch}
+use Rattle.gaspi_types.specs.declared.footprints.DeclaredFootprint.{DeclaredFootprint}
 use Rattle.gaspi_types.proofs.Chains.{found_then}
 use Rattle.gaspi_model.specs.CollectiveCalls.{joining_call, group_of, join_event}
-use Rattle.gaspi_model.specs.Shards.{HaveSamePart, is_shard, reach_shards}
+use Rattle.gaspi_model.specs.Shards.{AgreeOnShard, is_shard, footprint_shards}
 use Rattle.gaspi_model.specs.Sound.{IsSound, events_left}
-use Rattle.gaspi_model.specs.Step.{step, after, missing, answer_in, join_touch}
+use Rattle.gaspi_model.specs.Step.{step, after, cause_without_owner, answer_in, join_footprint}
 use Rattle.gaspi_model.specs.declared.states.Shard.{Shard}
 use Rattle.gaspi_model.specs.declared.states.Shard.TheVariants as shards
 use Rattle.gaspi_model.specs.declared.states.State.{State}
@@ -41,13 +41,13 @@ joined-after : (s t : State) (c : CallerId) (call : Call) (joins : List Event) �
 joined-after s t c call joins (inl none) = rw none.0 (ap (λ (x : State). Ok x) (sym none.1))
 joined-after s t c call joins (inr one) = rw (one.1, one.3) refl
 
-told-after : (s t : State) (c : CallerId) (call : Call) (told : Option Reply) (calls : List Event) → IsTold s c call told calls t → after s calls ≡ Ok t
-told-after s t c call (Some reply) calls is = rw (is.0, is.2) refl
-told-after s t c call None calls is = rw is.0 (ap (λ (x : State). Ok x) (sym is.2))
+answered-after : (s t : State) (c : CallerId) (call : Call) (told : Option Reply) (calls : List Event) → IsTold s c call told calls t → after s calls ≡ Ok t
+answered-after s t c call (Some reply) calls is = rw (is.0, is.2) refl
+answered-after s t c call None calls is = rw is.0 (ap (λ (x : State). Ok x) (sym is.2))
 
 looked-after : (s t : State) (c : CallerId) (call : Call) (told : Option Reply) (events : List Event) → IsLooked s c call told events t → after s events ≡ Ok t
 looked-after s t c call told events is =
-    rw is.events_are (after-joined s is.between is.joins is.calls (joined-after s is.between c call is.joins is.joined) ∙ told-after is.between t c call told is.calls is.told_as)
+    rw is.events_are (after-joined s is.between is.joins is.calls (joined-after s is.between c call is.joins is.joined) ∙ answered-after is.between t c call told is.calls is.told_as)
 
 pub looks-after : (s t : State) (c : CallerId) (call : Call) (r : Result (Option Reply) CallStop) (events : List Event) → Looks s c call r events t → after s events ≡ Ok t
 looks-after s t c call (Ok told) events is = looked-after s t c call told events is
@@ -72,10 +72,10 @@ pub looks-counted : (s t : State) (c : CallerId) (call : Call) (r : Result (Opti
 looks-counted s t c call r events sound is = left-after s t events sound (looks-after s t c call r events is)
 
 -- A join touches what its call touches.
-joining-touch : (id : ℕ) (args : Args) → (row_of (joining_call id args)).touch ≡ join_touch id args.coll
-joining-touch id args = go args.coll
+joining-footprint : (id : ℕ) (args : Args) → (row_of (joining_call id args)).footprint ≡ join_footprint id args.coll
+joining-footprint id args = go args.coll
   where
-    go : (coll : Coll) → (row_of (joining_call id (record { coll = coll; values = args.values }))).touch ≡ join_touch id coll
+    go : (coll : Coll) → (row_of (joining_call id (record { coll = coll; values = args.values }))).footprint ≡ join_footprint id coll
     go colls.Barrier = refl
     go (colls.Allreduce op t n) = refl
     go (colls.Create seg size) = refl
@@ -90,53 +90,53 @@ join-named s c call args is =
 pub join-itself : (s : State) (c : CallerId) (call : Call) (args : Args) → answer_in s c.rank c.thread call ≡ Some (Join args) → joining_call (group_of call) args ≡ call
 join-itself s c call args is = joins-itself s c.rank c.thread (group_of call) call args (join-named s c call args is) is
 
-pub join-touches : (s : State) (c : CallerId) (call : Call) (args : Args) → answer_in s c.rank c.thread call ≡ Some (Join args) → join_touch (group_of call) args.coll ≡ (row_of call).touch
-join-touches s c call args is = sym (joining-touch (group_of call) args) ∙ ap (λ (x : Call). (row_of x).touch) (join-itself s c call args is)
+pub join-touches : (s : State) (c : CallerId) (call : Call) (args : Args) → answer_in s c.rank c.thread call ≡ Some (Join args) → join_footprint (group_of call) args.coll ≡ (row_of call).footprint
+join-touches s c call args is = sym (joining-footprint (group_of call) args) ∙ ap (λ (x : Call). (row_of x).footprint) (join-itself s c call args is)
 
 -- What a call does not reach stays as it was.
 called-frame : (s t : State) (c : CallerId) (call : Call) (reply : Reply) (shard : Shard) → step s (Called c call reply) ≡ Ok t
-    → is_shard (reach_shards c.rank (reach_of s.limits.ranks c.rank (row_of call).touch)) shard ≡ false → HaveSamePart t s shard
+    → is_shard (footprint_shards c.rank (footprint_of s.limits.ranks c.rank (row_of call).footprint)) shard ≡ false → AgreeOnShard t s shard
 called-frame s t c call reply shard h out =
-    found_then (slice_get s.posts c.rank) (missing (Called c call reply)) _ t h (λ posts at rest. frame s t (Called c call reply) shard h (rw at out))
+    found_then (slice_get s.posts c.rank) (cause_without_owner (Called c call reply)) _ t h (λ posts at rest. frame s t (Called c call reply) shard h (rw at out))
 
-joined-frame : (s t : State) (c : CallerId) (call : Call) (args : Args) (shard : Shard) → step s (join_event c call args) ≡ Ok t → join_touch (group_of call) args.coll ≡ (row_of call).touch
-    → is_shard (reach_shards c.rank (reach_of s.limits.ranks c.rank (row_of call).touch)) shard ≡ false → HaveSamePart t s shard
+joined-frame : (s t : State) (c : CallerId) (call : Call) (args : Args) (shard : Shard) → step s (join_event c call args) ≡ Ok t → join_footprint (group_of call) args.coll ≡ (row_of call).footprint
+    → is_shard (footprint_shards c.rank (footprint_of s.limits.ranks c.rank (row_of call).footprint)) shard ≡ false → AgreeOnShard t s shard
 joined-frame s t c call args shard h touch out =
-    let same : is_shard (reach_shards c.rank (reach_of s.limits.ranks c.rank (join_touch (group_of call) args.coll))) shard ≡ false =
-    ap (λ (x : Touch). is_shard (reach_shards c.rank (reach_of s.limits.ranks c.rank x)) shard) touch ∙ out in
-    found_then (slice_get s.posts c.rank) (missing (join_event c call args)) _ t h (λ posts at rest. frame s t (join_event c call args) shard h (rw at same))
+    let same : is_shard (footprint_shards c.rank (footprint_of s.limits.ranks c.rank (join_footprint (group_of call) args.coll))) shard ≡ false =
+    ap (λ (x : DeclaredFootprint). is_shard (footprint_shards c.rank (footprint_of s.limits.ranks c.rank x)) shard) touch ∙ out in
+    found_then (slice_get s.posts c.rank) (cause_without_owner (join_event c call args)) _ t h (λ posts at rest. frame s t (join_event c call args) shard h (rw at same))
 
-part-itself : (s t : State) (shard : Shard) → t ≡ s → HaveSamePart t s shard
+part-itself : (s t : State) (shard : Shard) → t ≡ s → AgreeOnShard t s shard
 part-itself s t (shards.Posts rank) is = ap (λ (x : State). slice_get x.posts rank) is
 part-itself s t (shards.Memory rank) is = ap (λ (x : State). slice_get x.memories rank) is
 part-itself s t (shards.Group id) is = ap (λ (x : State). slice_get x.groups id) is
 
-part-chain : (s t u : State) (shard : Shard) → HaveSamePart u t shard → HaveSamePart t s shard → HaveSamePart u s shard
+part-chain : (s t u : State) (shard : Shard) → AgreeOnShard u t shard → AgreeOnShard t s shard → AgreeOnShard u s shard
 part-chain s t u (shards.Posts rank) a b = a ∙ b
 part-chain s t u (shards.Memory rank) a b = a ∙ b
 part-chain s t u (shards.Group id) a b = a ∙ b
 
-told-frame : (s t : State) (c : CallerId) (call : Call) (told : Option Reply) (calls : List Event) (shard : Shard) → IsTold s c call told calls t
-    → is_shard (reach_shards c.rank (reach_of s.limits.ranks c.rank (row_of call).touch)) shard ≡ false → HaveSamePart t s shard
-told-frame s t c call (Some reply) calls shard is out = called-frame s t c call reply shard is.2 out
-told-frame s t c call None calls shard is out = part-itself s t shard is.2
+answered-frame : (s t : State) (c : CallerId) (call : Call) (told : Option Reply) (calls : List Event) (shard : Shard) → IsTold s c call told calls t
+    → is_shard (footprint_shards c.rank (footprint_of s.limits.ranks c.rank (row_of call).footprint)) shard ≡ false → AgreeOnShard t s shard
+answered-frame s t c call (Some reply) calls shard is out = called-frame s t c call reply shard is.2 out
+answered-frame s t c call None calls shard is out = part-itself s t shard is.2
 
 join-frame : (s t : State) (c : CallerId) (call : Call) (joins : List Event) (shard : Shard) → MayHaveJoined s c call joins t
-    → is_shard (reach_shards c.rank (reach_of s.limits.ranks c.rank (row_of call).touch)) shard ≡ false → HaveSamePart t s shard
+    → is_shard (footprint_shards c.rank (footprint_of s.limits.ranks c.rank (row_of call).footprint)) shard ≡ false → AgreeOnShard t s shard
 join-frame s t c call joins shard (inl none) out = part-itself s t shard none.1
 join-frame s t c call joins shard (inr one) out = joined-frame s t c call one.0 shard one.3 (join-touches s c call one.0 one.2) out
 
 looked-frame : (s t : State) (c : CallerId) (call : Call) (told : Option Reply) (events : List Event) (shard : Shard) → IsLooked s c call told events t
-    → is_shard (reach_shards c.rank (reach_of s.limits.ranks c.rank (row_of call).touch)) shard ≡ false → HaveSamePart t s shard
+    → is_shard (footprint_shards c.rank (footprint_of s.limits.ranks c.rank (row_of call).footprint)) shard ≡ false → AgreeOnShard t s shard
 looked-frame s t c call told events shard is out =
     let kept = after-limits s is.between is.joins (joined-after s is.between c call is.joins is.joined) in
     let ranks : is.between.limits.ranks ≡ s.limits.ranks = ap (λ (l : Limits). l.ranks) kept in
     part-chain s is.between t shard
-    (told-frame is.between t c call told is.calls shard is.told_as (ap (λ (n : ℕ). is_shard (reach_shards c.rank (reach_of n c.rank (row_of call).touch)) shard) ranks ∙ out))
+    (answered-frame is.between t c call told is.calls shard is.told_as (ap (λ (n : ℕ). is_shard (footprint_shards c.rank (footprint_of n c.rank (row_of call).footprint)) shard) ranks ∙ out))
     (join-frame s is.between c call is.joins shard is.joined out)
 
 pub looks-frame : (s t : State) (c : CallerId) (call : Call) (r : Result (Option Reply) CallStop) (events : List Event) (shard : Shard) → Looks s c call r events t
-    → is_shard (reach_shards c.rank (reach_of s.limits.ranks c.rank (row_of call).touch)) shard ≡ false → HaveSamePart t s shard
+    → is_shard (footprint_shards c.rank (footprint_of s.limits.ranks c.rank (row_of call).footprint)) shard ≡ false → AgreeOnShard t s shard
 looks-frame s t c call (Ok told) events shard is out = looked-frame s t c call told events shard is out
 looks-frame s t c call (Err EventLimit) events shard is out = part-itself s t shard is.2
 looks-frame s t c call (Err NoMemory) events shard is out = part-itself s t shard is.2

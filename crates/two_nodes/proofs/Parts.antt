@@ -2,7 +2,7 @@
 use Rattle.std.proofs.Common.{◌≡◌, ℕ, ◌+◌, ◌<◌, ◌==◌, ◌||◌, ◌⊎◌, inl, inr, Bool, true, false, nat_lt, nat_le, List, [], ◌∷◌, ◌++◌, length, append-nil, Option, None, Some, Result, Ok, Err, refl, sym, ap, ◌∙◌, subst, arith, if◌then◌else◌}
 use Rattle.std.proofs.lemmas.Bool.{eqb-true, eqb-false, ltb-true, leb-true}
 use Rattle.gaspi_types.specs.CallRows.{row_of}
-use Rattle.gaspi_types.specs.Touches.{reach_of}
+use Rattle.gaspi_types.specs.Footprints.{footprint_of}
 use Rattle.gaspi_types.specs.declared.call_rows.CallRow.{CallRow}
 use Rattle.gaspi_types.specs.declared.calls.Call.{Call}
 use Rattle.gaspi_types.specs.declared.events.Event.{Event}
@@ -11,12 +11,12 @@ use Rattle.gaspi_types.specs.declared.events.PlacedEvent.{PlacedEvent}
 use Rattle.gaspi_types.specs.declared.replies.Reply.{Reply}
 use Rattle.gaspi_types.specs.declared.shapes.CallerId.{CallerId}
 use Rattle.gaspi_types.specs.declared.shapes.Limits.{Limits}
-use Rattle.gaspi_types.specs.declared.touches.Reach.{Reach}
-use Rattle.gaspi_types.specs.declared.touches.Reach.TheVariants.{Alone, OwnMemory, PeerMemory, BothMemories, PeerPosts, Group, GroupAndMemory}
-use Rattle.gaspi_types.specs.declared.touches.Touch.{Touch}
-use Rattle.gaspi_types.specs.declared.touches.Touch.TheVariants as touches
+use Rattle.gaspi_types.specs.declared.footprints.Footprint.{Footprint}
+use Rattle.gaspi_types.specs.declared.footprints.Footprint.TheVariants.{Alone, OwnMemory, PeerMemory, BothMemories, PeerPosts, Group, GroupAndMemory}
+use Rattle.gaspi_types.specs.declared.footprints.DeclaredFootprint.{DeclaredFootprint}
+use Rattle.gaspi_types.specs.declared.footprints.DeclaredFootprint.TheVariants as touches
 use Rattle.gaspi_model.specs.CollectiveCalls.{join_event}
-use Rattle.gaspi_model.specs.Shards.{HaveSamePart, is_shard, reach_shards}
+use Rattle.gaspi_model.specs.Shards.{AgreeOnShard, is_shard, footprint_shards}
 use Rattle.gaspi_model.specs.Sound.{IsSound, events_left}
 use Rattle.gaspi_model.specs.Step.{is_declared}
 use Rattle.gaspi_model.specs.declared.states.Shard.{Shard}
@@ -40,7 +40,7 @@ differs a b apart = go (a == b) refl
     go true is = absurd (eqb-false b a apart (sym (eqb-true a b is)))
     go false is = is
 
-pub not-posts : (me other : ℕ) (r : Reach) → (other == me) ≡ false → footprint_peer r ≡ None → is_shard (reach_shards me r) (shards.Posts other) ≡ false
+pub not-posts : (me other : ℕ) (r : Footprint) → (other == me) ≡ false → footprint_peer r ≡ None → is_shard (footprint_shards me r) (shards.Posts other) ≡ false
 not-posts me other Alone apart none = rw (differs me other apart) refl
 not-posts me other OwnMemory apart none = rw (differs me other apart) refl
 not-posts me other (Group id) apart none = rw (differs me other apart) refl
@@ -49,7 +49,7 @@ not-posts me other (PeerMemory rank) apart none = absurd (let no : ⊥ = cc in n
 not-posts me other (BothMemories rank) apart none = absurd (let no : ⊥ = cc in no)
 not-posts me other (PeerPosts rank) apart none = absurd (let no : ⊥ = cc in no)
 
-pub not-memory : (me other : ℕ) (r : Reach) → (other == me) ≡ false → footprint_peer r ≡ None → is_shard (reach_shards me r) (shards.Memory other) ≡ false
+pub not-memory : (me other : ℕ) (r : Footprint) → (other == me) ≡ false → footprint_peer r ≡ None → is_shard (footprint_shards me r) (shards.Memory other) ≡ false
 not-memory me other Alone apart none = refl
 not-memory me other OwnMemory apart none = rw (differs me other apart) refl
 not-memory me other (Group id) apart none = refl
@@ -58,7 +58,7 @@ not-memory me other (PeerMemory rank) apart none = absurd (let no : ⊥ = cc in 
 not-memory me other (BothMemories rank) apart none = absurd (let no : ⊥ = cc in no)
 not-memory me other (PeerPosts rank) apart none = absurd (let no : ⊥ = cc in no)
 
-pub not-group : (me : ℕ) (r : Reach) → footprint_group r ≡ None → is_shard (reach_shards me r) (shards.Group 0) ≡ false
+pub not-group : (me : ℕ) (r : Footprint) → footprint_group r ≡ None → is_shard (footprint_shards me r) (shards.Group 0) ≡ false
 not-group me Alone none = refl
 not-group me OwnMemory none = refl
 not-group me (PeerMemory rank) none = refl
@@ -68,10 +68,10 @@ not-group me (Group id) none = absurd (let no : ⊥ = cc in no)
 not-group me (GroupAndMemory id) none = absurd (let no : ⊥ = cc in no)
 
 -- a peer is another rank of the world
-pub peer-there : (ranks me : ℕ) (touch : Touch) (rank : ℕ) → footprint_peer (reach_of ranks me touch) ≡ Some rank → ((rank == me) ≡ false) × (rank < ranks)
+pub peer-there : (ranks me : ℕ) (touch : DeclaredFootprint) (rank : ℕ) → footprint_peer (footprint_of ranks me touch) ≡ Some rank → ((rank == me) ≡ false) × (rank < ranks)
 peer-there ranks me touch rank = go touch
   where
-    at : (k : ℕ) (far : Reach) → footprint_peer far ≡ Some k → (a b : Bool) → (k == me) ≡ a → nat_lt k ranks ≡ b → (near : Reach) → footprint_peer near ≡ None
+    at : (k : ℕ) (far : Footprint) → footprint_peer far ≡ Some k → (a b : Bool) → (k == me) ≡ a → nat_lt k ranks ≡ b → (near : Footprint) → footprint_peer near ≡ None
         → footprint_peer (if a then near else (if b then far else Alone)) ≡ Some rank → ((rank == me) ≡ false) × (rank < ranks)
     at k far is true b same less near none h = absurd (let no : ⊥ = cc in no)
     at k far is false false same less near none h = absurd (let no : ⊥ = cc in no)
@@ -79,7 +79,7 @@ peer-there ranks me touch rank = go touch
         let one : k ≡ rank = cc in
         (subst (λ (n : ℕ). (n == me) ≡ false) one same, subst (λ (n : ℕ). n < ranks) one (ltb-true k ranks less))
 
-    go : (x : Touch) → footprint_peer (reach_of ranks me x) ≡ Some rank → ((rank == me) ≡ false) × (rank < ranks)
+    go : (x : DeclaredFootprint) → footprint_peer (footprint_of ranks me x) ≡ Some rank → ((rank == me) ≡ false) × (rank < ranks)
     go touches.Nothing h = absurd (let no : ⊥ = cc in no)
     go touches.OwnMemory h = absurd (let no : ⊥ = cc in no)
     go (touches.MemoryOf k) h = at k (PeerMemory k) refl (k == me) (nat_lt k ranks) refl refl OwnMemory refl h
@@ -87,30 +87,30 @@ peer-there ranks me touch rank = go touch
     go (touches.PostsOf k) h = at k (PeerPosts k) refl (k == me) (nat_lt k ranks) refl refl Alone refl h
     go (touches.GroupOf id) h = absurd (none (nat_lt id 8) (Group id) refl h)
       where
-        none : (b : Bool) (far : Reach) → footprint_peer far ≡ None → footprint_peer (if b then far else Alone) ≡ Some rank → ⊥
+        none : (b : Bool) (far : Footprint) → footprint_peer far ≡ None → footprint_peer (if b then far else Alone) ≡ Some rank → ⊥
         none true far is h = (let no : ⊥ = cc in no)
         none false far is h = (let no : ⊥ = cc in no)
     go (touches.GroupAndMemory id) h = absurd (none (nat_lt id 8) (GroupAndMemory id) refl h)
       where
-        none : (b : Bool) (far : Reach) → footprint_peer far ≡ None → footprint_peer (if b then far else Alone) ≡ Some rank → ⊥
+        none : (b : Bool) (far : Footprint) → footprint_peer far ≡ None → footprint_peer (if b then far else Alone) ≡ Some rank → ⊥
         none true far is h = (let no : ⊥ = cc in no)
         none false far is h = (let no : ⊥ = cc in no)
 
 -- a group that is reached is group 0
-pub group-there : (ranks me : ℕ) (touch : Touch) (id : ℕ) → reaches_group_0 touch ≡ true → footprint_group (reach_of ranks me touch) ≡ Some id → id ≡ 0
+pub group-there : (ranks me : ℕ) (touch : DeclaredFootprint) (id : ℕ) → reaches_group_0 touch ≡ true → footprint_group (footprint_of ranks me touch) ≡ Some id → id ≡ 0
 group-there ranks me touch id = go touch
   where
-    peers : (a b : Bool) (near far : Reach) → footprint_group near ≡ None → footprint_group far ≡ None → footprint_group (if a then near else (if b then far else Alone)) ≡ Some id → id ≡ 0
+    peers : (a b : Bool) (near far : Footprint) → footprint_group near ≡ None → footprint_group far ≡ None → footprint_group (if a then near else (if b then far else Alone)) ≡ Some id → id ≡ 0
     peers true b near far n f h = absurd (let no : ⊥ = cc in no)
     peers false true near far n f h = absurd (let no : ⊥ = cc in no)
     peers false false near far n f h = absurd (let no : ⊥ = cc in no)
 
-    at : (k : ℕ) (far : Reach) → footprint_group far ≡ Some k → (a b : Bool) → (k == 0) ≡ a → nat_lt k 8 ≡ b → (a || nat_le 8 k) ≡ true → footprint_group (if b then far else Alone) ≡ Some id → id ≡ 0
+    at : (k : ℕ) (far : Footprint) → footprint_group far ≡ Some k → (a b : Bool) → (k == 0) ≡ a → nat_lt k 8 ≡ b → (a || nat_le 8 k) ≡ true → footprint_group (if b then far else Alone) ≡ Some id → id ≡ 0
     at k far is a false zero less driven h = absurd (let no : ⊥ = cc in no)
     at k far is true true zero less driven h = (let one : k ≡ id = cc in sym one ∙ eqb-true k 0 zero)
     at k far is false true zero less driven h = absurd (let within = ltb-true k 8 less in let over = leb-true 8 k driven in let no : ⊥ = omega arith in no)
 
-    go : (x : Touch) → reaches_group_0 x ≡ true → footprint_group (reach_of ranks me x) ≡ Some id → id ≡ 0
+    go : (x : DeclaredFootprint) → reaches_group_0 x ≡ true → footprint_group (footprint_of ranks me x) ≡ Some id → id ≡ 0
     go touches.Nothing driven h = absurd (let no : ⊥ = cc in no)
     go touches.OwnMemory driven h = absurd (let no : ⊥ = cc in no)
     go (touches.MemoryOf k) driven h = peers (k == me) (nat_lt k ranks) OwnMemory (PeerMemory k) refl refl h
@@ -120,23 +120,23 @@ group-there ranks me touch id = go touch
     go (touches.GroupAndMemory k) driven h = at k (GroupAndMemory k) refl (k == 0) (nat_lt k 8) refl refl driven h
 
 -- Nodes stay those of the state after events that do not reach them.
-pub node-stays : (s t : State) (rank : ℕ) (n : Node) → t.limits ≡ s.limits → HaveSamePart t s (shards.Posts rank) → HaveSamePart t s (shards.Memory rank) → IsNodeOf s rank n → IsNodeOf t rank n
+pub node-stays : (s t : State) (rank : ℕ) (n : Node) → t.limits ≡ s.limits → AgreeOnShard t s (shards.Posts rank) → AgreeOnShard t s (shards.Memory rank) → IsNodeOf s rank n → IsNodeOf t rank n
 node-stays s t rank n limits posts memory is = record {
   posts = record { limits = is.posts.limits ∙ sym limits; me = is.posts.me; posts = posts ∙ is.posts.posts };
   memory = record { capacity = is.memory.capacity ∙ ap (λ (l : Limits). l.inbox) (sym limits); memory = memory ∙ is.memory.memory };
 }
 
-pub group-stays : (s t : State) (id : ℕ) (n : GroupNode) → HaveSamePart t s (shards.Group id) → IsGroupOf s id n → IsGroupOf t id n
+pub group-stays : (s t : State) (id : ℕ) (n : GroupNode) → AgreeOnShard t s (shards.Group id) → IsGroupOf s id n → IsGroupOf t id n
 group-stays s t id n same is = record { group = is.group; there = same ∙ is.there; stands = is.stands }
 
 -- A state comes of another by so many events of a rank that reach those parts.
-pub record ComesOf (s t : State) (me : ℕ) (footprint : Reach) (count : ℕ) : Type 0 where
+pub record ComesOf (s t : State) (me : ℕ) (footprint : Footprint) (count : ℕ) : Type 0 where
   pub sound : IsSound t
   pub limits : t.limits ≡ s.limits
   pub left : events_left t + count ≡ events_left s
-  pub frame : (shard : Shard) → is_shard (reach_shards me footprint) shard ≡ false → HaveSamePart t s shard
+  pub frame : (shard : Shard) → is_shard (footprint_shards me footprint) shard ≡ false → AgreeOnShard t s shard
 
-module _ (s t : State) (me other place next count : ℕ) (own peer : Node) (group : GroupNode) (footprint : Reach) (parts : ArePartsOf s me other own peer group place) (comes : ComesOf s t me footprint count) where
+module _ (s t : State) (me other place next count : ℕ) (own peer : Node) (group : GroupNode) (footprint : Footprint) (parts : ArePartsOf s me other own peer group place) (comes : ComesOf s t me footprint count) where
   pub parts-after : next ≡ place + count → (own' peer' : Node) (group' : GroupNode) → IsNodeOf t me own' → IsNodeOf t other peer' → IsGroupOf t 0 group' → ArePartsOf t me other own' peer' group' next
   parts-after next_is own' peer' group' own_node peer_node group_node =
       let counted = parts.counted in
@@ -152,7 +152,7 @@ module _ (s t : State) (me other place next count : ℕ) (own peer : Node) (grou
         counted = (omega arith);
       }
 
-module _ (s t : State) (me other place count : ℕ) (own peer : Node) (group : GroupNode) (footprint : Reach) (parts : ArePartsOf s me other own peer group place) (comes : ComesOf s t me footprint count) where
+module _ (s t : State) (me other place count : ℕ) (own peer : Node) (group : GroupNode) (footprint : Footprint) (parts : ArePartsOf s me other own peer group place) (comes : ComesOf s t me footprint count) where
   pub peer-stays : footprint_peer footprint ≡ None → IsNodeOf t other peer
   peer-stays none =
       node-stays s t other peer comes.limits (comes.frame (shards.Posts other) (not-posts me other footprint parts.apart none))
@@ -166,14 +166,14 @@ not-placed : (rank place : ℕ) (e : Event) (rest : List PlacedEvent) (owner : �
 not-placed rank place e rest owner apart = rw apart refl
 
 module _ (c : CallerId) (call : Call) (rank : ℕ) (apart : (c.rank == rank) ≡ false) where
-  told-placed : (s t : State) (told : Option Reply) (calls : List Event) (place : ℕ) → IsTold s c call told calls t → placed_of rank place calls ≡ []
-  told-placed s t (Some reply) calls place is = rw is.0 (not-placed rank place (Called c call reply) [] c.rank apart)
-  told-placed s t None calls place is = rw is.0 refl
+  answered-placed : (s t : State) (told : Option Reply) (calls : List Event) (place : ℕ) → IsTold s c call told calls t → placed_of rank place calls ≡ []
+  answered-placed s t (Some reply) calls place is = rw is.0 (not-placed rank place (Called c call reply) [] c.rank apart)
+  answered-placed s t None calls place is = rw is.0 refl
 
   joined-placed : (s t m : State) (told : Option Reply) (joins calls : List Event) (place : ℕ) → MayHaveJoined s c call joins m → IsTold m c call told calls t → placed_of rank place (joins ++ calls) ≡ []
-  joined-placed s t m told joins calls place (inl none) is = rw none.0 (told-placed m t told calls place is)
+  joined-placed s t m told joins calls place (inl none) is = rw none.0 (answered-placed m t told calls place is)
   joined-placed s t m told joins calls place (inr one) is =
-      rw one.1 (not-placed rank place (join_event c call one.0) (placed_of rank (place + 1) calls) c.rank apart ∙ told-placed m t told calls (place + 1) is)
+      rw one.1 (not-placed rank place (join_event c call one.0) (placed_of rank (place + 1) calls) c.rank apart ∙ answered-placed m t told calls (place + 1) is)
 
   pub looks-placed : (s t : State) (r : Result (Option Reply) CallStop) (events : List Event) (place : ℕ) → Looks s c call r events t → placed_of rank place events ≡ []
   looks-placed s t (Ok told) events place is = rw is.events_are (joined-placed s t is.between told is.joins is.calls place is.joined is.told_as)
@@ -182,7 +182,7 @@ module _ (c : CallerId) (call : Call) (rank : ℕ) (apart : (c.rank == rank) ≡
 
 -- A call of the first rank of two, by what it reaches.
 module _ (s : State) (c : CallerId) (call : Call) (other place : ℕ) (own peer : Node) (group : GroupNode) (parts : ArePartsOf s c.rank other own peer group place) (declared : is_declared s c.rank c.thread ≡ true) where
-  abbrev footprint : Reach
+  abbrev footprint : Footprint
   footprint = call_footprint s.limits c.rank call
 
   lent-to : (p : Option Node) (g : Option GroupNode) → IsPeer s c.rank (footprint_peer footprint) p → IsGroupAt s (footprint_group footprint) g → AreLentTo s c call own p g
@@ -194,7 +194,7 @@ module _ (s : State) (c : CallerId) (call : Call) (other place : ℕ) (own peer 
 
   peer-is : (rank : ℕ) → footprint_peer footprint ≡ Some rank → rank ≡ other
   peer-is rank is =
-      let there = peer-there s.limits.ranks c.rank (row_of call).touch rank is in
+      let there = peer-there s.limits.ranks c.rank (row_of call).footprint rank is in
       let two = parts.two in
       let below = there.1 in
       parts.others rank (omega arith) there.0
@@ -205,10 +205,10 @@ module _ (s : State) (c : CallerId) (call : Call) (other place : ℕ) (own peer 
       lent-to (Some peer) None (subst (λ (o : Option ℕ). IsPeer s c.rank o (Some peer)) (sym same) (record { apart = parts.apart; node = parts.peer_node }))
       (subst (λ (o : Option ℕ). IsGroupAt s o None) (sym no_group) tt)
 
-  group-is : (id : ℕ) → reaches_group_0 (row_of call).touch ≡ true → footprint_group footprint ≡ Some id → footprint_group footprint ≡ Some 0
-  group-is id driven is = is ∙ ap (λ (n : ℕ). Some n) (group-there s.limits.ranks c.rank (row_of call).touch id driven is)
+  group-is : (id : ℕ) → reaches_group_0 (row_of call).footprint ≡ true → footprint_group footprint ≡ Some id → footprint_group footprint ≡ Some 0
+  group-is id driven is = is ∙ ap (λ (n : ℕ). Some n) (group-there s.limits.ranks c.rank (row_of call).footprint id driven is)
 
-  pub lent-group : (id : ℕ) → reaches_group_0 (row_of call).touch ≡ true → footprint_peer footprint ≡ None → footprint_group footprint ≡ Some id → AreLentTo s c call own None (Some group)
+  pub lent-group : (id : ℕ) → reaches_group_0 (row_of call).footprint ≡ true → footprint_peer footprint ≡ None → footprint_group footprint ≡ Some id → AreLentTo s c call own None (Some group)
   lent-group id driven no_peer is =
       lent-to None (Some group) (subst (λ (o : Option ℕ). IsPeer s c.rank o None) (sym no_peer) tt)
       (subst (λ (o : Option ℕ). IsGroupAt s o (Some group)) (sym (group-is id driven is)) parts.group_node)
@@ -258,7 +258,7 @@ module _ (s : State) (c : CallerId) (call : Call) (other place : ℕ) (own peer 
         peer_journal = none-noted is.after r is.events peer' is.looks noted;
       }
 
-  pub called-on-group : (r : Result (Option Reply) CallStop) (next : ℕ) (own' : Node) (group' : GroupNode) (id : ℕ) → reaches_group_0 (row_of call).touch ≡ true → footprint_peer footprint ≡ None
+  pub called-on-group : (r : Result (Option Reply) CallStop) (next : ℕ) (own' : Node) (group' : GroupNode) (id : ℕ) → reaches_group_0 (row_of call).footprint ≡ true → footprint_peer footprint ≡ None
       → footprint_group footprint ≡ Some id → HaveLooked s c call r place next own own' None None (Some group') → HasCalled s c call r other place next own own' peer peer group'
   called-on-group r next own' group' id driven no_peer there is =
       let on = comes is.after r is.events is.looks in
@@ -274,22 +274,22 @@ module _ (s : State) (c : CallerId) (call : Call) (other place : ℕ) (own peer 
       }
 
 -- What a call reaches, as it is found from its row in a world of two ranks.
-pub reach-as : (s : State) (c : CallerId) (call : Call) (other place : ℕ) (own peer : Node) (group : GroupNode) → ArePartsOf s c.rank other own peer group place
-    → (row : CallRow) (found : Reach) → row ≡ row_of call → found ≡ reach_of 2 c.rank row.touch → call_footprint s.limits c.rank call ≡ found
-reach-as s c call other place own peer group parts row found rowed is =
-    ap (λ (n : ℕ). reach_of n c.rank (row_of call).touch) parts.two ∙ sym (is ∙ ap (λ (x : CallRow). reach_of 2 c.rank x.touch) rowed)
+pub footprint-as : (s : State) (c : CallerId) (call : Call) (other place : ℕ) (own peer : Node) (group : GroupNode) → ArePartsOf s c.rank other own peer group place
+    → (row : CallRow) (found : Footprint) → row ≡ row_of call → found ≡ footprint_of 2 c.rank row.footprint → call_footprint s.limits c.rank call ≡ found
+footprint-as s c call other place own peer group parts row found rowed is =
+    ap (λ (n : ℕ). footprint_of n c.rank (row_of call).footprint) parts.two ∙ sym (is ∙ ap (λ (x : CallRow). footprint_of 2 c.rank x.footprint) rowed)
 
-pub alone-reaches : (reach found : Reach) → reach ≡ found → (found ≡ Alone) ⊎ (found ≡ OwnMemory) → (footprint_peer reach ≡ None) × (footprint_group reach ≡ None)
+pub alone-reaches : (reach found : Footprint) → reach ≡ found → (found ≡ Alone) ⊎ (found ≡ OwnMemory) → (footprint_peer reach ≡ None) × (footprint_group reach ≡ None)
 alone-reaches reach found same (inl is) = (ap footprint_peer (same ∙ is), ap footprint_group (same ∙ is))
 alone-reaches reach found same (inr is) = (ap footprint_peer (same ∙ is), ap footprint_group (same ∙ is))
 
-pub between-reaches : (reach found : Reach) → reach ≡ found → ((rank : ℕ) × (found ≡ PeerMemory rank)) ⊎ (((rank : ℕ) × (found ≡ BothMemories rank)) ⊎ ((rank : ℕ) × (found ≡ PeerPosts rank)))
+pub between-reaches : (reach found : Footprint) → reach ≡ found → ((rank : ℕ) × (found ≡ PeerMemory rank)) ⊎ (((rank : ℕ) × (found ≡ BothMemories rank)) ⊎ ((rank : ℕ) × (found ≡ PeerPosts rank)))
     → (rank : ℕ) × (footprint_peer reach ≡ Some rank) × (footprint_group reach ≡ None)
 between-reaches reach found same (inl is) = (is.0, ap footprint_peer (same ∙ is.1), ap footprint_group (same ∙ is.1))
 between-reaches reach found same (inr (inl is)) = (is.0, ap footprint_peer (same ∙ is.1), ap footprint_group (same ∙ is.1))
 between-reaches reach found same (inr (inr is)) = (is.0, ap footprint_peer (same ∙ is.1), ap footprint_group (same ∙ is.1))
 
-pub group-reaches : (reach found : Reach) → reach ≡ found → ((id : ℕ) × (found ≡ Group id)) ⊎ ((id : ℕ) × (found ≡ GroupAndMemory id))
+pub group-reaches : (reach found : Footprint) → reach ≡ found → ((id : ℕ) × (found ≡ Group id)) ⊎ ((id : ℕ) × (found ≡ GroupAndMemory id))
     → (id : ℕ) × (footprint_peer reach ≡ None) × (footprint_group reach ≡ Some id)
 group-reaches reach found same (inl is) = (is.0, ap footprint_peer (same ∙ is.1), ap footprint_group (same ∙ is.1))
 group-reaches reach found same (inr is) = (is.0, ap footprint_peer (same ∙ is.1), ap footprint_group (same ∙ is.1))

@@ -2,7 +2,7 @@
 use Rattle.std.proofs.Common.{◌≡◌, ℕ, ◌+◌, ◌==◌, Bool, true, false, nat_lt, List, [], ◌∷◌, ◌++◌, append-nil, Option, None, Some, Ok, IsOk, refl, sym, ap, ◌∙◌, subst, if◌then◌else◌}
 use Rattle.std.specs.List.{slice_get}
 use Rattle.std.proofs.lemmas.Bool.{eq-eqb}
-use Rattle.gaspi_types.specs.Touches.{reach_of, take_touch, put_touch}
+use Rattle.gaspi_types.specs.Footprints.{footprint_of, take_footprint, put_footprint}
 use Rattle.gaspi_types.specs.declared.entries.Entry.{Entry}
 use Rattle.gaspi_types.specs.declared.entries.Kind.{Kind}
 use Rattle.gaspi_types.specs.declared.entries.Kind.TheVariants as kinds
@@ -11,12 +11,12 @@ use Rattle.gaspi_types.specs.declared.events.Outcome.{Outcome}
 use Rattle.gaspi_types.specs.declared.events.Outcome.TheVariants.{Applied}
 use Rattle.gaspi_types.specs.declared.events.PlacedEvent.{PlacedEvent}
 use Rattle.gaspi_types.specs.declared.events.Transfer.{Transfer}
-use Rattle.gaspi_types.specs.declared.touches.Reach.{Reach}
-use Rattle.gaspi_types.specs.declared.touches.Reach.TheVariants.{Alone, OwnMemory, PeerMemory}
-use Rattle.gaspi_types.specs.declared.touches.Touch.{Touch}
-use Rattle.gaspi_model.specs.Shards.{HaveSamePart, is_shard, reach_shards}
+use Rattle.gaspi_types.specs.declared.footprints.Footprint.{Footprint}
+use Rattle.gaspi_types.specs.declared.footprints.Footprint.TheVariants.{Alone, OwnMemory, PeerMemory}
+use Rattle.gaspi_types.specs.declared.footprints.DeclaredFootprint.{DeclaredFootprint}
+use Rattle.gaspi_model.specs.Shards.{AgreeOnShard, is_shard, footprint_shards}
 use Rattle.gaspi_model.specs.Sound.{IsSound}
-use Rattle.gaspi_model.specs.Step.{step, owner_of, event_reach, transfer_event, transfer_outcome}
+use Rattle.gaspi_model.specs.Step.{step, owner_of, event_footprint, transfer_event, transfer_outcome}
 use Rattle.gaspi_model.specs.Transfers.{take_outcome, put_outcome}
 use Rattle.gaspi_model.specs.declared.states.Posts.{Posts}
 use Rattle.gaspi_model.specs.declared.states.Shard.{Shard}
@@ -41,7 +41,7 @@ FrontsAreSteps = (s : State) (p : PostsValue) (t : Transfer) → IsSound s → I
 
 abbrev pub FrontFootprints : Type 0
 FrontFootprints = (s : State) (p : PostsValue) (t : Transfer) (e : Entry) (outcome : Outcome) → IsSound s → IsPostsOf s p.me p → IsFront p t → front_entry p t ≡ Some e
-    → event_reach s.limits p.posts (event_of t outcome) ≡ transfer_footprint s.limits.ranks t e.kind
+    → event_footprint s.limits p.posts (event_of t outcome) ≡ transfer_footprint s.limits.ranks t e.kind
 
 -- the event of a transfer, by what it is
 abbrev put_event : State → Transfer → Event
@@ -67,14 +67,14 @@ put-on : FrontsAreSteps → (s : State) (t : Transfer) (own : Node) (peer : Opti
     → (after : State) × (step s (transfer_event s t) ≡ Ok after) × IsStepOn s after (put_event s t) own peer group
 put-on law s t own peer group front puts is =
     let after = front-step law s t own peer group front is in
-    let lent : Lends s t.origin (event_reach s.limits own.posts.posts (put_event s t)) own peer group = rw puts at is.lends in
+    let lent : Lends s t.origin (event_footprint s.limits own.posts.posts (put_event s t)) own peer group = rw puts at is.lends in
     (after.0, after.1, record { sound = is.sound; lends = lent; is_step = subst (λ (e : Event). step s e ≡ Ok after.0) (is-put s t puts) after.1 })
 
 take-on : FrontsAreSteps → (s : State) (t : Transfer) (own : Node) (peer : Option Node) (group : Option GroupNode) → IsFront own.posts t → t.put ≡ false → AreLentToMove s t own peer group
     → (after : State) × (step s (transfer_event s t) ≡ Ok after) × IsStepOn s after (take_event s t) own peer group
 take-on law s t own peer group front takes is =
     let after = front-step law s t own peer group front is in
-    let lent : Lends s t.origin (event_reach s.limits own.posts.posts (take_event s t)) own peer group = rw takes at is.lends in
+    let lent : Lends s t.origin (event_footprint s.limits own.posts.posts (take_event s t)) own peer group = rw takes at is.lends in
     (after.0, after.1, record { sound = is.sound; lends = lent; is_step = subst (λ (e : Event). step s e ≡ Ok after.0) (is-take s t takes) after.1 })
 
 pub may-put : FrontsAreSteps → (t : Transfer) (own : Node) (peer : Option Node) (group : Option GroupNode) → IsFront own.posts t → t.put ≡ true → IsFirstCarried own.posts t → MayMove t own peer group
@@ -96,8 +96,8 @@ left-as s after t e place next own own' peer peer' group' same owner h next_is l
   after = after;
   is_step = h;
   next_is = next_is;
-  lends = subst (λ (x : Event). Lends after t.origin (event_reach s.limits own.posts.posts x) own' peer' group') (sym same)
-      (subst (λ (r : ℕ). Lends after r (event_reach s.limits own.posts.posts e) own' peer' group') owner left.lends);
+  lends = subst (λ (x : Event). Lends after t.origin (event_footprint s.limits own.posts.posts x) own' peer' group') (sym same)
+      (subst (λ (r : ℕ). Lends after r (event_footprint s.limits own.posts.posts e) own' peer' group') owner left.lends);
   journal = left.journal ∙ ap (λ (x : Event). (let one : PlacedEvent = record { place = place; event = x } in own.posts.journal ++ one ∷ [])) (sym same);
   peer_journal = left.peer_journal;
 }
@@ -131,12 +131,12 @@ event-owner t o = go t.put refl
     go true puts = rw puts refl
     go false takes = rw takes refl
 
-event-frame : (s after : State) (e : Event) (posts : Posts) (origin : ℕ) (r : Reach) (shard : Shard) → owner_of e ≡ origin → slice_get s.posts origin ≡ Some posts → event_reach s.limits posts e ≡ r
-    → step s e ≡ Ok after → is_shard (reach_shards origin r) shard ≡ false → HaveSamePart after s shard
+event-frame : (s after : State) (e : Event) (posts : Posts) (origin : ℕ) (r : Footprint) (shard : Shard) → owner_of e ≡ origin → slice_get s.posts origin ≡ Some posts → event_footprint s.limits posts e ≡ r
+    → step s e ≡ Ok after → is_shard (footprint_shards origin r) shard ≡ false → AgreeOnShard after s shard
 event-frame s after e posts origin r shard owner there reach h out =
     let at : slice_get s.posts (owner_of e) ≡ Some posts = ap (λ (n : ℕ). slice_get s.posts n) owner ∙ there in
-    let same : is_shard (reach_shards (owner_of e) (event_reach s.limits posts e)) shard ≡ false =
-    ap (λ (n : ℕ). is_shard (reach_shards n (event_reach s.limits posts e)) shard) owner ∙ ap (λ (x : Reach). is_shard (reach_shards origin x) shard) reach ∙ out in
+    let same : is_shard (footprint_shards (owner_of e) (event_footprint s.limits posts e)) shard ≡ false =
+    ap (λ (n : ℕ). is_shard (footprint_shards n (event_footprint s.limits posts e)) shard) owner ∙ ap (λ (x : Footprint). is_shard (footprint_shards origin x) shard) reach ∙ out in
     frame s after e shard h (rw at same)
 
 -- A transfer reaches no group.
@@ -151,13 +151,13 @@ reaches-none ranks me k = go (k == me) (nat_lt k ranks)
 pub transfer-ungrouped : (ranks : ℕ) (t : Transfer) (kind : Kind) → footprint_group (transfer_footprint ranks t kind) ≡ None
 transfer-ungrouped ranks t kind = go t.put refl kind
   where
-    puts : (k : Kind) → footprint_group (reach_of ranks t.origin (put_touch t.target k)) ≡ None
+    puts : (k : Kind) → footprint_group (footprint_of ranks t.origin (put_footprint t.target k)) ≡ None
     puts (kinds.Write own target) = reaches-none ranks t.origin t.target
     puts (kinds.Read own target) = refl
     puts (kinds.Notify target value) = reaches-none ranks t.origin t.target
     puts (kinds.ReadNote own) = refl
 
-    takes : (k : Kind) → footprint_group (reach_of ranks t.origin (take_touch t.target k)) ≡ None
+    takes : (k : Kind) → footprint_group (footprint_of ranks t.origin (take_footprint t.target k)) ≡ None
     takes (kinds.Write own target) = refl
     takes (kinds.Read own target) = reaches-none ranks t.origin t.target
     takes (kinds.Notify target value) = refl
@@ -168,12 +168,12 @@ transfer-ungrouped ranks t kind = go t.put refl kind
     go false is k = rw is (takes k)
 
 -- The transfer of the first rank of two.
-module _ (law : FrontFootprints) (s : State) (me other place : ℕ) (own peer : Node) (group : GroupNode) (t : Transfer) (r : Reach) (parts : ArePartsOf s me other own peer group place) (front : IsFront own.posts t)
+module _ (law : FrontFootprints) (s : State) (me other place : ℕ) (own peer : Node) (group : GroupNode) (t : Transfer) (r : Footprint) (parts : ArePartsOf s me other own peer group place) (front : IsFront own.posts t)
     (reach : (e : Entry) → front_entry own.posts t ≡ Some e → r ≡ transfer_footprint 2 t e.kind) where
   origin-is : t.origin ≡ me
   origin-is = front.mine ∙ parts.own_node.posts.me
 
-  footprint-is : (o : Outcome) → event_reach s.limits own.posts.posts (event_of t o) ≡ r
+  footprint-is : (o : Outcome) → event_footprint s.limits own.posts.posts (event_of t o) ≡ r
   footprint-is o =
       let there : IsPostsOf s own.posts.me own.posts = subst (λ (n : ℕ). IsPostsOf s n own.posts) (sym parts.own_node.posts.me) parts.own_node.posts in
       law s own.posts t front.entry o parts.sound there front front.next ∙ ap (λ (n : ℕ). transfer_footprint n t front.entry.kind) parts.two ∙ sym (reach front.entry front.next)
@@ -188,7 +188,7 @@ module _ (law : FrontFootprints) (s : State) (me other place : ℕ) (own peer : 
   lent-to-move p is_peer =
       let here = footprint-is Applied in record {
         sound = parts.sound;
-        lends = subst (λ (x : Reach). Lends s t.origin x own p None) (sym here) (record {
+        lends = subst (λ (x : Footprint). Lends s t.origin x own p None) (sym here) (record {
           own_node = subst (λ (n : ℕ). IsNodeOf s n own) (sym origin-is) parts.own_node;
           peer_node = is_peer;
           group_node = subst (λ (o : Option ℕ). IsGroupAt s o None) (sym ungrouped) tt;
@@ -200,7 +200,7 @@ module _ (law : FrontFootprints) (s : State) (me other place : ℕ) (own peer : 
 
   peer-of : (rank : ℕ) → footprint_peer r ≡ Some rank → footprint_peer r ≡ Some other
   peer-of rank is =
-      let touch : Touch = if t.put then put_touch t.target front.entry.kind else take_touch t.target front.entry.kind in
+      let touch : DeclaredFootprint = if t.put then put_footprint t.target front.entry.kind else take_footprint t.target front.entry.kind in
       let there = peer-there 2 t.origin touch rank (sym (ap footprint_peer (reach front.entry front.next)) ∙ is) in
       is ∙ ap (λ (n : ℕ). Some n) (parts.others rank there.1 (ap (λ (n : ℕ). rank == n) (sym origin-is) ∙ there.0))
 
@@ -232,11 +232,11 @@ module _ (law : FrontFootprints) (s : State) (me other place : ℕ) (own peer : 
   not-noted peer' same = same ∙ sym (append-nil peer.posts.journal) ∙ ap (λ (x : List PlacedEvent). peer.posts.journal ++ x) (sym other-placed)
 
   module _ (after : State) (h : step s (transfer_event s t) ≡ Ok after) where
-    after-here : (own' : Node) (p : Option Node) → Lends after t.origin (event_reach s.limits own.posts.posts (transfer_event s t)) own' p None → Lends after me r own' p None
+    after-here : (own' : Node) (p : Option Node) → Lends after t.origin (event_footprint s.limits own.posts.posts (transfer_event s t)) own' p None → Lends after me r own' p None
     after-here own' p lends =
         let event = event-as s t in
         subst (λ (n : ℕ). Lends after n r own' p None) origin-is
-        (subst (λ (x : Reach). Lends after t.origin x own' p None) (footprint-is event.0) (subst (λ (e : Event). Lends after t.origin (event_reach s.limits own.posts.posts e) own' p None) event.1 lends))
+        (subst (λ (x : Footprint). Lends after t.origin x own' p None) (footprint-is event.0) (subst (λ (e : Event). Lends after t.origin (event_footprint s.limits own.posts.posts e) own' p None) event.1 lends))
 
   pub transferred-alone : (next : ℕ) (own' : Node) → footprint_peer r ≡ None → HaveMoved s t place next own own' None None None → IsTransferred s me other place next own own' peer peer group
   transferred-alone next own' none is =

@@ -7,7 +7,7 @@ use Rattle.std.proofs.lemmas.Option.{slice_get_within}
 use Rattle.gaspi_types.specs.declared.calls.Call.{Call}
 use Rattle.gaspi_types.specs.declared.replies.Reply.{Reply}
 use Rattle.gaspi_types.specs.declared.shapes.CallerId.{CallerId}
-use Rattle.gaspi_types.specs.World.{World, IsWorld, is_caller}
+use Rattle.gaspi_types.specs.World.{ShapeValue, IsShape, is_caller}
 use Rattle.gaspi_model.specs.State.{opening, opening_group, thread_at}
 use Rattle.gaspi_model.specs.Sound.{events_left}
 use Rattle.gaspi_model.specs.Step.{is_declared, is_there, transfer_event}
@@ -137,13 +137,13 @@ second-transferred s true rank old new one kept is = record {
 second-transferred s false rank old new one kept is = (subst (λ (n : ℕ). HasNoTransfer s n) (sym one) is.none, same-nodes old new is.peer_kept is.own_kept kept is.next_kept)
 
 -- The nodes at the start.
-opening-left : (w : World) → w.limits.ranks ≡ 2 → events_left (opening w) ≡ 2 * w.limits.events
+opening-left : (w : ShapeValue) → w.limits.ranks ≡ 2 → events_left (opening w) ≡ 2 * w.limits.events
 opening-left w two = rw two (omega arith)
 
 abbrev GroupsAtStart : Type 0
-GroupsAtStart = (w : World) (id : ℕ) (n : GroupNode) → id < 8 → IsGroupNode (opening_group w.limits.ranks id) n → IsGroupOf (opening w) id n
+GroupsAtStart = (w : ShapeValue) (id : ℕ) (n : GroupNode) → id < 8 → IsGroupNode (opening_group w.limits.ranks id) n → IsGroupOf (opening w) id n
 
-pub at-start : GroupsAtStart → (w : World) (first second : Node) (group : GroupNode) (one two id ranks : ℕ) → IsWorld w → w.limits.ranks ≡ 2 → one ≡ 0 → two ≡ 1 → id ≡ 0 → ranks ≡ w.limits.ranks
+pub at-start : GroupsAtStart → (w : ShapeValue) (first second : Node) (group : GroupNode) (one two id ranks : ℕ) → IsShape w → w.limits.ranks ≡ 2 → one ≡ 0 → two ≡ 1 → id ≡ 0 → ranks ≡ w.limits.ranks
     → IsOpeningNode w one first → IsOpeningNode w two second → IsGroupNode (opening_group ranks id) group → IsAtStart w (record { first = first; second = second; group = group; places = 0 })
 at-start groups w first second group one two id ranks world both zero first_rank group_id same a b g =
     let left = opening-left w both in
@@ -167,10 +167,10 @@ at-start groups w first second group one two id ranks world both zero first_rank
     }
 
 -- Thread 0 of each rank.
-two-threads : (w : World) → has_two_callers w ≡ true → (list_any (is_caller 0 0) w.callers ≡ true) × (list_any (is_caller 1 0) w.callers ≡ true)
+two-threads : (w : ShapeValue) → has_two_callers w ≡ true → (list_any (is_caller 0 0) w.callers ≡ true) × (list_any (is_caller 1 0) w.callers ≡ true)
 two-threads w is = (let rest = (both (w.limits.ranks == 2) _ is).1 in both (list_any (is_caller 0 0) w.callers) (list_any (is_caller 1 0) w.callers) rest)
 
-pub callers-at-start : (w : World) (d : TwoNodes) → IsAtStart w d → has_two_callers w ≡ true → HasTwoCallers d
+pub callers-at-start : (w : ShapeValue) (d : TwoNodes) → IsAtStart w d → has_two_callers w ≡ true → HasTwoCallers d
 callers-at-start w d start is = (let two = two-threads w is in record { state = opening w; world = start.world; first = start.callers 0 0 two.0; second = start.callers 1 0 two.1 })
 
 -- whether a thread has a section is told by its rank's node

@@ -7,7 +7,7 @@ use Rattle.gaspi_types.specs.declared.shapes.CallerId.{CallerId}
 use Rattle.gaspi_model.specs.Sound.{IsSound}
 use Rattle.gaspi_types.specs.declared.groups.Args.{Args}
 use Rattle.gaspi_types.specs.declared.replies.Ready.TheVariants.{Join}
-use Rattle.gaspi_model.specs.Step.{answer_in, is_declared, is_full_in}
+use Rattle.gaspi_model.specs.Step.{answer_in, is_declared, lacks_room_in}
 use Rattle.gaspi_model.specs.declared.states.State.{State}
 use Rattle.rank_node.specs.Lending.{Lends, call_footprint, journal_at}
 use Rattle.rank_node.specs.declared.nodes.GroupNode.{GroupNode}
@@ -37,7 +37,7 @@ pub record HaveLooked (s : State) (c : CallerId) (call : Call) (result : Result 
 -- A look has found that a collective has room and may join with these arguments.
 pub record IsJoiner (s : State) (c : CallerId) (call : Call) (args : Args) (own : Node) (peer : Option Node) (group : Option GroupNode) : Type 0 where
   pub lent : AreLentTo s c call own peer group
-  pub room : is_full_in s c call ≡ false
+  pub room : lacks_room_in s c call ≡ false
   pub joins : answer_in s c.rank c.thread call ≡ Some (Join args)
 
 abbrev pub MayJoin : CallerId → Call → Args → Node → Option Node → Option GroupNode → Type 0

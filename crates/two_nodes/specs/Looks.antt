@@ -9,7 +9,7 @@ use Rattle.gaspi_types.specs.declared.replies.Ready.TheVariants as ready
 use Rattle.gaspi_types.specs.declared.replies.Reply.{Reply}
 use Rattle.gaspi_types.specs.declared.shapes.CallerId.{CallerId}
 use Rattle.gaspi_model.specs.CollectiveCalls.{join_event}
-use Rattle.gaspi_model.specs.Step.{step, answer_in, is_declared, is_full_in, owner_of}
+use Rattle.gaspi_model.specs.Step.{step, answer_in, is_declared, lacks_room_in, owner_of}
 use Rattle.gaspi_model.specs.declared.states.State.{State}
 use Rattle.two_nodes.specs.declared.stops.CallStop.{CallStop}
 use Rattle.two_nodes.specs.declared.stops.CallStop.TheVariants.{NoMemory, EventLimit}
@@ -27,7 +27,7 @@ IsTold s c call None calls t = (calls ≡ []) × (answer_in s c.rank c.thread ca
 
 -- A call had room; it joined, where a look found that it may; then it was told.
 pub record IsLooked (s : State) (c : CallerId) (call : Call) (told : Option Reply) (events : List Event) (t : State) : Type 0 where
-  pub room : is_full_in s c call ≡ false
+  pub room : lacks_room_in s c call ≡ false
   pub joins : List Event
   pub calls : List Event
   pub events_are : events ≡ joins ++ calls
@@ -38,8 +38,8 @@ pub record IsLooked (s : State) (c : CallerId) (call : Call) (told : Option Repl
 -- what one look at a call does in a state: these events, by which another comes of it
 abbrev pub Looks : State → CallerId → Call → Result (Option Reply) CallStop → List Event → State → Type 0
 Looks s c call (Ok told) events t = IsLooked s c call told events t
-Looks s c call (Err EventLimit) events t = (is_full_in s c call ≡ true) × (events ≡ []) × (t ≡ s)
-Looks s c call (Err NoMemory) events t = (is_full_in s c call ≡ false) × (events ≡ []) × (t ≡ s)
+Looks s c call (Err EventLimit) events t = (lacks_room_in s c call ≡ true) × (events ≡ []) × (t ≡ s)
+Looks s c call (Err NoMemory) events t = (lacks_room_in s c call ≡ false) × (events ≡ []) × (t ≡ s)
 
 -- the events that a rank owns, of some that come one after another from a place on
 abbrev pub placed_of : ℕ → ℕ → List Event → List PlacedEvent

@@ -2,7 +2,7 @@
 use Rattle.std.specs.Prelude.{◌≡◌, ℕ, ◌+◌, Bool, true, false, [], ◌∷◌, ◌++◌, Option, Some, Ok, slice_get}
 use Rattle.gaspi_types.specs.declared.events.Transfer.{Transfer}
 use Rattle.gaspi_model.specs.Sound.{IsSound}
-use Rattle.gaspi_model.specs.Step.{step, event_reach, transfer_event}
+use Rattle.gaspi_model.specs.Step.{step, event_footprint, transfer_event}
 use Rattle.gaspi_model.specs.Transfers.{transfers}
 use Rattle.gaspi_model.specs.declared.states.State.{State}
 use Rattle.rank_node.specs.Lending.{Lends, journal_at}
@@ -25,7 +25,7 @@ MayMove t own peer group = (s : State) × AreLentToMove s t own peer group
 pub record HaveMoved (s : State) (t : Transfer) (place next : ℕ) (old own : Node) (old_peer peer : Option Node) (group : Option GroupNode) : Type 0 where
   pub after : State
   pub is_step : step s (transfer_event s t) ≡ Ok after
-  pub lends : Lends after t.origin (event_reach s.limits old.posts.posts (transfer_event s t)) own peer group
+  pub lends : Lends after t.origin (event_footprint s.limits old.posts.posts (transfer_event s t)) own peer group
   pub next_is : next ≡ place + 1
   pub journal : own.posts.journal ≡ old.posts.journal ++ record { place = place; event = transfer_event s t } ∷ []
   pub peer_journal : journal_at peer ≡ journal_at old_peer

@@ -6,9 +6,9 @@ use Rattle.gaspi_types.specs.declared.calls.Call.{Call}
 use Rattle.gaspi_types.specs.declared.events.Event.{Event}
 use Rattle.gaspi_types.specs.declared.replies.Reply.{Reply}
 use Rattle.gaspi_types.specs.declared.shapes.CallerId.{CallerId}
-use Rattle.gaspi_types.specs.declared.touches.Touch.{Touch}
-use Rattle.gaspi_types.specs.declared.touches.Touch.TheVariants.{GroupOf, GroupAndMemory}
-use Rattle.gaspi_types.specs.World.{World, is_caller}
+use Rattle.gaspi_types.specs.declared.footprints.DeclaredFootprint.{DeclaredFootprint}
+use Rattle.gaspi_types.specs.declared.footprints.DeclaredFootprint.TheVariants.{GroupOf, GroupAndMemory}
+use Rattle.gaspi_types.specs.World.{ShapeValue, is_caller}
 use Rattle.gaspi_model.specs.State.{opening}
 use Rattle.gaspi_model.specs.Sound.{IsSound, events_left}
 use Rattle.gaspi_model.specs.Step.{is_declared}
@@ -36,13 +36,13 @@ abbrev pub IsWorldOf : State → TwoNodes → Type 0
 IsWorldOf s d = ArePartsOf s 0 1 d.first d.second d.group d.places
 
 -- of the groups no other than group 0 is reached
-abbrev pub reaches_group_0 : Touch → Bool
+abbrev pub reaches_group_0 : DeclaredFootprint → Bool
 reaches_group_0 (GroupOf id) = (id == 0) || nat_le 8 id
 reaches_group_0 (GroupAndMemory id) = (id == 0) || nat_le 8 id
 reaches_group_0 touch = true
 
 abbrev pub is_driven : Call → Bool
-is_driven call = reaches_group_0 (row_of call).touch
+is_driven call = reaches_group_0 (row_of call).footprint
 
 -- One look was made at a call of the first rank of two, by their nodes.
 pub record HasCalled (s : State) (c : CallerId) (call : Call) (result : Result (Option Reply) CallStop) (other place next : ℕ) (old own old_peer peer : Node) (group : GroupNode) : Type 0 where
@@ -70,7 +70,7 @@ pub record HasLookedAt (s : State) (c : CallerId) (call : Call) (result : Result
   pub callers : KeepsCallers s after
 
 -- The nodes at the start, with nothing recorded: those of the opening state of a world.
-pub record IsAtStart (w : World) (d : TwoNodes) : Type 0 where
+pub record IsAtStart (w : ShapeValue) (d : TwoNodes) : Type 0 where
   pub world : IsWorldOf (opening w) d
   pub places : d.places ≡ 0
   pub first : d.first.posts.journal ≡ []
@@ -85,5 +85,5 @@ pub record HasTwoCallers (d : TwoNodes) : Type 0 where
   pub second : is_declared state 1 0 ≡ true
 
 -- a world of two ranks declares thread 0 of each
-abbrev pub has_two_callers : World → Bool
+abbrev pub has_two_callers : ShapeValue → Bool
 has_two_callers w = (w.limits.ranks == 2) && (list_any (is_caller 0 0) w.callers && list_any (is_caller 1 0) w.callers)

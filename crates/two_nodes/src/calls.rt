@@ -7,7 +7,7 @@ ghost use Rattle.two_nodes.specs.Worlds.{ArePartsOf, HasCalled, is_driven};
 
 use crate::clients::{look_alone, look_between, look_on_group};
 use crate::stops::CallStop;
-use gaspi_types::{Invocation, Reach, Reply};
+use gaspi_types::{Footprint, Invocation, Reply};
 use rank_node::{GroupNode, Node};
 use std::alloc::Global;
 
@@ -25,12 +25,12 @@ pub(crate) fn call_of(
     ensures { (s : State) (other : ℕ) → ArePartsOf s invocation.now.caller.rank other own.old peer.old group.old places.old → is_declared s invocation.now.caller.rank invocation.now.caller.thread ≡ true
         → HasCalled s invocation.now.caller invocation.now.call.now result other places.old places.new own.old own.new peer.old peer.new group.new }
 {
-    match invocation.row.touch.reach(2, invocation.caller.rank) {
-        Reach::Alone | Reach::OwnMemory => look_alone(own, alloc, places, invocation),
-        Reach::PeerMemory(_) | Reach::BothMemories(_) | Reach::PeerPosts(_) => {
+    match invocation.row.footprint.reach(2, invocation.caller.rank) {
+        Footprint::Alone | Footprint::OwnMemory => look_alone(own, alloc, places, invocation),
+        Footprint::PeerMemory(_) | Footprint::BothMemories(_) | Footprint::PeerPosts(_) => {
             look_between(own, peer, alloc, places, invocation)
         }
-        Reach::Group(_) | Reach::GroupAndMemory(_) => {
+        Footprint::Group(_) | Footprint::GroupAndMemory(_) => {
             look_on_group(own, group, alloc, places, invocation)
         }
     }

@@ -11,7 +11,7 @@ ghost use Rattle.two_nodes.specs.Transfers.{HasNoTransfer, HasTransferred};
 ghost use Rattle.two_nodes.specs.Worlds.{ArePartsOf};
 
 use crate::clients::{transfer_alone, transfer_between};
-use gaspi_types::{QueueId, RankId, Reach, Transfer};
+use gaspi_types::{Footprint, QueueId, RankId, Transfer};
 use rank_node::{GroupNode, Node, front_footprints, movable_lanes_have_fronts};
 
 /// The front of the first movable lane of a rank. None where no lane is movable.
@@ -31,7 +31,7 @@ fn first_front(own: &Node) -> Option<Transfer>
 }
 
 /// What a transfer reaches that is the front of its lane, in a world of two ranks.
-fn front_reach(own: &Node, transfer: &Transfer) -> Reach
+fn front_reach(own: &Node, transfer: &Transfer) -> Footprint
     requires { IsFront own.now.posts transfer.now }
     ensures { IfSome (front_entry own.now.posts transfer.now) (λ (e : Entry). result ≡ transfer_footprint 2 transfer.now e.kind) }
 {
@@ -60,11 +60,11 @@ pub(crate) fn transfer_of(
     front_footprints();
     let reach = front_reach(own, &transfer);
     match reach {
-        Reach::PeerMemory(_) | Reach::BothMemories(_) | Reach::PeerPosts(_) => {
+        Footprint::PeerMemory(_) | Footprint::BothMemories(_) | Footprint::PeerPosts(_) => {
             transfer_between(own, peer, places, transfer);
         }
-        Reach::Alone | Reach::OwnMemory => transfer_alone(own, places, transfer),
-        Reach::Group(_) | Reach::GroupAndMemory(_) => unreachable!(),
+        Footprint::Alone | Footprint::OwnMemory => transfer_alone(own, places, transfer),
+        Footprint::Group(_) | Footprint::GroupAndMemory(_) => unreachable!(),
     }
     true
 }

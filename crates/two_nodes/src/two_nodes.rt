@@ -12,7 +12,8 @@ use crate::calls::call_of;
 use crate::stops::CallStop;
 use crate::transfers::transfer_of;
 use gaspi_types::{
-    Buffer, Call, CallerId, GroupId, Invocation, NoMemory, PlacedEvent, RankId, Reply, Shape, Touch,
+    Buffer, Call, CallerId, DeclaredFootprint, GroupId, Invocation, NoMemory, PlacedEvent, RankId,
+    Reply, Shape,
 };
 use rank_node::{GroupNode, Node, group_nodes_at_start};
 use std::alloc::Global;
@@ -49,8 +50,9 @@ pub fn has_two_callers(shape: &Shape) -> bool
 pub fn is_driven(call: &Call) -> bool
     ensures { result ≡ is_driven call.now }
 {
-    match call.row().touch {
-        Touch::GroupOf(id) | Touch::GroupAndMemory(id) => id == 0 || id >= 8,
+    match call.row().footprint {
+        DeclaredFootprint::GroupOf(id) | DeclaredFootprint::GroupAndMemory(id) => id == 0
+            || id >= 8,
         _ => true,
     }
 }

@@ -1,5 +1,5 @@
 use gaspi_types::{ByteRange, Kind, NoMemory, NoteSlot};
-use post_queue::{Draft, Entries, payload_size};
+use post_queue::{Draft, Entries, carried_size};
 use std::alloc::Global;
 use std::test::Fail;
 
@@ -31,7 +31,7 @@ fn notify() -> Kind {
 
 /// Whether a kind carries that many bytes.
 fn carries(kind: &Kind, size: u32) -> bool {
-    payload_size(kind) == size
+    carried_size(kind) == size
 }
 
 /// Whether a draft has its kind, before and after it is taken apart, and room for that many bytes.

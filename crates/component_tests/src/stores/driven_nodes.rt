@@ -7,7 +7,7 @@ use call_journal::{Verdict, check};
 use call_texts::read_call;
 use gaspi_texts::read_reply;
 use gaspi_types::{
-    Call, CallerId, Event, NoMemory, Outcome, PlacedEvent, QueueId, RankId, Reply, Rows, Shape,
+    Call, CallerId, Event, NoMemory, Outcome, PlacedEvent, QueueId, RankId, Reply, Sequence, Shape,
     ThreadId,
 };
 use rank_node::{Lent, Node};
@@ -154,7 +154,7 @@ fn count_told(alloc: Global, nodes: &mut TwoNodes) -> Result<u32, NoMemory>
 /// Adds the event with a place, where a rank has it.
 fn add_at(
     alloc: Global,
-    journal: &mut Rows<Event>,
+    journal: &mut Sequence<Event>,
     events: &[PlacedEvent],
     place: u64,
 ) -> Result<(), NoMemory> {
@@ -172,8 +172,8 @@ fn merged(
     first: &[PlacedEvent],
     second: &[PlacedEvent],
     count: u64,
-) -> Result<Rows<Event>, NoMemory> {
-    let mut journal = Rows::new(alloc);
+) -> Result<Sequence<Event>, NoMemory> {
+    let mut journal = Sequence::new(alloc);
     for place in 0..count {
         add_at(alloc, &mut journal, first, place)?;
         add_at(alloc, &mut journal, second, place)?;

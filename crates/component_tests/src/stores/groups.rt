@@ -21,7 +21,7 @@ fn is_made(groups: &mut Groups, id: u32) -> bool {
 
 /// How many groups were made, as the table of handles has it.
 fn made(groups: &Groups) -> u32 {
-    groups.handles().made
+    groups.handles().last_id
 }
 
 /// What one more group than there may be is answered.

@@ -1,6 +1,6 @@
 use gaspi_types::{
     ByteRange, Call, CallerId, Extent, Extents, Item, Kind, NoMemory, NoteSlot, Notify, RankId,
-    Read, ReadList, ReadListNotify, ReadNotify, Rows, SegmentTable, Shape, ThreadId, Write,
+    Read, ReadList, ReadListNotify, ReadNotify, SegmentTable, Sequence, Shape, ThreadId, Write,
     WriteList, WriteListNotify, WriteNotify,
 };
 use post_queue::{Entries, build};
@@ -9,13 +9,13 @@ use std::test::Fail;
 
 /// Segments of a rank, by their numbers.
 fn extents(alloc: Global, extents: &[Option<Extent>]) -> Result<Extents, NoMemory> {
-    Rows::copied_from(alloc, extents)
+    Sequence::copied_from(alloc, extents)
 }
 
 /// What is known of the segments of two ranks.
-fn known_of(alloc: Global, first: Extents, second: Extents) -> Result<Rows<Extents>, NoMemory> {
+fn known_of(alloc: Global, first: Extents, second: Extents) -> Result<Sequence<Extents>, NoMemory> {
     let ranks = vec![in alloc; first, second]?;
-    Ok(Rows::from_vec(ranks))
+    Ok(Sequence::from_vec(ranks))
 }
 
 /// A segment in a generation and a size.
@@ -31,7 +31,7 @@ fn table(alloc: Global) -> Result<SegmentTable, NoMemory> {
     let own = extents(alloc, &[extent(2, 16)])?;
     Ok(SegmentTable {
         own,
-        next_generations: Rows::new(alloc),
+        next_generations: Sequence::new(alloc),
         known,
     })
 }
@@ -162,7 +162,7 @@ fn read_notify_call() -> Call {
 }
 
 /// The items of a list, which are two of these ranges.
-fn items(alloc: Global) -> Result<Rows<Item>, NoMemory> {
+fn items(alloc: Global) -> Result<Sequence<Item>, NoMemory> {
     let item = Item {
         seg: 0,
         offset: 8,
@@ -170,7 +170,7 @@ fn items(alloc: Global) -> Result<Rows<Item>, NoMemory> {
         roffset: 16,
         size: 4,
     };
-    Rows::copied_from(alloc, &[item, item])
+    Sequence::copied_from(alloc, &[item, item])
 }
 
 /// A list of writes.

@@ -1,4 +1,4 @@
-use gaspi_types::{Message, NoMemory, RankId, Refusal, Rows};
+use gaspi_types::{Message, NoMemory, RankId, Refusal, Sequence};
 use segment_store::Inbox;
 use std::alloc::Global;
 use std::test::Fail;
@@ -23,7 +23,7 @@ fn put(
     sender: RankId,
     bytes: &[u8],
 ) -> Result<Option<Message>, NoMemory> {
-    let bytes = Rows::copied_from(alloc, bytes)?;
+    let bytes = Sequence::copied_from(alloc, bytes)?;
     if bytes.is_empty() || bytes.len() > 4_096 {
         return Ok(Some(Message { sender, bytes }));
     }

@@ -1,5 +1,5 @@
 use gaspi_types::{
-    Args, Coll, GroupId, NoMemory, NumType, Numbers, Op, Refusal, Resume, Rows, ThreadId,
+    Args, Coll, GroupId, NoMemory, NumType, Numbers, Op, Refusal, Resume, Sequence, ThreadId,
 };
 use std::alloc::Global;
 use std::test::Fail;
@@ -7,7 +7,7 @@ use timeout_state::Pending;
 
 /// A sum of one number.
 fn sum_of(alloc: Global, number: i32) -> Result<Args, NoMemory> {
-    let items = Rows::copied_from(alloc, &[i128::from(number)])?;
+    let items = Sequence::copied_from(alloc, &[i128::from(number)])?;
     Ok(Args {
         coll: Coll::Allreduce(Op::Sum, NumType::Int, 1),
         values: Numbers::new(NumType::Int, items),

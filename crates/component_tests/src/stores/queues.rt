@@ -1,5 +1,5 @@
 use gaspi_types::{ByteRange, Kind, NoMemory, NoteSlot, Phase, QueueId, RankId, Refusal};
-use post_queue::{Entries, Lanes, payload_size};
+use post_queue::{Entries, Lanes, carried_size};
 use std::alloc::Global;
 use std::test::Fail;
 
@@ -51,7 +51,7 @@ fn carry(lanes: &mut Lanes, queue: u64, target: RankId, bytes: &[u8]) -> bool {
     let Some(entry) = lanes.front_posted(queue, target) else {
         return false;
     };
-    if payload_size(entry.kind()) as usize != bytes.len() {
+    if carried_size(entry.kind()) as usize != bytes.len() {
         return false;
     }
     lanes.mark_carried(queue, target, bytes);

@@ -1,4 +1,4 @@
-use gaspi_types::{NoMemory, RankId, Rows};
+use gaspi_types::{NoMemory, RankId, Sequence};
 use segment_store::Segments;
 use std::alloc::Global;
 use std::test::Fail;
@@ -20,7 +20,7 @@ fn makes_in(
     seg: u64,
     size: usize,
 ) -> Result<bool, NoMemory> {
-    let ones = Rows::from_vec(vec![in alloc; 1; size]?);
+    let ones = Sequence::from_vec(vec![in alloc; 1; size]?);
     Ok(segments.has_next_generation(seg) && segments.alloc_in(seg, ones).is_ok())
 }
 

@@ -3,7 +3,7 @@
 ghost use Rattle.std.specs.Prelude.{◌≡◌, IfOk, IsErrOf, IsOk};
 
 use gaspi_io::{Failed, MemSink, MemSource, ReadStop, SureSink, SureSource, read_all, write_all};
-use gaspi_types::{Bytes, NoMemory, Rows};
+use gaspi_types::{Bytes, NoMemory, Sequence};
 use std::alloc::Global;
 use std::test::Fail;
 
@@ -26,7 +26,7 @@ fn read(alloc: Global, piece: usize, failing: u64, most: u64) -> Result<Reading,
     if piece > 0 {
         source.set_piece(piece);
     }
-    source.set_failing(Rows::copied_from(alloc, &[failing])?);
+    source.set_failing(Sequence::copied_from(alloc, &[failing])?);
     let read = read_all(alloc, &mut source, most);
     let faults = source.faults();
     Ok(match read {
@@ -46,11 +46,11 @@ fn read(alloc: Global, piece: usize, failing: u64, most: u64) -> Result<Reading,
 /// How many bytes of the text are written by pieces of a size, where the call with a number fails, and how many faults there
 /// were. Nothing else is written.
 fn written(alloc: Global, piece: usize, failing: u64) -> Result<(usize, u64), NoMemory> {
-    let mut sink = MemSink::with_room(alloc, 5)?;
+    let mut sink = MemSink::with_capacity(alloc, 5)?;
     if piece > 0 {
         sink.set_piece(piece);
     }
-    sink.set_failing(Rows::copied_from(alloc, &[failing])?);
+    sink.set_failing(Sequence::copied_from(alloc, &[failing])?);
     let failed = write_all(&mut sink, TEXT).is_err();
     let faults = sink.faults();
     let bytes = sink.into_bytes();
@@ -99,7 +99,7 @@ fn each_call_fails_in_turn(rt: HostRuntime) -> Result<(), Fail> {
 /// What stops the reading of so many zeros, where so many bytes may come.
 fn stop_of(alloc: Global, length: usize, most: u64) -> Result<Option<ReadStop>, NoMemory> {
     let zeros = vec![in alloc; 0; length]?;
-    let mut source = MemSource::new(Rows::from_vec(zeros));
+    let mut source = MemSource::new(Sequence::from_vec(zeros));
     Ok(read_all(alloc, &mut source, most).err())
 }
 
@@ -137,7 +137,7 @@ fn sure_text(alloc: Global) -> Result<Bytes, Fail> {
 
 /// What such a sink holds, after two pieces.
 fn sure_pieces(alloc: Global, first: &[u8], second: &[u8]) -> Result<Bytes, Fail> {
-    let mut sink = SureSink::with_room(alloc, 8)?;
+    let mut sink = SureSink::with_capacity(alloc, 8)?;
     write_surely(&mut sink, first)?;
     write_surely(&mut sink, second)?;
     Ok(sink.into_bytes())

@@ -14,7 +14,7 @@ use Rattle.gaspi_model.specs.declared.states.Posts.{Posts}
 use Rattle.gaspi_model.specs.declared.states.State.{State}
 use Rattle.gaspi_model.specs.declared.states.ThreadState.{ThreadState}
 use Rattle.gaspi_model.specs.declared.states.ThreadState.TheVariants.{Absent, Running, Ended}
-use Rattle.gaspi_model.specs.Transfers.{Worked}
+use Rattle.gaspi_model.specs.Transfers.{PostsAndMemory}
 use Rattle.gaspi_model.specs.declared.states.Memory.{Memory}
 use Rattle.gaspi_model.proofs.Made.{step-called}
 use Rattle.gaspi_model.proofs.Same.{same_reply-same}
@@ -37,7 +37,7 @@ ended s t c h =
       posts = posts;
       posts_there = m.posts_there;
       running = is-running posts c.thread (runs posts made.1 (same_reply-same _ _ m.is.answered));
-      after = m.leaves ∙ ap (λ (w : Worked). record s { posts = slice_set s.posts c.rank w.posts }) m.is.leaves;
+      after = m.leaves ∙ ap (λ (w : PostsAndMemory). record s { posts = slice_set s.posts c.rank w.posts }) m.is.leaves;
     }
   where
     runs : (posts : Posts) (memory : Memory) → replies.Done ≡ recorded_reply (answer s.limits c.rank posts memory c.thread calls.End) → is_running (thread_at posts c.thread) ≡ true

@@ -17,13 +17,13 @@ use Rattle.gaspi_types.specs.declared.events.Event.TheVariants.{Called}
 use Rattle.gaspi_types.specs.declared.groups.Handle.{Handle}
 use Rattle.gaspi_types.specs.declared.replies.Reply.TheVariants as replies
 use Rattle.gaspi_types.specs.declared.shapes.CallerId.{CallerId}
-use Rattle.gaspi_model.specs.Changes.{IsGroupMade, IsGroupAdded, IsGroupDropped}
+use Rattle.gaspi_model.specs.Changes.{IsGroupMade, IsGroupAdded, IsGroupDeleted}
 use Rattle.gaspi_model.specs.Posting.{counted}
 use Rattle.gaspi_model.specs.Sound.{IsSound}
 use Rattle.gaspi_model.specs.Step.{step}
 use Rattle.gaspi_model.specs.declared.states.State.{State}
 use Rattle.gaspi_model.proofs.GroupFinds.{create-found, add-found, drop-found}
-use Rattle.gaspi_model.proofs.Changed.QueueCalls.{posts-worked}
+use Rattle.gaspi_model.proofs.Changed.QueueCalls.{posts-on_memory}
 use Rattle.gaspi_model.proofs.Sound.GroupTables.{entry-set_same}
 
 none-member : (rank : ℕ) → is_member 0 rank ≡ false
@@ -55,12 +55,12 @@ same-id a b h = cc
 
 pub group-made : (s t : State) (c : CallerId) (id : ℕ) → IsSound s → step s (Called c calls.GroupCreate (replies.Id id)) ≡ Ok t → IsGroupMade s t c.rank id
 group-made s t c id sound h =
-    let made = posts-worked s t c calls.GroupCreate (replies.Id id) refl refl refl (λ posts brought memory. refl) sound h in
+    let made = posts-on_memory s t c calls.GroupCreate (replies.Id id) refl refl refl (λ posts brought memory. refl) sound h in
     let m = made.2 in
     let posts = made.0 in
     let found = create-found posts (replies.Id id) m.finds in
-    let next = same-id id (posts.groups.made + 1) found.answers in
-    let less = ltb-true posts.groups.made 7 found.room in
+    let next = same-id id (posts.groups.last_id + 1) found.answers in
+    let less = ltb-true posts.groups.last_id 7 found.room in
     let groups = (sound.posts c.rank posts m.posts_there).groups in
     let within = groups.table in
     record {
@@ -71,7 +71,7 @@ group-made s t c id sound h =
       next = next;
       few = omega arith;
       free = groups.unmade id (omega arith);
-      there = ap (λ (k : ℕ). handle_at (with_group posts.groups) k) next ∙ entry-set_same posts.groups.table (posts.groups.made + 1) (Some new_handle) (omega arith);
+      there = ap (λ (k : ℕ). handle_at (with_group posts.groups) k) next ∙ entry-set_same posts.groups.table (posts.groups.last_id + 1) (Some new_handle) (omega arith);
       building = refl;
       empty = none-member;
       made = sym next;
@@ -81,7 +81,7 @@ group-made s t c id sound h =
 
 pub group-added : (s t : State) (c : CallerId) (call : group_add.GroupAdd) → IsSound s → step s (Called c (calls.GroupAdd call) replies.Done) ≡ Ok t → IsGroupAdded s t c.rank call.group call.rank
 group-added s t c call sound h =
-    let made = posts-worked s t c (calls.GroupAdd call) replies.Done refl refl refl (λ posts brought memory. refl) sound h in
+    let made = posts-on_memory s t c (calls.GroupAdd call) replies.Done refl refl refl (λ posts brought memory. refl) sound h in
     let m = made.2 in
     let posts = made.0 in
     let found = add-found s.limits posts call replies.Done m.finds in
@@ -102,9 +102,9 @@ group-added s t c call sound h =
       }) found.there;
     }
 
-pub group-dropped : (s t : State) (c : CallerId) (call : group_delete.GroupDelete) → IsSound s → step s (Called c (calls.GroupDelete call) replies.Done) ≡ Ok t → IsGroupDropped s t c.rank call.group
+pub group-dropped : (s t : State) (c : CallerId) (call : group_delete.GroupDelete) → IsSound s → step s (Called c (calls.GroupDelete call) replies.Done) ≡ Ok t → IsGroupDeleted s t c.rank call.group
 group-dropped s t c call sound h =
-    let made = posts-worked s t c (calls.GroupDelete call) replies.Done refl refl refl (λ posts brought memory. refl) sound h in
+    let made = posts-on_memory s t c (calls.GroupDelete call) replies.Done refl refl refl (λ posts brought memory. refl) sound h in
     let m = made.2 in
     let posts = made.0 in
     let found = drop-found posts call replies.Done m.finds in

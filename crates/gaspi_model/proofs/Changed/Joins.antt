@@ -2,23 +2,23 @@
 use Rattle.std.proofs.Common.{◌≡◌, ℕ, ◌+◌, false, List, [], ◌∷◌, ◌++◌, length, replicate, None, Some, Ok, refl, ap, ◌∙◌, subst, arith}
 use Rattle.std.specs.List.{slice_get, slice_set}
 use Rattle.std.proofs.lemmas.Bool.{ltb-true}
-use Rattle.gaspi_types.specs.Collectives.{part_of, turn_of, fixed_by, with_joined}
-use Rattle.gaspi_types.specs.Tables.{entry_at}
+use Rattle.gaspi_types.specs.Collectives.{contributions_of, round_of, fixed_by, with_joined}
+use Rattle.gaspi_types.specs.Tables.{item_at}
 use Rattle.gaspi_types.specs.declared.collectives.Coll.{Coll}
 use Rattle.gaspi_types.specs.declared.collectives.Coll.TheVariants as colls
 use Rattle.gaspi_types.specs.declared.events.Event.TheVariants.{Joined}
 use Rattle.gaspi_types.specs.declared.groups.Args.{Args}
 use Rattle.gaspi_types.specs.declared.groups.Contribution.{Contribution}
 use Rattle.gaspi_types.specs.declared.groups.Group.{Group}
-use Rattle.gaspi_types.specs.declared.groups.Part.{Part}
+use Rattle.gaspi_types.specs.declared.groups.RankContributions.{RankContributions}
 use Rattle.gaspi_types.specs.declared.shapes.CallerId.{CallerId}
 use Rattle.gaspi_model.specs.CollectiveCalls.{segment_checks, joining_call, made_generation, made_posts, made_memory, with_pending}
-use Rattle.gaspi_model.specs.Contributions.{waits}
+use Rattle.gaspi_model.specs.Contributions.{pending_count}
 use Rattle.gaspi_model.specs.Posting.{counted}
 use Rattle.gaspi_model.specs.Shards.{is_create}
 use Rattle.gaspi_model.specs.Sound.{IsSound}
 use Rattle.gaspi_model.specs.Step.{step}
-use Rattle.gaspi_model.specs.Turns.{Gives, IsJoinDone, IsCreateJoined}
+use Rattle.gaspi_model.specs.Rounds.{Contributes, IsJoinDone, IsCreateJoined}
 use Rattle.gaspi_model.specs.declared.states.Memory.{Memory}
 use Rattle.gaspi_model.specs.declared.states.Posts.{Posts}
 use Rattle.gaspi_model.specs.declared.states.State.{State}
@@ -27,7 +27,7 @@ use Rattle.gaspi_model.proofs.Changed.Ends.{is-running}
 use Rattle.gaspi_model.proofs.Changed.OwnCalls.{index-there, alloc-found, segment-absent}
 use Rattle.gaspi_model.proofs.GroupEffects.{join-step}
 use Rattle.gaspi_model.proofs.Sound.Completions.{IsThere}
-use Rattle.gaspi_model.proofs.Sound.Contributions.{part-changed, part-there}
+use Rattle.gaspi_model.proofs.Sound.Contributions.{contributions-changed, contributions-there}
 
 -- what a join of that collective leaves
 abbrev left : State → CallerId → ℕ → Args → Posts → Memory → Group → Coll → State
@@ -38,18 +38,18 @@ left s c id args posts memory g coll = record s {
 }
 
 -- what a rank gives stands in its turn
-gives : (s t : State) (id me : ℕ) (posts : Posts) (g : Group) (part : Part) (c : Contribution) → IsSound s → slice_get s.posts me ≡ Some posts → IsThere s me id g part → entry_at posts.pending id ≡ None
-    → t.groups ≡ slice_set s.groups id (with_joined g me c) → Gives t id g me c
+gives : (s t : State) (id me : ℕ) (posts : Posts) (g : Group) (part : RankContributions) (c : Contribution) → IsSound s → slice_get s.posts me ≡ Some posts → IsThere s me id g part → item_at posts.pending id ≡ None
+    → t.groups ≡ slice_set s.groups id (with_joined g me c) → Contributes t id g me c
 gives s t id me posts g part c sound hp there none leaves =
     let count = (sound.collectives.parts id g me posts there.there hp).count in
-    let idle : waits (entry_at posts.pending id) ≡ 0 = ap waits none in
-    let was = part-there g me part there.part_there in
-    let turn : (part_of g me).completed ≡ part.completed = ap (λ (q : Part). q.completed) was in
-    let many : length (part_of g me).contributions ≡ length part.contributions = ap (λ (q : Part). length q.contributions) was in
-    let now = part-changed g me part (λ (q : Part). record q { contributions = q.contributions ++ c ∷ [] }) (fixed_by g.members c.args.coll) there.part_there in (
+    let idle : pending_count (item_at posts.pending id) ≡ 0 = ap pending_count none in
+    let was = contributions-there g me part there.part_there in
+    let turn : (contributions_of g me).completed ≡ part.completed = ap (λ (q : RankContributions). q.completed) was in
+    let many : length (contributions_of g me).contributions ≡ length part.contributions = ap (λ (q : RankContributions). length q.contributions) was in
+    let now = contributions-changed g me part (λ (q : RankContributions). record q { contributions = q.contributions ++ c ∷ [] }) (fixed_by g.members c.args.coll) there.part_there in (
       with_joined g me c,
       ap (λ (all : List Group). slice_get all id) leaves ∙ slice_get-set_same s.groups id g (with_joined g me c) there.there,
-      ap (λ (q : Part). slice_get q.contributions (turn_of g me)) now ∙ behind-of-joined part.contributions (c ∷ []) 0 (turn_of g me) (omega arith),
+      ap (λ (q : RankContributions). slice_get q.contributions (round_of g me)) now ∙ behind-of-joined part.contributions (c ∷ []) 0 (round_of g me) (omega arith),
     )
 
 pub join-done : (s t : State) (c : CallerId) (id : ℕ) (args : Args) → IsSound s → is_create args.coll ≡ false → step s (Joined c id args) ≡ Ok t → IsJoinDone s t c id args

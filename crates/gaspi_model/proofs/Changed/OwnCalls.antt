@@ -9,7 +9,7 @@ use Rattle.gaspi_types.specs.Replies.{is_idle}
 use Rattle.gaspi_types.specs.SegmentBytes.{range_of}
 use Rattle.gaspi_types.specs.SegmentTables.{extent_in, own_range_checks, alloc_checks}
 use Rattle.gaspi_types.specs.Slots.{is_slot_range, first_set}
-use Rattle.gaspi_types.specs.Touches.{reach_of}
+use Rattle.gaspi_types.specs.Footprints.{footprint_of}
 use Rattle.gaspi_types.specs.declared.calls.Call.{Call}
 use Rattle.gaspi_types.specs.declared.calls.Call.TheVariants as calls
 use Rattle.gaspi_types.specs.declared.calls.segments.Alloc as alloc
@@ -24,54 +24,54 @@ use Rattle.gaspi_types.specs.declared.replies.Reply.{Reply}
 use Rattle.gaspi_types.specs.declared.replies.Reply.TheVariants as replies
 use Rattle.gaspi_types.specs.declared.shapes.CallerId.{CallerId}
 use Rattle.gaspi_types.specs.declared.shapes.Limits.{Limits}
-use Rattle.gaspi_types.specs.declared.touches.Touch.{Touch}
-use Rattle.gaspi_types.specs.declared.touches.Touch.TheVariants as touches
+use Rattle.gaspi_types.specs.declared.footprints.DeclaredFootprint.{DeclaredFootprint}
+use Rattle.gaspi_types.specs.declared.footprints.DeclaredFootprint.TheVariants as touches
 use Rattle.gaspi_model.specs.State.{segment_at}
 use Rattle.gaspi_model.specs.Memories.{bytes_of, slots_of, with_slots}
 use Rattle.gaspi_types.specs.Segments.{bytes_in, extent_of}
 use Rattle.gaspi_model.specs.Posting.{counted}
-use Rattle.gaspi_model.specs.Calls.{call_finds, posts_after, memory_after}
-use Rattle.gaspi_model.specs.MemoryCalls.{load_finds}
-use Rattle.gaspi_model.specs.NotificationCalls.{waitsome_finds, reset_finds}
-use Rattle.gaspi_model.specs.QueueCalls.{wait_finds}
-use Rattle.gaspi_model.specs.SegmentCalls.{alloc_finds, delete_finds}
+use Rattle.gaspi_model.specs.Calls.{call_result, posts_after, memory_after}
+use Rattle.gaspi_model.specs.MemoryCalls.{load_result}
+use Rattle.gaspi_model.specs.NotificationCalls.{waitsome_result, reset_result}
+use Rattle.gaspi_model.specs.QueueCalls.{wait_result}
+use Rattle.gaspi_model.specs.SegmentCalls.{alloc_result, delete_result}
 use Rattle.gaspi_types.specs.Queues.{user_of}
-use Rattle.gaspi_model.specs.Step.{step, call_brought}
+use Rattle.gaspi_model.specs.Step.{step, call_message}
 use Rattle.gaspi_model.specs.Sound.{IsSound}
-use Rattle.gaspi_model.specs.Changes.{IsOnlyCounted, IsRead, IsReset, IsWaited, IsMade, IsGone, AreSlotsRead}
+use Rattle.gaspi_model.specs.Changes.{IsOnlyCounted, IsRead, IsReset, IsWaitDone, IsAllocDone, IsDeleteDone, AreSlotsRead}
 use Rattle.gaspi_model.specs.declared.states.Posts.{Posts}
 use Rattle.gaspi_types.specs.declared.entries.Queue.{Queue}
 use Rattle.gaspi_types.specs.declared.segments.Segment.{Segment}
 use Rattle.gaspi_model.specs.declared.states.Memory.{Memory}
 use Rattle.gaspi_model.specs.declared.states.State.{State}
-use Rattle.gaspi_model.specs.Transfers.{Worked}
+use Rattle.gaspi_model.specs.Transfers.{PostsAndMemory}
 use Rattle.gaspi_types.proofs.Chains.{bind_then, check_then, found_then, absent_then, same_Ok}
 use Rattle.gaspi_types.proofs.Written.{segment-behind, extent-there, slot-written}
 use Rattle.gaspi_model.proofs.FoundReplies.{found-reply}
 use Rattle.gaspi_model.proofs.Changed.Puts.{slots-there}
 use Rattle.gaspi_model.proofs.Same.{same_reply-same}
 use Rattle.gaspi_types.proofs.Items.{set-there, there-within, changed_at-found}
-use Rattle.gaspi_model.proofs.Sound.Told.{told, told_at}
-use Rattle.gaspi_model.proofs.Worked.{memory_place, memory_rank, sound-called}
+use Rattle.gaspi_model.proofs.Sound.Registered.{registering, registered_at}
+use Rattle.gaspi_model.proofs.OnPostsAndMemory.{memory_place, memory_rank, sound-called}
 
 -- a call on the own memory that was answered neither with a refusal nor with a timeout
 pub record IsOwnWorked (s t : State) (c : CallerId) (call : Call) (reply : Reply) (posts : Posts) (memory : Memory) : Type 0 where
   pub posts_there : slice_get s.posts c.rank ≡ Some posts
   pub memory_there : slice_get s.memories c.rank ≡ Some memory
-  pub finds : call_finds s.limits c.rank posts memory call ≡ Ok (Some reply)
+  pub finds : call_result s.limits c.rank posts memory call ≡ Ok (Some reply)
   pub leaves : t ≡ record s {
     posts = slice_set s.posts c.rank (posts_after s.limits c.rank posts c.thread call reply);
-    memories = slice_set s.memories c.rank (memory_after s.limits posts (call_brought s c.rank call) memory call reply);
+    memories = slice_set s.memories c.rank (memory_after s.limits posts (call_message s c.rank call) memory call reply);
   }
 
-pub own-worked : (s t : State) (c : CallerId) (call : Call) (reply : Reply) → (row_of call).group ≡ None → (row_of call).touch ≡ touches.OwnMemory → is_idle reply ≡ false → IsSound s → step s (Called c call reply) ≡ Ok t
+pub own-on_memory : (s t : State) (c : CallerId) (call : Call) (reply : Reply) → (row_of call).group ≡ None → (row_of call).footprint ≡ touches.OwnMemory → is_idle reply ≡ false → IsSound s → step s (Called c call reply) ≡ Ok t
     → (posts : Posts) × (memory : Memory) × IsOwnWorked s t c call reply posts memory
-own-worked s t c call reply plain own awake sound h =
+own-on_memory s t c call reply plain own awake sound h =
     let made = sound-called s t c call reply plain sound h in
     let m = made.3 in
-    let worked : memory_rank s.limits c.rank call ≡ c.rank = ap (λ (touch : Touch). memory_place (reach_of s.limits.ranks c.rank touch) c.rank) own in
-    let same : told s.limits.ranks c.rank made.0 call reply (slice_set s.posts c.rank made.2.posts) ≡ slice_set s.posts c.rank made.2.posts =
-    ap (λ (touch : Touch). told_at (reach_of s.limits.ranks c.rank touch) c.rank made.0 call reply (slice_set s.posts c.rank made.2.posts)) own in (
+    let worked : memory_rank s.limits c.rank call ≡ c.rank = ap (λ (touch : DeclaredFootprint). memory_place (footprint_of s.limits.ranks c.rank touch) c.rank) own in
+    let same : registering s.limits.ranks c.rank made.0 call reply (slice_set s.posts c.rank made.2.posts) ≡ slice_set s.posts c.rank made.2.posts =
+    ap (λ (touch : DeclaredFootprint). registered_at (footprint_of s.limits.ranks c.rank touch) c.rank made.0 call reply (slice_set s.posts c.rank made.2.posts)) own in (
       made.0,
       made.1,
       record {
@@ -81,7 +81,7 @@ own-worked s t c call reply plain own awake sound h =
         leaves = m.leaves
             ∙ ap (λ (x : List Posts). record s { posts = x; memories = slice_set s.memories (memory_rank s.limits c.rank call) made.2.memory }) same
             ∙ ap (λ (k : ℕ). record s { posts = slice_set s.posts c.rank made.2.posts; memories = slice_set s.memories k made.2.memory }) worked
-            ∙ ap (λ (w : Worked). record s { posts = slice_set s.posts c.rank w.posts; memories = slice_set s.memories c.rank w.memory }) m.is.leaves;
+            ∙ ap (λ (w : PostsAndMemory). record s { posts = slice_set s.posts c.rank w.posts; memories = slice_set s.memories c.rank w.memory }) m.is.leaves;
       },
     )
 
@@ -106,7 +106,7 @@ same-bytes a b h = cc
 pub same-value : (a b : ℕ) → ◌≡◌ {A = Option Reply} (Some (replies.Value a)) (Some (replies.Value b)) → a ≡ b
 same-value a b h = cc
 
-load-found : (posts : Posts) (memory : Memory) (call : load.Load) (bytes : List ℕ) → load_finds posts memory call ≡ Ok (Some (replies.Bytes bytes))
+load-found : (posts : Posts) (memory : Memory) (call : load.Load) (bytes : List ℕ) → load_result posts memory call ≡ Ok (Some (replies.Bytes bytes))
     → (mine : Extent) × (extent_in posts.segments.own call.seg ≡ Some mine) × (bytes ≡ range_of (bytes_of memory call.seg) call.offset call.size)
 load-found posts memory call bytes h =
     bind_then (own_range_checks posts.segments.own call.seg call.offset call.size) _ (Some (replies.Bytes bytes)) h (λ fits hc h1.
@@ -115,7 +115,7 @@ load-found posts memory call bytes h =
 pub load-read : (s t : State) (c : CallerId) (call : load.Load) (bytes : List ℕ) → IsSound s → step s (Called c (calls.Load call) (replies.Bytes bytes)) ≡ Ok t
     → IsRead s t c.rank call.seg (λ x. bytes ≡ range_of x.bytes call.offset call.size)
 load-read s t c call bytes sound h =
-    let made = own-worked s t c (calls.Load call) (replies.Bytes bytes) refl refl refl sound h in
+    let made = own-on_memory s t c (calls.Load call) (replies.Bytes bytes) refl refl refl sound h in
     let m = made.2 in
     let found = load-found made.0 made.1 call bytes m.finds in
     let item = own-there s c.rank made.0 made.1 call.seg found.0 sound m.posts_there m.memory_there found.1 in (
@@ -133,7 +133,7 @@ some-id : (o : Option ℕ) (n : ℕ) → ◌≡◌ {A = Option Reply} (option_ma
 some-id None n h = absurd (let no : ⊥ = cc in no)
 some-id (Some k) n h = (let is : k ≡ n = cc in ap (λ (x : ℕ). Some x) is)
 
-waitsome-found : (limits : Limits) (posts : Posts) (memory : Memory) (call : waitsome.Waitsome) (n : ℕ) → waitsome_finds limits posts memory call ≡ Ok (Some (replies.Id n))
+waitsome-found : (limits : Limits) (posts : Posts) (memory : Memory) (call : waitsome.Waitsome) (n : ℕ) → waitsome_result limits posts memory call ≡ Ok (Some (replies.Id n))
     → (mine : Extent) × (extent_in posts.segments.own call.seg ≡ Some mine) × (first_set (slots_of memory call.seg) call.begin call.num ≡ Some n)
 waitsome-found limits posts memory call n h =
     found_then (extent_in posts.segments.own call.seg) _ _ (Some (replies.Id n)) h (λ mine hm h1.
@@ -143,7 +143,7 @@ waitsome-found limits posts memory call n h =
 pub slot-read : (s t : State) (c : CallerId) (call : waitsome.Waitsome) (n : ℕ) → IsSound s → step s (Called c (calls.Waitsome call) (replies.Id n)) ≡ Ok t
     → AreSlotsRead s t c.rank call.seg (λ slots. first_set slots call.begin call.num ≡ Some n)
 slot-read s t c call n sound h =
-    let made = own-worked s t c (calls.Waitsome call) (replies.Id n) refl refl refl sound h in
+    let made = own-on_memory s t c (calls.Waitsome call) (replies.Id n) refl refl refl sound h in
     let m = made.2 in
     let found = waitsome-found s.limits made.0 made.1 call n m.finds in
     let item = own-there s c.rank made.0 made.1 call.seg found.0 sound m.posts_there m.memory_there found.1 in
@@ -164,7 +164,7 @@ record IsSlotFound (limits : Limits) (posts : Posts) (memory : Memory) (call : r
   noted : nat_lt call.note limits.notes ≡ true
   value_is : slice_index (slots_of memory call.seg) call.note ≡ value
 
-reset-found : (limits : Limits) (posts : Posts) (memory : Memory) (call : reset.Reset) (value : ℕ) → reset_finds limits posts memory call ≡ Ok (Some (replies.Value value))
+reset-found : (limits : Limits) (posts : Posts) (memory : Memory) (call : reset.Reset) (value : ℕ) → reset_result limits posts memory call ≡ Ok (Some (replies.Value value))
     → IsSlotFound limits posts memory call value
 reset-found limits posts memory call value h =
     found_then (extent_in posts.segments.own call.seg) _ _ (Some (replies.Value value)) h (λ mine hm h1.
@@ -179,7 +179,7 @@ index-there (y ∷ ys) (suc i) x h = index-there ys i x h
 pub slot-reset : (s t : State) (c : CallerId) (call : reset.Reset) (value : ℕ) → IsSound s → step s (Called c (calls.Reset call) (replies.Value value)) ≡ Ok t
     → IsReset s t c.rank call.seg call.note value
 slot-reset s t c call value sound h =
-    let made = own-worked s t c (calls.Reset call) (replies.Value value) refl refl refl sound h in
+    let made = own-on_memory s t c (calls.Reset call) (replies.Value value) refl refl refl sound h in
     let m = made.2 in
     let found = reset-found s.limits made.0 made.1 call value m.finds in
     let item = own-there s c.rank made.0 made.1 call.seg found.mine sound m.posts_there m.memory_there found.there in
@@ -211,20 +211,20 @@ none-posted : (b : Bool) → ◌≡◌ {A = Option Reply} (if b then None else S
 none-posted true h = absurd (let no : ⊥ = cc in no)
 none-posted false h = refl
 
-wait-found : (posts : Posts) (call : wait.Wait) → wait_finds posts call ≡ Ok (Some replies.Done) → IsWaitFound posts call
+wait-found : (posts : Posts) (call : wait.Wait) → wait_result posts call ≡ Ok (Some replies.Done) → IsWaitFound posts call
 wait-found posts call h =
     found_then (slice_get posts.queues call.queue) _ _ (Some replies.Done) h (λ q there h1.
     absent_then q.broken _ _ (Some replies.Done) h1 (λ whole h2.
     record { q = q; there = there; whole = whole; taken = none-posted (list_any has_awaited q.lanes) (same_Ok _ _ h2) }))
 
-pub waited : (s t : State) (c : CallerId) (call : wait.Wait) → IsSound s → step s (Called c (calls.Wait call) replies.Done) ≡ Ok t → IsWaited s t c.rank call.queue
+pub waited : (s t : State) (c : CallerId) (call : wait.Wait) → IsSound s → step s (Called c (calls.Wait call) replies.Done) ≡ Ok t → IsWaitDone s t c.rank call.queue
 waited s t c call sound h =
     let made = sound-called s t c (calls.Wait call) replies.Done refl sound h in
     let m = made.3 in
     let found = wait-found made.0 call (found-reply s.limits c.rank made.0 made.1 c.thread (calls.Wait call) replies.Done (same_reply-same _ _ m.is.answered) refl) in
     let kept : made.2.memory ≡ made.1 = rw m.is.leaves refl in
     let after : made.2.posts ≡ record (counted made.0) { queues = slice_set made.0.queues call.queue (record found.q { open_count = 0 }) } =
-    ap (λ (w : Worked). w.posts) m.is.leaves
+    ap (λ (w : PostsAndMemory). w.posts) m.is.leaves
     ∙ ap (λ (x : List Queue). record (counted made.0) { queues = x }) (changed_at-found made.0.queues call.queue found.q (λ (q : Queue). record q { open_count = 0 }) found.there) in
     let place = memory_rank s.limits c.rank (calls.Wait call) in
     let memories : slice_set s.memories place made.2.memory ≡ s.memories = ap (slice_set s.memories place) kept ∙ set-there s.memories place made.1 m.memory_there in
@@ -240,7 +240,7 @@ waited s t c call sound h =
           ∙ ap (λ (p : Posts). record s { posts = slice_set s.posts c.rank p }) after;
     }
 
-pub alloc-found : (posts : Posts) (call : alloc.Alloc) → alloc_finds posts call ≡ Ok (Some replies.Done) → (nat_lt call.seg 32 ≡ true) × (extent_in posts.segments.own call.seg ≡ None)
+pub alloc-found : (posts : Posts) (call : alloc.Alloc) → alloc_result posts call ≡ Ok (Some replies.Done) → (nat_lt call.seg 32 ≡ true) × (extent_in posts.segments.own call.seg ≡ None)
 alloc-found posts call h =
     bind_then (alloc_checks posts.segments.own call.seg call.size) _ (Some replies.Done) h (λ fits hc h1.
     check_then (nat_lt call.seg 32) _ _ fits hc (λ numbered h2.
@@ -257,9 +257,9 @@ segment-absent s me posts memory seg sound hp hm numbered absent = go (segment_a
         let here : extent_in posts.segments.own seg ≡ Some (extent_of x) = rw (sound.coherent.own me posts memory hp hm) (extent-there memory.segments seg x numbered at) in
         absurd (let both : ◌≡◌ {A = Option Extent} None (Some (extent_of x)) = sym absent ∙ here in let no : ⊥ = cc in no)
 
-pub segment-made : (s t : State) (c : CallerId) (call : alloc.Alloc) → IsSound s → step s (Called c (calls.Alloc call) replies.Done) ≡ Ok t → IsMade s t c.rank call.seg call.size
+pub segment-made : (s t : State) (c : CallerId) (call : alloc.Alloc) → IsSound s → step s (Called c (calls.Alloc call) replies.Done) ≡ Ok t → IsAllocDone s t c.rank call.seg call.size
 segment-made s t c call sound h =
-    let made = own-worked s t c (calls.Alloc call) replies.Done refl refl refl sound h in
+    let made = own-on_memory s t c (calls.Alloc call) replies.Done refl refl refl sound h in
     let m = made.2 in
     let found = alloc-found made.0 call m.finds in
     let less = ltb-true call.seg 32 found.0 in
@@ -286,15 +286,15 @@ segment-made s t c call sound h =
       }) (index-there made.0.segments.next_generations call.seg next.0 next.1);
     }
 
-delete-found : (posts : Posts) (call : delete.Delete) → delete_finds posts call ≡ Ok (Some replies.Done)
+delete-found : (posts : Posts) (call : delete.Delete) → delete_result posts call ≡ Ok (Some replies.Done)
     → (mine : Extent) × (extent_in posts.segments.own call.seg ≡ Some mine) × (user_of posts.queues call.seg ≡ None)
 delete-found posts call h =
     found_then (extent_in posts.segments.own call.seg) _ _ (Some replies.Done) h (λ mine there h1.
     absent_then (user_of posts.queues call.seg) _ _ (Some replies.Done) h1 (λ unused h2. (mine, there, unused)))
 
-pub segment-gone : (s t : State) (c : CallerId) (call : delete.Delete) → IsSound s → step s (Called c (calls.Delete call) replies.Done) ≡ Ok t → IsGone s t c.rank call.seg
+pub segment-gone : (s t : State) (c : CallerId) (call : delete.Delete) → IsSound s → step s (Called c (calls.Delete call) replies.Done) ≡ Ok t → IsDeleteDone s t c.rank call.seg
 segment-gone s t c call sound h =
-    let made = own-worked s t c (calls.Delete call) replies.Done refl refl refl sound h in
+    let made = own-on_memory s t c (calls.Delete call) replies.Done refl refl refl sound h in
     let m = made.2 in
     let found = delete-found made.0 call m.finds in
     let item = own-there s c.rank made.0 made.1 call.seg found.0 sound m.posts_there m.memory_there found.1 in

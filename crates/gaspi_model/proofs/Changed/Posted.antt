@@ -13,28 +13,28 @@ use Rattle.gaspi_types.specs.declared.events.Event.TheVariants.{Called}
 use Rattle.gaspi_types.specs.declared.replies.Reply.TheVariants as replies
 use Rattle.gaspi_types.specs.declared.shapes.CallerId.{CallerId}
 use Rattle.gaspi_types.proofs.Items.{changed_at-found, there-within}
-use Rattle.gaspi_model.specs.Calls.{call_asks, posts_done}
-use Rattle.gaspi_model.specs.Changes.{IsPosted}
-use Rattle.gaspi_model.specs.PostCalls.{asked_finds}
+use Rattle.gaspi_model.specs.Calls.{requested_kinds, posts_effect}
+use Rattle.gaspi_model.specs.Changes.{IsPostDone}
+use Rattle.gaspi_model.specs.PostCalls.{post_request_result}
 use Rattle.gaspi_model.specs.Posting.{counted, with_post}
 use Rattle.gaspi_model.specs.Sound.{IsSound}
 use Rattle.gaspi_model.specs.Step.{step}
 use Rattle.gaspi_model.specs.declared.states.Posts.{Posts}
 use Rattle.gaspi_model.specs.declared.states.State.{State}
-use Rattle.gaspi_model.proofs.Changed.QueueCalls.{posts-worked}
+use Rattle.gaspi_model.proofs.Changed.QueueCalls.{posts-on_memory}
 use Rattle.gaspi_model.proofs.Local.Steps.{posting-plain, posting-reaches-none}
 use Rattle.gaspi_model.proofs.Sound.Accounts.{asks-counted, post-ok}
 use Rattle.gaspi_model.proofs.Sound.CallTables.{post-leaves}
 use Rattle.gaspi_model.proofs.Sound.OpenCounts.{posted-length}
 
 pub post-done : (s t : State) (c : CallerId) (call : Call) (to : Posting) → IsSound s → (row_of call).posting ≡ Some to → step s (Called c call replies.Done) ≡ Ok t
-    → IsPosted s t c.rank call to.queue to.rank
+    → IsPostDone s t c.rank call to.queue to.rank
 post-done s t c call to sound posting h =
-    let made = posts-worked s t c call replies.Done (posting-plain call to posting) (posting-reaches-none call to posting) refl (λ posts brought memory. post-leaves s.limits posts brought memory call to posting) sound h in
+    let made = posts-on_memory s t c call replies.Done (posting-plain call to posting) (posting-reaches-none call to posting) refl (λ posts brought memory. post-leaves s.limits posts brought memory call to posting) sound h in
     let m = made.2 in
     let posts = made.0 in
-    let asked = call_asks s.limits c.rank posts call in
-    let finds : asked_finds s.limits posts to.rank to.queue asked ≡ Ok (Some replies.Done) = rw posting at m.finds in
+    let asked = requested_kinds s.limits c.rank posts call in
+    let finds : post_request_result s.limits posts to.rank to.queue asked ≡ Ok (Some replies.Done) = rw posting at m.finds in
     let ok = post-ok s.limits posts to.rank to.queue asked (Some replies.Done) finds in
     let q = ok.0 in
     let kinds = ok.1 in
@@ -43,7 +43,7 @@ post-done s t c call to sound posting h =
     let many = (sound.posts c.rank posts m.posts_there).lanes to.queue q p.in_posts in
     let lane = there-within q.lanes to.rank (omega arith) in
     let entries = posted_entries posts.next kinds in
-    let done : posts_done s.limits c.rank posts c.thread call ≡ with_post posts to.queue to.rank (Ok kinds) =
+    let done : posts_effect s.limits c.rank posts c.thread call ≡ with_post posts to.queue to.rank (Ok kinds) =
     done-by posts posting ∙ ap (with_post posts to.queue to.rank) p.asks in
     let queues = changed_at-found posts.queues to.queue q (with_entries to.rank entries) p.in_posts in
     let lanes = changed_at-found q.lanes to.rank lane.0 (λ (x : List Entry). x ++ entries) lane.1 in
@@ -76,5 +76,5 @@ post-done s t c call to sound posting h =
           }) lanes;
     }
   where
-    done-by : (posts : Posts) → (row_of call).posting ≡ Some to → posts_done s.limits c.rank posts c.thread call ≡ with_post posts to.queue to.rank (call_asks s.limits c.rank posts call)
+    done-by : (posts : Posts) → (row_of call).posting ≡ Some to → posts_effect s.limits c.rank posts c.thread call ≡ with_post posts to.queue to.rank (requested_kinds s.limits c.rank posts call)
     done-by posts is = rw is refl

@@ -17,11 +17,11 @@ use Rattle.gaspi_types.specs.declared.entries.Phase.TheVariants as phases
 use Rattle.gaspi_types.specs.declared.events.Outcome.TheVariants.{Applied}
 use Rattle.gaspi_types.specs.declared.events.Event.TheVariants.{Put}
 use Rattle.gaspi_model.specs.State.{segment_at}
-use Rattle.gaspi_types.specs.Tables.{entry_at}
+use Rattle.gaspi_types.specs.Tables.{item_at}
 use Rattle.gaspi_types.specs.Segments.{extent_of, extents_of}
-use Rattle.gaspi_model.specs.Transfers.{Found, put_outcome, same_outcome, carried_bytes, memory_put, memory_with_put}
+use Rattle.gaspi_model.specs.Transfers.{EntryPosition, put_outcome, same_outcome, carried_bytes, memory_put, memory_with_put}
 use Rattle.gaspi_model.specs.Step.{step}
-use Rattle.gaspi_model.specs.Coherence.{counts_of, HasSlots, tables_of, LiesIn, LiesInIfThere, IsIn, HasOwn, FitsTarget, Fits, IsCoherent}
+use Rattle.gaspi_model.specs.Coherence.{counts_of, HasSlots, tables_of, LiesIn, LiesInIfThere, IsIn, HasOwn, IsWithinTarget, IsWithinSegments, AgreesOnSegments}
 use Rattle.gaspi_model.specs.Sound.{IsSound}
 use Rattle.gaspi_model.specs.Changes.{PutsTo, put_rank, IsPutDone}
 use Rattle.gaspi_model.specs.declared.states.Posts.{Posts}
@@ -31,7 +31,7 @@ use Rattle.gaspi_model.specs.declared.states.State.{State}
 use Rattle.gaspi_types.proofs.Chains.{both}
 use Rattle.gaspi_model.proofs.FoundEntries.{IsFound}
 use Rattle.gaspi_model.proofs.Sound.FittingEntries.{lies-there}
-use Rattle.gaspi_model.proofs.Worked.{sound-put}
+use Rattle.gaspi_model.proofs.OnPostsAndMemory.{sound-put}
 use Rattle.gaspi_types.proofs.Items.{there-within, joined}
 use Rattle.gaspi_types.proofs.Written.{segment-behind, there-in-generation, segment-written, slot-written}
 use Rattle.gaspi_model.proofs.Sound.CoherentSteps.{mine-there, applied-there}
@@ -39,7 +39,7 @@ use Rattle.gaspi_model.proofs.Ordered.Notifications.{found-number}
 
 -- how many slots a segment has
 pub slots-there : (memory : Memory) (segment notes : ℕ) (s : Segment) → HasSlots notes memory → segment_at memory segment ≡ Some s
-    → (slots : List ℕ) × (entry_at memory.slots segment ≡ Some slots) × (length slots ≡ notes)
+    → (slots : List ℕ) × (item_at memory.slots segment ≡ Some slots) × (length slots ≡ notes)
 slots-there memory segment notes s counts h =
     let extents = slice_get-map (option_map extent_of) memory.segments segment ∙ ap (option_map (option_map extent_of)) (joined memory.segments segment s h) in
     let expected : slice_get (counts_of notes (extents_of memory.segments)) segment ≡ Some (Some notes) =
@@ -49,7 +49,7 @@ slots-there memory segment notes s counts h =
     by-item (slice_get memory.slots segment) refl counted
   where
     by-item : (o : Option (Option (List ℕ))) → slice_get memory.slots segment ≡ o → option_map (option_map length) (slice_get memory.slots segment) ≡ Some (Some notes)
-        → (slots : List ℕ) × (entry_at memory.slots segment ≡ Some slots) × (length slots ≡ notes)
+        → (slots : List ℕ) × (item_at memory.slots segment ≡ Some slots) × (length slots ≡ notes)
     by-item None at is = absurd (let none : ◌≡◌ {A = Option (Option ℕ)} None (Some (Some notes)) = rw at at is in let no : ⊥ = cc in no)
     by-item (Some None) at is = absurd (let none : ◌≡◌ {A = Option (Option ℕ)} (Some None) (Some (Some notes)) = rw at at is in let no : ⊥ = cc in no)
     by-item (Some (Some slots)) at is =
@@ -75,8 +75,8 @@ slot-put notes memory slot value bytes old there generation counts less =
     (record { item = old; there = there; same = generation }, slot-written memory.slots slot.segment slot.note value slots.0 slots.1 within, refl)
 
 -- what an entry that has taken its bytes puts
-kind-puts : (s : State) (origin target : ℕ) (posts theirs : Posts) (memory : Memory) (kind : Kind) (bytes : List ℕ) → IsCoherent s → slice_get s.posts origin ≡ Some posts → slice_get s.posts target ≡ Some theirs
-    → slice_get s.memories (put_rank origin target kind) ≡ Some memory → same_outcome Applied (put_outcome memory kind) ≡ true → FitsTarget s.limits.notes (tables_of theirs) kind
+kind-puts : (s : State) (origin target : ℕ) (posts theirs : Posts) (memory : Memory) (kind : Kind) (bytes : List ℕ) → AgreesOnSegments s → slice_get s.posts origin ≡ Some posts → slice_get s.posts target ≡ Some theirs
+    → slice_get s.memories (put_rank origin target kind) ≡ Some memory → same_outcome Applied (put_outcome memory kind) ≡ true → IsWithinTarget s.limits.notes (tables_of theirs) kind
     → HasOwn posts.segments.own kind (phases.Carried bytes) → PutsTo (destination_of kind) bytes memory (memory_with_put memory (destination_of kind) bytes)
 kind-puts s origin target posts theirs memory (Write own to) bytes coherent hp ht hm applied fits size =
     let there = applied-there memory to.segment to.generation applied in
@@ -103,14 +103,14 @@ none-broken None h = refl
 none-broken (Some x) h = absurd (let no : ⊥ = cc in no)
 
 -- what an entry has to do with the segments of its rank and its target's
-pub entry-fits : (s : State) (origin queue target number : ℕ) (posts theirs : Posts) (at : Found) → IsSound s → slice_get s.posts origin ≡ Some posts → slice_get s.posts target ≡ Some theirs
-    → IsFound posts queue target number at → Fits s.limits.notes (tables_of posts) (tables_of theirs) at.entry
+pub entry-fits : (s : State) (origin queue target number : ℕ) (posts theirs : Posts) (at : EntryPosition) → IsSound s → slice_get s.posts origin ≡ Some posts → slice_get s.posts target ≡ Some theirs
+    → IsFound posts queue target number at → IsWithinSegments s.limits.notes (tables_of posts) (tables_of theirs) at.entry
 entry-fits s origin queue target number posts theirs at sound hp ht is =
-    sound.coherent.entries origin posts hp queue at.queue is.in_posts target at.lane is.in_queue at.place at.entry is.in_lane
+    sound.coherent.entries origin posts hp queue at.queue is.in_posts target at.lane is.in_queue at.position at.entry is.in_lane
     (tables_of posts) (tables_of theirs) (mine-there s.posts origin posts hp) (mine-there s.posts target theirs ht)
 
 -- its target is a rank
-pub target-there : (s : State) (origin queue target number : ℕ) (posts : Posts) (at : Found) → IsSound s → slice_get s.posts origin ≡ Some posts → IsFound posts queue target number at
+pub target-there : (s : State) (origin queue target number : ℕ) (posts : Posts) (at : EntryPosition) → IsSound s → slice_get s.posts origin ≡ Some posts → IsFound posts queue target number at
     → (theirs : Posts) × (slice_get s.posts target ≡ Some theirs)
 target-there s origin queue target number posts at sound hp is =
     let within = slice_get_within at.queue.lanes target at.lane is.in_queue in
@@ -131,13 +131,13 @@ put-done s t origin queue target number sound h =
       posts = made.0;
       q = at.queue;
       lane = at.lane;
-      place = at.place;
+      place = at.position;
       entry = at.entry;
       posts_there = m.posts_there;
       queue_there = m.is.is.in_posts;
       lane_there = m.is.is.in_queue;
       entry_there = m.is.is.in_lane;
-      numbered = found-number at.lane number at.place at.entry m.is.is.numbered m.is.is.in_lane;
+      numbered = found-number at.lane number at.position at.entry m.is.is.numbered m.is.is.in_lane;
       carried = carried;
       whole = none-broken at.queue.broken m.is.whole;
       old = made.1;

@@ -16,11 +16,11 @@ use Rattle.gaspi_types.specs.declared.events.Outcome.{Outcome}
 use Rattle.gaspi_types.specs.declared.events.Event.TheVariants.{Take, Put}
 use Rattle.gaspi_model.specs.State.{segment_at}
 use Rattle.gaspi_types.specs.Segments.{bytes_in, is_generation, extents_of}
-use Rattle.gaspi_model.specs.Transfers.{outcome_at, take_outcome, put_outcome, same_outcome, bytes_from, taken_bytes}
+use Rattle.gaspi_model.specs.Transfers.{outcome_at, take_outcome, put_outcome, same_outcome, bytes_from, source_bytes}
 use Rattle.gaspi_model.specs.Step.{step}
-use Rattle.gaspi_model.specs.Coherence.{LiesIn, LiesInIfThere, HasOwn, FitsTarget, IsCoherent, tables_of}
+use Rattle.gaspi_model.specs.Coherence.{LiesIn, LiesInIfThere, HasOwn, IsWithinTarget, AgreesOnSegments, tables_of}
 use Rattle.gaspi_model.specs.Sound.{IsSound}
-use Rattle.gaspi_model.specs.Changes.{NotIn, IsTargetGone, may_take_fail, may_put_fail, take_rank, put_rank, IsFailed, IsTaken, TakesFrom}
+use Rattle.gaspi_model.specs.Changes.{NotIn, IsTargetGone, may_take_fail, may_put_fail, take_rank, put_rank, IsFailureDone, IsTakeDone, TakesBytesFrom}
 use Rattle.gaspi_model.specs.declared.states.Posts.{Posts}
 use Rattle.gaspi_model.specs.declared.states.Memory.{Memory}
 use Rattle.gaspi_model.specs.declared.states.State.{State}
@@ -31,7 +31,7 @@ use Rattle.gaspi_model.proofs.Sound.FittingEntries.{lies-there}
 use Rattle.gaspi_types.proofs.Written.{segment-behind}
 use Rattle.gaspi_model.proofs.Ordered.Notifications.{found-number}
 use Rattle.gaspi_types.proofs.Items.{set-there}
-use Rattle.gaspi_model.proofs.Worked.{sound-take, sound-put}
+use Rattle.gaspi_model.proofs.OnPostsAndMemory.{sound-take, sound-put}
 
 -- where a transfer fails, no segment of that generation is there
 failed-gone : (memory : Memory) (segment generation : ℕ) → same_outcome Failed (outcome_at memory segment generation) ≡ true → NotIn memory segment generation
@@ -56,7 +56,7 @@ put-fails origin target memory (Read own to) fits = absurd (let no : ⊥ = cc in
 put-fails origin target memory (Notify to value) fits = (refl, refl, failed-gone memory to.segment to.generation fits)
 put-fails origin target memory (ReadNote own) fits = absurd (let no : ⊥ = cc in no)
 
-pub take-failed : (s t : State) (origin queue target number : ℕ) → IsSound s → step s (Take origin queue target number Failed) ≡ Ok t → IsFailed s t origin queue target number may_take_fail
+pub take-failed : (s t : State) (origin queue target number : ℕ) → IsSound s → step s (Take origin queue target number Failed) ≡ Ok t → IsFailureDone s t origin queue target number may_take_fail
 take-failed s t origin queue target number sound h =
     let made = sound-take s t origin queue target number Failed sound h in
     let m = made.4 in
@@ -66,14 +66,14 @@ take-failed s t origin queue target number sound h =
       posts = made.0;
       q = at.queue;
       lane = at.lane;
-      place = at.place;
+      place = at.position;
       entry = at.entry;
       memory = made.1;
       posts_there = m.posts_there;
       queue_there = m.is.is.in_posts;
       lane_there = m.is.is.in_queue;
       entry_there = m.is.is.in_lane;
-      numbered = found-number at.lane number at.place at.entry m.is.is.numbered m.is.is.in_lane;
+      numbered = found-number at.lane number at.position at.entry m.is.is.numbered m.is.is.in_lane;
       fails = rw ((both (is_posted at.entry) _ m.is.permitted).0, fails.0) refl;
       whole = none-broken at.queue.broken m.is.whole;
       memory_there = subst (λ (r : ℕ). slice_get s.memories r ≡ Some made.1) fails.1 m.memory_there;
@@ -81,7 +81,7 @@ take-failed s t origin queue target number sound h =
       after = m.leaves ∙ rw (m.is.leaves, m.is.is.in_posts) refl;
     }
 
-pub put-failed : (s t : State) (origin queue target number : ℕ) → IsSound s → step s (Put origin queue target number Failed) ≡ Ok t → IsFailed s t origin queue target number may_put_fail
+pub put-failed : (s t : State) (origin queue target number : ℕ) → IsSound s → step s (Put origin queue target number Failed) ≡ Ok t → IsFailureDone s t origin queue target number may_put_fail
 put-failed s t origin queue target number sound h =
     let made = sound-put s t origin queue target number Failed sound h in
     let m = made.4 in
@@ -93,14 +93,14 @@ put-failed s t origin queue target number sound h =
       posts = made.0;
       q = at.queue;
       lane = at.lane;
-      place = at.place;
+      place = at.position;
       entry = at.entry;
       memory = made.1;
       posts_there = m.posts_there;
       queue_there = m.is.is.in_posts;
       lane_there = m.is.is.in_queue;
       entry_there = m.is.is.in_lane;
-      numbered = found-number at.lane number at.place at.entry m.is.is.numbered m.is.is.in_lane;
+      numbered = found-number at.lane number at.position at.entry m.is.is.numbered m.is.is.in_lane;
       fails = rw ((both (is_carried at.entry) _ m.is.permitted).0, fails.0) refl;
       whole = none-broken at.queue.broken m.is.whole;
       memory_there = there;
@@ -108,7 +108,7 @@ put-failed s t origin queue target number sound h =
       after = state ∙ rw (m.is.leaves, m.is.is.in_posts) (ap (λ (memories : List Memory). record s {
         posts = slice_set s.posts origin (record made.0 {
           events = made.0.events + 1;
-          queues = slice_set made.0.queues queue (record at.queue { broken = Some target; lanes = slice_set at.queue.lanes target (slice_set at.lane at.place (record at.entry { phase = phases.Failed })) });
+          queues = slice_set made.0.queues queue (record at.queue { broken = Some target; lanes = slice_set at.queue.lanes target (slice_set at.lane at.position (record at.entry { phase = phases.Failed })) });
           corrupt = slice_set made.0.corrupt target true;
         });
         memories = memories;
@@ -116,15 +116,15 @@ put-failed s t origin queue target number sound h =
     }
 
 -- what is taken from a range that lies in its segment
-range-taken : (memory : Memory) (range : ByteRange) → LiesIn (extents_of memory.segments) range → TakesFrom (Some range) memory (bytes_from memory (Some range))
+range-taken : (memory : Memory) (range : ByteRange) → LiesIn (extents_of memory.segments) range → TakesBytesFrom (Some range) memory (bytes_from memory (Some range))
 range-taken memory range lies =
     let behind = segment-behind memory.segments range.segment lies.extent lies.there in
     (behind.0, behind.1, ap (λ (x : Extent). x.generation) behind.2 ∙ lies.generation, ap (λ (b : List ℕ). range_of b range.offset range.size) (ap bytes_in behind.1))
 
 -- what a posted entry takes
-kind-takes : (s : State) (origin target : ℕ) (posts theirs : Posts) (memory : Memory) (kind : Kind) → IsCoherent s → slice_get s.posts origin ≡ Some posts → slice_get s.posts target ≡ Some theirs
-    → slice_get s.memories (take_rank origin target kind) ≡ Some memory → same_outcome Applied (take_outcome memory kind) ≡ true → FitsTarget s.limits.notes (tables_of theirs) kind
-    → HasOwn posts.segments.own kind phases.Posted → TakesFrom (source_of kind) memory (bytes_from memory (source_of kind))
+kind-takes : (s : State) (origin target : ℕ) (posts theirs : Posts) (memory : Memory) (kind : Kind) → AgreesOnSegments s → slice_get s.posts origin ≡ Some posts → slice_get s.posts target ≡ Some theirs
+    → slice_get s.memories (take_rank origin target kind) ≡ Some memory → same_outcome Applied (take_outcome memory kind) ≡ true → IsWithinTarget s.limits.notes (tables_of theirs) kind
+    → HasOwn posts.segments.own kind phases.Posted → TakesBytesFrom (source_of kind) memory (bytes_from memory (source_of kind))
 kind-takes s origin target posts theirs memory (Write own to) coherent hp ht hm applied fits lies =
     range-taken memory own (subst (λ (table : List (Option Extent)). LiesIn table own) (coherent.own origin posts memory hp hm) lies)
 kind-takes s origin target posts theirs memory (Read own to) coherent hp ht hm applied fits lies =
@@ -133,7 +133,7 @@ kind-takes s origin target posts theirs memory (Read own to) coherent hp ht hm a
 kind-takes s origin target posts theirs memory (Notify to value) coherent hp ht hm applied fits none = refl
 kind-takes s origin target posts theirs memory (ReadNote own) coherent hp ht hm applied fits is = refl
 
-pub take-done : (s t : State) (origin queue target number : ℕ) → IsSound s → step s (Take origin queue target number Applied) ≡ Ok t → IsTaken s t origin queue target number
+pub take-done : (s t : State) (origin queue target number : ℕ) → IsSound s → step s (Take origin queue target number Applied) ≡ Ok t → IsTakeDone s t origin queue target number
 take-done s t origin queue target number sound h =
     let made = sound-take s t origin queue target number Applied sound h in
     let m = made.4 in
@@ -146,15 +146,15 @@ take-done s t origin queue target number sound h =
       posts = made.0;
       q = at.queue;
       lane = at.lane;
-      place = at.place;
+      place = at.position;
       entry = at.entry;
       memory = made.1;
-      bytes = taken_bytes made.1 at.entry.kind;
+      bytes = source_bytes made.1 at.entry.kind;
       posts_there = m.posts_there;
       queue_there = m.is.is.in_posts;
       lane_there = m.is.is.in_queue;
       entry_there = m.is.is.in_lane;
-      numbered = found-number at.lane number at.place at.entry m.is.is.numbered m.is.is.in_lane;
+      numbered = found-number at.lane number at.position at.entry m.is.is.numbered m.is.is.in_lane;
       posted = posted;
       whole = none-broken at.queue.broken m.is.whole;
       memory_there = m.memory_there;

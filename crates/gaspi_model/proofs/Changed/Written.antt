@@ -18,10 +18,10 @@ use Rattle.gaspi_types.specs.declared.calls.memory.Store as store
 use Rattle.gaspi_types.specs.declared.calls.atomics.FetchAdd as fetch_add
 use Rattle.gaspi_types.specs.declared.calls.atomics.CompareSwap as compare_swap
 use Rattle.gaspi_types.specs.CallRows.{row_of}
-use Rattle.gaspi_types.specs.Touches.{reach_of}
-use Rattle.gaspi_types.specs.declared.touches.Touch.{Touch}
-use Rattle.gaspi_types.specs.declared.touches.Touch.TheVariants as touches
-use Rattle.gaspi_types.specs.declared.touches.Reach.TheVariants.{Alone, OwnMemory, PeerMemory}
+use Rattle.gaspi_types.specs.Footprints.{footprint_of}
+use Rattle.gaspi_types.specs.declared.footprints.DeclaredFootprint.{DeclaredFootprint}
+use Rattle.gaspi_types.specs.declared.footprints.DeclaredFootprint.TheVariants as touches
+use Rattle.gaspi_types.specs.declared.footprints.Footprint.TheVariants.{Alone, OwnMemory, PeerMemory}
 use Rattle.gaspi_types.specs.declared.replies.Reply.{Reply}
 use Rattle.gaspi_types.specs.declared.replies.Reply.TheVariants as replies
 use Rattle.gaspi_types.specs.declared.events.Event.TheVariants.{Called}
@@ -29,10 +29,10 @@ use Rattle.gaspi_model.specs.State.{segment_at}
 use Rattle.gaspi_model.specs.Memories.{bytes_of, with_bytes}
 use Rattle.gaspi_types.specs.Segments.{IsSegmentWritten, is_generation, bytes_in, extent_of}
 use Rattle.gaspi_model.specs.Posting.{counted}
-use Rattle.gaspi_model.specs.MemoryCalls.{store_finds}
-use Rattle.gaspi_model.specs.AtomicCalls.{word_finds}
+use Rattle.gaspi_model.specs.MemoryCalls.{store_result}
+use Rattle.gaspi_model.specs.AtomicCalls.{word_result}
 use Rattle.gaspi_model.specs.Step.{step}
-use Rattle.gaspi_model.specs.Transfers.{Worked}
+use Rattle.gaspi_model.specs.Transfers.{PostsAndMemory}
 use Rattle.gaspi_model.specs.Coherence.{tables_of}
 use Rattle.gaspi_model.specs.Sound.{IsSound}
 use Rattle.gaspi_model.specs.Changes.{IsOnlyCounted, IsWritten, IsAnswered}
@@ -42,9 +42,9 @@ use Rattle.gaspi_model.specs.declared.states.Memory.{Memory}
 use Rattle.gaspi_model.specs.declared.states.State.{State}
 use Rattle.gaspi_types.proofs.Chains.{bind_then, check_then, found_then, same_Ok}
 use Rattle.gaspi_model.proofs.Same.{same_reply-same}
-use Rattle.gaspi_model.proofs.Made.{memories_at, memories-same, call_reach, step-called}
-use Rattle.gaspi_model.proofs.Worked.{IsCalledThere, memory_place, memory_rank, sound-called}
-use Rattle.gaspi_model.proofs.Sound.Told.{told, told_at}
+use Rattle.gaspi_model.proofs.Made.{memories_at, memories-same, call-footprint, step-called}
+use Rattle.gaspi_model.proofs.OnPostsAndMemory.{IsCalledThere, memory_place, memory_rank, sound-called}
+use Rattle.gaspi_model.proofs.Sound.Registered.{registering, registered_at}
 use Rattle.gaspi_types.proofs.Items.{past-none, joined, set-there}
 use Rattle.gaspi_types.proofs.Extents.{extent-at}
 use Rattle.gaspi_model.proofs.Sound.FittingEntries.{known-cases}
@@ -54,7 +54,7 @@ use Rattle.gaspi_model.proofs.FoundReplies.{found-reply}
 
 -- a call that replaces a range of a segment's bytes
 written : (s t : State) (c : CallerId) (call : Call) (reply : Reply) (rank seg offset : ℕ) (new : List ℕ) (posts : Posts) (memory memory' : Memory) (old : Segment)
-    → IsCalledThere s t c call reply posts memory (record { posts = counted posts; memory = memory' }) → memory_rank s.limits c.rank call ≡ rank → ((all : List Posts) → told s.limits.ranks c.rank posts call reply all ≡ all)
+    → IsCalledThere s t c call reply posts memory (record { posts = counted posts; memory = memory' }) → memory_rank s.limits c.rank call ≡ rank → ((all : List Posts) → registering s.limits.ranks c.rank posts call reply all ≡ all)
     → memory' ≡ with_bytes memory seg (with_range (bytes_of memory seg) offset new) → segment_at memory seg ≡ Some old → offset + length new ≤ length old.bytes → IsWritten s t c.rank rank seg offset new
 written s t c call reply rank seg offset new posts memory memory' old m worked same leaves there within =
     record {
@@ -80,7 +80,7 @@ record IsOwnRange (own : List (Option Extent)) (seg offset size : ℕ) : Type 0 
   there : extent_in own seg ≡ Some mine
   within : is_within offset size mine.size ≡ true
 
-store-found : (posts : Posts) (call : store.Store) (reply : Reply) → store_finds posts call ≡ Ok (Some reply) → IsOwnRange posts.segments.own call.seg call.offset (length call.bytes)
+store-found : (posts : Posts) (call : store.Store) (reply : Reply) → store_result posts call ≡ Ok (Some reply) → IsOwnRange posts.segments.own call.seg call.offset (length call.bytes)
 store-found posts call reply h =
     bind_then (own_range_checks posts.segments.own call.seg call.offset (length call.bytes)) _ (Some reply) h (λ fits hc h1.
     found_then (extent_in posts.segments.own call.seg) _ _ fits hc (λ mine hm h2.
@@ -111,7 +111,7 @@ record IsWordFound (limits : Limits) (me : ℕ) (posts : Posts) (memory : Memory
   within : is_within offset 8 theirs.size ≡ true
   value : word_at (bytes_of memory seg) offset ≡ old
 
-word-found : (limits : Limits) (me : ℕ) (posts : Posts) (memory : Memory) (seg offset rank old : ℕ) → word_finds limits me posts memory seg offset rank ≡ Ok (Some (replies.Value old))
+word-found : (limits : Limits) (me : ℕ) (posts : Posts) (memory : Memory) (seg offset rank old : ℕ) → word_result limits me posts memory seg offset rank ≡ Ok (Some (replies.Value old))
     → IsWordFound limits me posts memory seg offset rank old
 word-found limits me posts memory seg offset rank old h =
     check_then (nat_lt rank limits.ranks) _ _ (Some (replies.Value old)) h (λ ranked h1.
@@ -125,18 +125,18 @@ word-found limits me posts memory seg offset rank old h =
     same-value n h = cc
 
 -- the memory that it works on is that of the rank that it names
-worked-there : (ranks rank me : ℕ) → nat_lt rank ranks ≡ true → memory_place (reach_of ranks me (touches.MemoryOf rank)) me ≡ rank
-worked-there ranks rank me less = go (rank == me) refl
+on_memory-there : (ranks rank me : ℕ) → nat_lt rank ranks ≡ true → memory_place (footprint_of ranks me (touches.MemoryOf rank)) me ≡ rank
+on_memory-there ranks rank me less = go (rank == me) refl
   where
-    go : (b : Bool) → (rank == me) ≡ b → memory_place (reach_of ranks me (touches.MemoryOf rank)) me ≡ rank
+    go : (b : Bool) → (rank == me) ≡ b → memory_place (footprint_of ranks me (touches.MemoryOf rank)) me ≡ rank
     go true is = rw is (sym (eqb-true rank me is))
     go false is = rw (is, less) refl
 
 -- and it tells nothing
-tells-none : (ranks rank me : ℕ) (p : Posts) (call : Call) (reply : Reply) (all : List Posts) → told_at (reach_of ranks me (touches.MemoryOf rank)) me p call reply all ≡ all
+tells-none : (ranks rank me : ℕ) (p : Posts) (call : Call) (reply : Reply) (all : List Posts) → registered_at (footprint_of ranks me (touches.MemoryOf rank)) me p call reply all ≡ all
 tells-none ranks rank me p call reply all = go (rank == me) (nat_lt rank ranks)
   where
-    go : (b c : Bool) → told_at (if b then OwnMemory else (if c then PeerMemory rank else Alone)) me p call reply all ≡ all
+    go : (b c : Bool) → registered_at (if b then OwnMemory else (if c then PeerMemory rank else Alone)) me p call reply all ≡ all
     go true c = refl
     go false true = refl
     go false false = refl
@@ -162,14 +162,14 @@ word-size s me posts memory seg rank theirs old sound hp hm within known there g
 
 -- an atomic that replaces its word
 word-written : (s t : State) (c : CallerId) (call : Call) (seg offset rank old new : ℕ) (posts : Posts) (memory memory' : Memory) → IsSound s
-    → IsCalledThere s t c call (replies.Value old) posts memory (record { posts = counted posts; memory = memory' }) → (row_of call).touch ≡ touches.MemoryOf rank
+    → IsCalledThere s t c call (replies.Value old) posts memory (record { posts = counted posts; memory = memory' }) → (row_of call).footprint ≡ touches.MemoryOf rank
     → IsWordFound s.limits c.rank posts memory seg offset rank old
     → memory' ≡ with_bytes memory seg (with_range (bytes_of memory seg) offset (little_bytes 8 new)) → IsWritten s t c.rank rank seg offset (little_bytes 8 new)
 word-written s t c call seg offset rank old new posts memory memory' sound m touches_rank found leaves =
     let worked : memory_rank s.limits c.rank call ≡ rank =
-    ap (λ (touch : Touch). memory_place (reach_of s.limits.ranks c.rank touch) c.rank) touches_rank ∙ worked-there s.limits.ranks rank c.rank found.ranked in
-    let same : (all : List Posts) → told s.limits.ranks c.rank posts call (replies.Value old) all ≡ all = (λ all.
-    ap (λ (touch : Touch). told_at (reach_of s.limits.ranks c.rank touch) c.rank posts call (replies.Value old) all) touches_rank
+    ap (λ (touch : DeclaredFootprint). memory_place (footprint_of s.limits.ranks c.rank touch) c.rank) touches_rank ∙ on_memory-there s.limits.ranks rank c.rank found.ranked in
+    let same : (all : List Posts) → registering s.limits.ranks c.rank posts call (replies.Value old) all ≡ all = (λ all.
+    ap (λ (touch : DeclaredFootprint). registered_at (footprint_of s.limits.ranks c.rank touch) c.rank posts call (replies.Value old) all) touches_rank
     ∙ tells-none s.limits.ranks rank c.rank posts call (replies.Value old) all) in
     let less = ltb-true rank s.limits.ranks found.ranked in
     let there = there-in-generation memory.segments seg found.theirs.generation found.there in
@@ -180,12 +180,12 @@ word-written s t c call seg offset rank old new posts memory memory' sound m tou
     written s t c call (replies.Value old) rank seg offset (little_bytes 8 new) posts memory memory' there.0 m worked same leaves there.1 (omega arith)
 
 -- what an atomic answers stands in the word
-word-answered : (s t : State) (c : CallerId) (call : Call) (reply : Reply) (seg offset rank old : ℕ) (posts : Posts) (memory : Memory) (after : Worked)
-    → IsCalledThere s t c call reply posts memory after → (row_of call).touch ≡ touches.MemoryOf rank → IsWordFound s.limits c.rank posts memory seg offset rank old
+word-answered : (s t : State) (c : CallerId) (call : Call) (reply : Reply) (seg offset rank old : ℕ) (posts : Posts) (memory : Memory) (after : PostsAndMemory)
+    → IsCalledThere s t c call reply posts memory after → (row_of call).footprint ≡ touches.MemoryOf rank → IsWordFound s.limits c.rank posts memory seg offset rank old
     → IsAnswered s rank seg (λ x. word_at x.bytes offset ≡ old)
 word-answered s t c call reply seg offset rank old posts memory after m touches_rank found =
     let worked : memory_rank s.limits c.rank call ≡ rank =
-    ap (λ (touch : Touch). memory_place (reach_of s.limits.ranks c.rank touch) c.rank) touches_rank ∙ worked-there s.limits.ranks rank c.rank found.ranked in
+    ap (λ (touch : DeclaredFootprint). memory_place (footprint_of s.limits.ranks c.rank touch) c.rank) touches_rank ∙ on_memory-there s.limits.ranks rank c.rank found.ranked in
     let there = there-in-generation memory.segments seg found.theirs.generation found.there in
     record {
       memory = memory;
@@ -247,7 +247,7 @@ swap-kept s t c call old apart h =
     let there = there-in-generation memory.segments call.seg found.theirs.generation found.there in
     let kept : made.2.memory ≡ memory = rw m.is.leaves (rw (differs (word_at (bytes_of memory call.seg) call.offset) found.value) (same-memory memory there.0 there.1)) in
     let after : made.2.posts ≡ counted posts = rw m.is.leaves refl in
-    let reach = call_reach s.limits.ranks c.rank (CompareSwap call) in
+    let reach = call-footprint s.limits.ranks c.rank (CompareSwap call) in
     record {
       posts = posts;
       there = m.posts_there;

@@ -2,7 +2,7 @@
 use Rattle.std.proofs.Common.{◌≡◌, ℕ, zero, suc, ◌+◌, Bool, true, false, ◌==◌, List, [], ◌∷◌, map, Option, None, Some, Ok, refl, sym, ap, ◌∙◌, subst, arith, if◌then◌else◌}
 use Rattle.std.specs.List.{slice_get, slice_set, list_any, range_with_len}
 use Rattle.std.proofs.lemmas.Bool.{eqb-true}
-use Rattle.gaspi_types.specs.World.{World, is_caller}
+use Rattle.gaspi_types.specs.World.{ShapeValue, is_caller}
 use Rattle.gaspi_types.specs.Replies.{is_idle}
 use Rattle.gaspi_types.specs.declared.shapes.CallerId.{CallerId}
 use Rattle.gaspi_types.specs.declared.calls.Call.{Call}
@@ -17,17 +17,17 @@ use Rattle.gaspi_model.specs.State.{opening, opening_posts, opening_thread, thre
 use Rattle.gaspi_model.specs.Posting.{counted}
 use Rattle.gaspi_model.specs.Calls.{recorded_reply, posts_after}
 use Rattle.gaspi_types.specs.CallRows.{is_end}
-use Rattle.gaspi_model.specs.Step.{step, after, reached, own_calls, is_active, ends_caller}
+use Rattle.gaspi_model.specs.Step.{step, after, reached, recorded_calls, is_active, ends_caller}
 use Rattle.gaspi_model.specs.declared.states.Posts.{Posts}
 use Rattle.gaspi_model.specs.declared.states.State.{State}
 use Rattle.gaspi_model.specs.declared.states.ThreadState.{ThreadState}
 use Rattle.gaspi_model.specs.declared.states.ThreadState.TheVariants as threads
-use Rattle.gaspi_model.specs.Transfers.{Worked}
+use Rattle.gaspi_model.specs.Transfers.{PostsAndMemory}
 use Rattle.gaspi_types.proofs.Chains.{both}
 use Rattle.gaspi_model.proofs.Made.{step-called}
 use Rattle.gaspi_model.proofs.Same.{same_reply-same}
 use Rattle.gaspi_types.proofs.Items.{slice_get-set_same, map-at}
-use Rattle.gaspi_model.proofs.Sound.Told.{told-mine}
+use Rattle.gaspi_model.proofs.Sound.Registered.{registered-mine}
 use Rattle.gaspi_model.proofs.Ended.Activity.{active}
 use Rattle.gaspi_model.proofs.Histories.{after-first}
 
@@ -56,8 +56,8 @@ end-inactive s t c reply h =
     let m = made.3 in
     let answered = same_reply-same _ _ m.is.answered in
     let there : slice_get t.posts c.rank ≡ Some made.2.posts =
-    ap (λ (x : State). slice_get x.posts c.rank) m.leaves ∙ told-mine s.limits.ranks c.rank made.0 End reply (slice_set s.posts c.rank made.2.posts) ∙ slice_get-set_same s.posts c.rank made.0 made.2.posts m.posts_there in
-    let posts : made.2.posts ≡ posts_after s.limits c.rank made.0 c.thread End reply = ap (λ (x : Worked). x.posts) m.is.leaves in
+    ap (λ (x : State). slice_get x.posts c.rank) m.leaves ∙ registered-mine s.limits.ranks c.rank made.0 End reply (slice_set s.posts c.rank made.2.posts) ∙ slice_get-set_same s.posts c.rank made.0 made.2.posts m.posts_there in
+    let posts : made.2.posts ≡ posts_after s.limits c.rank made.0 c.thread End reply = ap (λ (x : PostsAndMemory). x.posts) m.is.leaves in
     let none = end-after made.0 c.thread reply (is_running (thread_at made.0 c.thread)) refl answered in
     in-posts made.2.posts there (ap (λ (p : Posts). is_running (thread_at p c.thread)) posts ∙ none)
   where
@@ -77,7 +77,7 @@ end-apart call reply reply' not_end h =
 
 -- where a caller is active after events, it was so before them, and none of them is its end
 pub after-active : (s t : State) (events : List Event) (rank thread : ℕ) → after s events ≡ Ok t → is_active t rank thread ≡ true
-    → (is_active s rank thread ≡ true) × HasNoEnd (own_calls rank thread events)
+    → (is_active s rank thread ≡ true) × HasNoEnd (recorded_calls rank thread events)
 after-active s t [] rank thread h is = ((let same : s ≡ t = cc in rw same is), λ k reply at. (let no : ⊥ = cc in no))
 after-active s t (e ∷ events) rank thread h is =
     let first = after-first s t e events h in
@@ -85,15 +85,15 @@ after-active s t (e ∷ events) rank thread h is =
     by-end first.0 e first.1 (ends_caller rank thread e) refl rest.0 rest.1
   where
     -- an event that is not the caller's end
-    other : (s1 : State) (x : Event) → step s x ≡ Ok s1 → ends_caller rank thread x ≡ false → is_active s1 rank thread ≡ true → HasNoEnd (own_calls rank thread events)
-        → (is_active s rank thread ≡ true) × HasNoEnd (own_calls rank thread (x ∷ events))
+    other : (s1 : State) (x : Event) → step s x ≡ Ok s1 → ends_caller rank thread x ≡ false → is_active s1 rank thread ≡ true → HasNoEnd (recorded_calls rank thread events)
+        → (is_active s rank thread ≡ true) × HasNoEnd (recorded_calls rank thread (x ∷ events))
     other s1 (Called c call reply) made ends is1 none = (sym (active s s1 (Called c call reply) rank thread made ends) ∙ is1, by-caller (is_caller rank thread c) refl)
       where
-        head : is_end call ≡ false → HasNoEnd ((call, reply) ∷ own_calls rank thread events)
+        head : is_end call ≡ false → HasNoEnd ((call, reply) ∷ recorded_calls rank thread events)
         head not_end zero reply' at = end-apart call reply reply' not_end at
         head not_end (suc k) reply' at = none k reply' at
 
-        by-caller : (b : Bool) → is_caller rank thread c ≡ b → HasNoEnd (own_calls rank thread (Called c call reply ∷ events))
+        by-caller : (b : Bool) → is_caller rank thread c ≡ b → HasNoEnd (recorded_calls rank thread (Called c call reply ∷ events))
         by-caller true mine = rw mine (head (rw mine at ends))
         by-caller false foreign = rw foreign none
     other s1 transfer made ends is1 none = (sym (active s s1 transfer rank thread made ends) ∙ is1, none)
@@ -115,8 +115,8 @@ after-active s t (e ∷ events) rank thread h is =
         by-call other ending made is_r is_t = cc
     end s1 transfer made ends is1 = cc
 
-    by-end : (s1 : State) (x : Event) → step s x ≡ Ok s1 → (b : Bool) → ends_caller rank thread x ≡ b → is_active s1 rank thread ≡ true → HasNoEnd (own_calls rank thread events)
-        → (is_active s rank thread ≡ true) × HasNoEnd (own_calls rank thread (x ∷ events))
+    by-end : (s1 : State) (x : Event) → step s x ≡ Ok s1 → (b : Bool) → ends_caller rank thread x ≡ b → is_active s1 rank thread ≡ true → HasNoEnd (recorded_calls rank thread events)
+        → (is_active s rank thread ≡ true) × HasNoEnd (recorded_calls rank thread (x ∷ events))
     by-end s1 x made false ends is1 none = other s1 x made ends is1 none
     by-end s1 x made true ends is1 none = absurd (end s1 x made ends is1)
 
@@ -127,7 +127,7 @@ range-item a (suc n) zero r at = let same : a ≡ r = cc in sym same ∙ omega a
 range-item a (suc n) (suc i) r at = range-item (a + 1) n i r at ∙ omega arith
 
 -- a caller that is active at the start is one of the world
-opening-declared : (w : World) (rank thread : ℕ) → is_active (opening w) rank thread ≡ true → list_any (is_caller rank thread) w.callers ≡ true
+opening-declared : (w : ShapeValue) (rank thread : ℕ) → is_active (opening w) rank thread ≡ true → list_any (is_caller rank thread) w.callers ≡ true
 opening-declared w rank thread h = by-posts (slice_get (opening w).posts rank) refl
   where
     running : (b : Bool) → is_running (if b then threads.Running else threads.Absent) ≡ true → b ≡ true
@@ -151,8 +151,8 @@ opening-declared w rank thread h = by-posts (slice_get (opening w).posts rank) r
         by-thread (slice_get (map (opening_thread w rank) (range_with_len 0 4)) thread) refl
         (subst (λ (n : ℕ). is_running (thread_at (opening_posts w n) thread) ≡ true) number (subst (λ (x : Posts). is_running (thread_at x thread) ≡ true) from.2 here))
 
-pub active-history : (w : World) (history : List Event) (s : State) (rank thread : ℕ) → reached w history ≡ Ok s → is_active s rank thread ≡ true
-    → (list_any (is_caller rank thread) w.callers ≡ true) × HasNoEnd (own_calls rank thread history)
+pub active-history : (w : ShapeValue) (history : List Event) (s : State) (rank thread : ℕ) → reached w history ≡ Ok s → is_active s rank thread ≡ true
+    → (list_any (is_caller rank thread) w.callers ≡ true) × HasNoEnd (recorded_calls rank thread history)
 active-history w history s rank thread h is =
     let both = after-active (opening w) s history rank thread h is in
     (opening-declared w rank thread both.0, both.1)

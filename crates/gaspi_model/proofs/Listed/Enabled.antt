@@ -7,7 +7,7 @@ use Rattle.std.proofs.lemmas.Bool.{le-leb, lt-ltb, eq-eqb, eqb-true}
 use Rattle.std.proofs.lemmas.Cmp.{int_eq_equiv}
 use Rattle.std.proofs.lemmas.Option.{slice_get_within}
 use Rattle.gaspi_types.specs.Checks.{◌>>=◌}
-use Rattle.gaspi_types.specs.Lanes.{may_take, may_put, place_of}
+use Rattle.gaspi_types.specs.Lanes.{may_take, may_put, position_of}
 use Rattle.gaspi_types.specs.CallRows.{row_of, is_end, entries_of, need_of}
 use Rattle.gaspi_types.specs.Replies.{refusal_number, refusal_fields, type_number, same_refusal, same_numbers, same_reply, is_done}
 use Rattle.gaspi_types.specs.declared.collectives.Numbers.{Numbers}
@@ -27,15 +27,15 @@ use Rattle.gaspi_types.specs.declared.events.Event.{Event}
 use Rattle.gaspi_types.specs.declared.events.Event.TheVariants.{Called, Take, Put}
 use Rattle.gaspi_model.specs.State.{owed, thread_at, is_running}
 use Rattle.gaspi_model.specs.Calls.{answer, recorded_reply, charge, peer_after}
-use Rattle.gaspi_model.specs.Parts.{Parts, parts_of, with_parts, touched_of, worked_memory, with_worked_memory}
-use Rattle.gaspi_model.proofs.Made.{worked-at, memory_at, take_reach, put_reach, entry-found}
-use Rattle.gaspi_types.specs.declared.touches.Touch.TheVariants as touches
-use Rattle.gaspi_types.specs.Touches.{reach_of}
-use Rattle.gaspi_types.specs.declared.touches.Reach.{Reach}
+use Rattle.gaspi_model.specs.Parts.{Parts, parts_of, with_parts, part_numbers, accessed_memory, with_accessed_memory}
+use Rattle.gaspi_model.proofs.Made.{on_memory-at, memory_at, take-footprint, put-footprint, entry-found}
+use Rattle.gaspi_types.specs.declared.footprints.DeclaredFootprint.TheVariants as touches
+use Rattle.gaspi_types.specs.Footprints.{footprint_of}
+use Rattle.gaspi_types.specs.declared.footprints.Footprint.{Footprint}
 use Rattle.std.specs.Option.{option_map}
-use Rattle.gaspi_model.specs.Transfers.{find_entry, entry_in, take, put, Worked, outcome_at, take_outcome, put_outcome, same_outcome, transfer_of, lane_transfers, queue_transfers, rank_transfers, transfers}
+use Rattle.gaspi_model.specs.Transfers.{find_entry, entry_in, take, put, PostsAndMemory, outcome_at, take_outcome, put_outcome, same_outcome, transfer_of, lane_transfers, queue_transfers, rank_transfers, transfers}
 use Rattle.gaspi_types.specs.declared.inboxes.Message.{Message}
-use Rattle.gaspi_model.specs.Step.{call_brought, step, called, is_there, call_memory, event_reach, answer_in, is_active, room_taken, transfer_event}
+use Rattle.gaspi_model.specs.Step.{call_message, step, called, is_there, call_memory, event_footprint, answer_in, is_active, used_room, transfer_event}
 use Rattle.gaspi_model.specs.Sound.{IsSound}
 use Rattle.gaspi_types.specs.declared.entries.Queue.{Queue}
 use Rattle.gaspi_model.specs.declared.states.ThreadState.{ThreadState}
@@ -50,8 +50,8 @@ use Rattle.gaspi_types.specs.declared.groups.Group.{Group}
 use Rattle.gaspi_types.specs.declared.replies.Ready.TheVariants as ready
 use Rattle.gaspi_model.specs.CollectiveCalls.{collective_answer, is_reply_of, is_joining}
 use Rattle.gaspi_model.specs.Parts.{group_or_none}
-use Rattle.gaspi_model.specs.Step.{Met, completed, group_in, is_pending}
-use Rattle.gaspi_model.proofs.GroupSteps.{group-worked, collective-touch}
+use Rattle.gaspi_model.specs.Step.{PostsAndGroup, completed, group_in, is_pending}
+use Rattle.gaspi_model.proofs.GroupSteps.{group-on_memory, collective-footprint}
 use Rattle.gaspi_model.proofs.Sound.Rising.{place_of-rising}
 use Rattle.gaspi_types.proofs.Items.{past-none, flat_map-parts, enumerate-at}
 
@@ -155,28 +155,28 @@ called-step : (s : State) (rank thread : ℕ) (call : Call) (posts : Posts) (pen
 called-step s rank thread call posts pending plain hp running room =
     let memory = call_memory s rank posts call in
     let reply = recorded_reply (answer s.limits rank posts memory thread call) in
-    let reach = reach_of s.limits.ranks rank (row_of call).touch in
-    let parts = parts_of s posts (touched_of rank reach) in
-    let leave = λ (after : Worked). (let left : Parts = record (with_worked_memory reach parts after.memory) { posts = after.posts; peer_posts = option_map (peer_after rank posts call reply) parts.peer_posts } in left) in
-    let recorded = called-enabled s.limits rank posts (call_brought s rank call) memory thread call pending plain running room in
-    rw (hp, plain) (ok-then (called s.limits rank posts (call_brought s rank call) memory thread call reply >>= λ after. Ok (leave after)) (with_parts s rank (touched_of rank reach))
-    (ok-then (called s.limits rank posts (call_brought s rank call) memory thread call reply) leave recorded))
+    let reach = footprint_of s.limits.ranks rank (row_of call).footprint in
+    let parts = parts_of s posts (part_numbers rank reach) in
+    let leave = λ (after : PostsAndMemory). (let left : Parts = record (with_accessed_memory reach parts after.memory) { posts = after.posts; peer_posts = option_map (peer_after rank posts call reply) parts.peer_posts } in left) in
+    let recorded = called-enabled s.limits rank posts (call_message s rank call) memory thread call pending plain running room in
+    rw (hp, plain) (ok-then (called s.limits rank posts (call_message s rank call) memory thread call reply >>= λ after. Ok (leave after)) (with_parts s rank (part_numbers rank reach))
+    (ok-then (called s.limits rank posts (call_message s rank call) memory thread call reply) leave recorded))
 
 -- a collective with the reply that it has
 completed-step : (s : State) (rank thread id : ℕ) (call : Call) (posts : Posts) (found : Ready) → (row_of call).group ≡ Some id → slice_get s.posts rank ≡ Some posts → is_running (thread_at posts thread) ≡ true
     → posts.events + owed posts + 1 ≤ s.limits.events → collective_answer posts (group_in s id) rank thread id call ≡ found → is_joining found ≡ false
     → IsOk (step s (Called (record { rank = rank; thread = thread }) call (recorded_reply found)))
 completed-step s rank thread id call posts found named hp running room is answered =
-    let reach = reach_of s.limits.ranks rank (row_of call).touch in
-    let parts = parts_of s posts (touched_of rank reach) in
-    let group = group-worked s posts rank id (row_of call).touch (collective-touch call id named) in
+    let reach = footprint_of s.limits.ranks rank (row_of call).footprint in
+    let parts = parts_of s posts (part_numbers rank reach) in
+    let group = group-on_memory s posts rank id (row_of call).footprint (collective-footprint call id named) in
     let there = running-there (thread_at posts thread) running in
     let fits = le-leb (posts.events + owed posts + 1) s.limits.events room in
     let answers : is_reply_of (collective_answer posts (group_or_none parts.group) rank thread id call) (recorded_reply found) ≡ true =
     ap (λ (g : Group). is_reply_of (collective_answer posts g rank thread id call) (recorded_reply found)) group ∙ ap (λ (r : Ready). is_reply_of r (recorded_reply found)) is ∙ itself found answered in
     let done : IsOk (completed s.limits rank posts (group_or_none parts.group) thread id call (recorded_reply found)) = rw (there, answers, fits) refl in
-    let leave = λ (after : Met). (let left : Parts = record parts { posts = after.posts; group = Some after.group } in left) in
-    rw (hp, named) (ok-then (completed s.limits rank posts (group_or_none parts.group) thread id call (recorded_reply found) >>= λ after. Ok (leave after)) (with_parts s rank (touched_of rank reach))
+    let leave = λ (after : PostsAndGroup). (let left : Parts = record parts { posts = after.posts; group = Some after.group } in left) in
+    rw (hp, named) (ok-then (completed s.limits rank posts (group_or_none parts.group) thread id call (recorded_reply found) >>= λ after. Ok (leave after)) (with_parts s rank (part_numbers rank reach))
     (ok-then (completed s.limits rank posts (group_or_none parts.group) thread id call (recorded_reply found)) leave done))
   where
     itself : (r : Ready) → is_joining r ≡ false → is_reply_of r (recorded_reply r) ≡ true
@@ -185,7 +185,7 @@ completed-step s rank thread id call posts found named hp running room is answer
     itself ready.NotReady h = refl
 
 pub called-is_step : (s : State) (rank thread : ℕ) (call : Call) (found : Ready) → IsSound s → is_active s rank thread ≡ true
-    → room_taken s rank + need_of call (is_pending s rank thread call) false ≤ s.limits.events → answer_in s rank thread call ≡ Some found → is_joining found ≡ false
+    → used_room s rank + need_of call (is_pending s rank thread call) false ≤ s.limits.events → answer_in s rank thread call ≡ Some found → is_joining found ≡ false
     → IsOk (step s (Called (record { rank = rank; thread = thread }) call (recorded_reply found)))
 called-is_step s rank thread call found sound active room is answered = by-group (row_of call).group refl
   where
@@ -201,11 +201,11 @@ called-is_step s rank thread call found sound active room is answered = by-group
         subst (λ (r : Ready). IsOk (step s (Called (record { rank = rank; thread = thread }) call (recorded_reply r)))) same
         (called-step s rank thread call posts (is_pending s rank thread call) plain hp running room')
       where
-        taken : (x : Posts) → slice_get s.posts rank ≡ Some x → room_taken s rank ≡ x.events + owed x
+        taken : (x : Posts) → slice_get s.posts rank ≡ Some x → used_room s rank ≡ x.events + owed x
         taken x at = rw at refl
     with-posts posts hp running (Some id) named =
         let one = needs-one call id (is_pending s rank thread call) named in
-        let taken : room_taken s rank ≡ posts.events + owed posts = rw hp refl in
+        let taken : used_room s rank ≡ posts.events + owed posts = rw hp refl in
         let answers : ◌≡◌ {A = Option Ready} (Some (collective_answer posts (group_in s id) rank thread id call)) (Some found) = rw (hp, named) at is in
         let same : collective_answer posts (group_in s id) rank thread id call ≡ found = cc in
         completed-step s rank thread id call posts found named hp running (omega arith) same answered
@@ -283,16 +283,16 @@ listed limits table t k at =
 -- A transfer that is listed is a step.
 
 found-entry : (posts : Posts) (t : Transfer) (q : Queue) (lane : List Entry) (place : ℕ) (e : Entry) (why : Why) → slice_get posts.queues t.queue ≡ Some q → slice_get q.lanes t.target ≡ Some lane
-    → place_of lane t.number ≡ Some place → slice_get lane place ≡ Some e
-    → find_entry posts t.queue t.target t.number why ≡ Ok (record { queue = q; lane = lane; place = place; entry = e })
+    → position_of lane t.number ≡ Some place → slice_get lane place ≡ Some e
+    → find_entry posts t.queue t.target t.number why ≡ Ok (record { queue = q; lane = lane; position = place; entry = e })
 found-entry posts t q lane place e why hq hl hp he = rw (hq, hl, hp, he) refl
 
 -- the memory of a rank that an event reaches is that rank's
 target-memory : (s : State) (origin target : ℕ) (memory : Memory) → slice_get s.memories target ≡ Some memory → target < s.limits.ranks
-    → memory_at (reach_of s.limits.ranks origin (touches.MemoryOf target)) origin s.memories ≡ memory
+    → memory_at (footprint_of s.limits.ranks origin (touches.MemoryOf target)) origin s.memories ≡ memory
 target-memory s origin target memory there ranked = go (target == origin) refl
   where
-    go : (b : Bool) → (target == origin) ≡ b → memory_at (reach_of s.limits.ranks origin (touches.MemoryOf target)) origin s.memories ≡ memory
+    go : (b : Bool) → (target == origin) ≡ b → memory_at (footprint_of s.limits.ranks origin (touches.MemoryOf target)) origin s.memories ≡ memory
     go true is =
         let here : slice_get s.memories origin ≡ Some memory = subst (λ (n : ℕ). slice_get s.memories n ≡ Some memory) (eqb-true target origin is) there in
         rw (is, here) refl
@@ -300,33 +300,33 @@ target-memory s origin target memory there ranked = go (target == origin) refl
 
 -- so the machine's outcome of a transfer is told by the memory of its target
 take-outcome : (s : State) (origin target : ℕ) (memory : Memory) (kind : Kind) → slice_get s.memories target ≡ Some memory → target < s.limits.ranks
-    → take_outcome (memory_at (take_reach s.limits.ranks origin target kind) origin s.memories) kind ≡ take_outcome memory kind
+    → take_outcome (memory_at (take-footprint s.limits.ranks origin target kind) origin s.memories) kind ≡ take_outcome memory kind
 take-outcome s origin target memory (Write own to) there ranked = refl
 take-outcome s origin target memory (Read own to) there ranked = ap (λ (m : Memory). outcome_at m to.segment to.generation) (target-memory s origin target memory there ranked)
 take-outcome s origin target memory (Notify to value) there ranked = refl
 take-outcome s origin target memory (ReadNote own) there ranked = refl
 
 put-outcome : (s : State) (origin target : ℕ) (memory : Memory) (kind : Kind) → slice_get s.memories target ≡ Some memory → target < s.limits.ranks
-    → put_outcome (memory_at (put_reach s.limits.ranks origin target kind) origin s.memories) kind ≡ put_outcome memory kind
+    → put_outcome (memory_at (put-footprint s.limits.ranks origin target kind) origin s.memories) kind ≡ put_outcome memory kind
 put-outcome s origin target memory (Write own to) there ranked = ap (λ (m : Memory). outcome_at m to.segment to.generation) (target-memory s origin target memory there ranked)
 put-outcome s origin target memory (Read own to) there ranked = refl
 put-outcome s origin target memory (Notify to value) there ranked = ap (λ (m : Memory). outcome_at m to.segment to.generation) (target-memory s origin target memory there ranked)
 put-outcome s origin target memory (ReadNote own) there ranked = refl
 
 -- the memory that a transfer works on
-take-worked : (s : State) (posts : Posts) (origin queue target number : ℕ) (outcome : Outcome) (e : Entry) → entry_in posts queue target number ≡ Some e
-    → worked_memory (event_reach s.limits posts (Take origin queue target number outcome)) (parts_of s posts (touched_of origin (event_reach s.limits posts (Take origin queue target number outcome))))
-    ≡ memory_at (take_reach s.limits.ranks origin target e.kind) origin s.memories
-take-worked s posts origin queue target number outcome e found =
-    let reaches : event_reach s.limits posts (Take origin queue target number outcome) ≡ take_reach s.limits.ranks origin target e.kind = rw found refl in
-    worked-at s posts origin (event_reach s.limits posts (Take origin queue target number outcome)) ∙ ap (λ (r : Reach). memory_at r origin s.memories) reaches
+take-on_memory : (s : State) (posts : Posts) (origin queue target number : ℕ) (outcome : Outcome) (e : Entry) → entry_in posts queue target number ≡ Some e
+    → accessed_memory (event_footprint s.limits posts (Take origin queue target number outcome)) (parts_of s posts (part_numbers origin (event_footprint s.limits posts (Take origin queue target number outcome))))
+    ≡ memory_at (take-footprint s.limits.ranks origin target e.kind) origin s.memories
+take-on_memory s posts origin queue target number outcome e found =
+    let reaches : event_footprint s.limits posts (Take origin queue target number outcome) ≡ take-footprint s.limits.ranks origin target e.kind = rw found refl in
+    on_memory-at s posts origin (event_footprint s.limits posts (Take origin queue target number outcome)) ∙ ap (λ (r : Footprint). memory_at r origin s.memories) reaches
 
-put-worked : (s : State) (posts : Posts) (origin queue target number : ℕ) (outcome : Outcome) (e : Entry) → entry_in posts queue target number ≡ Some e
-    → worked_memory (event_reach s.limits posts (Put origin queue target number outcome)) (parts_of s posts (touched_of origin (event_reach s.limits posts (Put origin queue target number outcome))))
-    ≡ memory_at (put_reach s.limits.ranks origin target e.kind) origin s.memories
-put-worked s posts origin queue target number outcome e found =
-    let reaches : event_reach s.limits posts (Put origin queue target number outcome) ≡ put_reach s.limits.ranks origin target e.kind = rw found refl in
-    worked-at s posts origin (event_reach s.limits posts (Put origin queue target number outcome)) ∙ ap (λ (r : Reach). memory_at r origin s.memories) reaches
+put-on_memory : (s : State) (posts : Posts) (origin queue target number : ℕ) (outcome : Outcome) (e : Entry) → entry_in posts queue target number ≡ Some e
+    → accessed_memory (event_footprint s.limits posts (Put origin queue target number outcome)) (parts_of s posts (part_numbers origin (event_footprint s.limits posts (Put origin queue target number outcome))))
+    ≡ memory_at (put-footprint s.limits.ranks origin target e.kind) origin s.memories
+put-on_memory s posts origin queue target number outcome e found =
+    let reaches : event_footprint s.limits posts (Put origin queue target number outcome) ≡ put-footprint s.limits.ranks origin target e.kind = rw found refl in
+    on_memory-at s posts origin (event_footprint s.limits posts (Put origin queue target number outcome)) ∙ ap (λ (r : Footprint). memory_at r origin s.memories) reaches
 
 pub transfer-is_step : (s : State) (t : Transfer) (k : ℕ) → IsSound s → slice_get (transfers s.limits s.posts) k ≡ Some t → IsOk (step s (transfer_event s t))
 transfer-is_step s t k sound at =
@@ -335,41 +335,41 @@ transfer-is_step s t k sound at =
   where
     take-step : (posts : Posts) (q : Queue) (lane : List Entry) (place : ℕ) (e : Entry) (memory : Memory) → slice_get s.posts t.origin ≡ Some posts → slice_get s.memories t.target ≡ Some memory
         → t.target < s.limits.ranks → entry_in posts t.queue t.target t.number ≡ Some e
-        → find_entry posts t.queue t.target t.number whys.Take ≡ Ok (record { queue = q; lane = lane; place = place; entry = e })
+        → find_entry posts t.queue t.target t.number whys.Take ≡ Ok (record { queue = q; lane = lane; position = place; entry = e })
         → is_none q.broken ≡ true → may_take s.limits.depth lane e ≡ true → IsOk (step s (Take t.origin t.queue t.target t.number (take_outcome memory e.kind)))
     take-step posts q lane place e memory hp hm ranked found hf whole permitted =
         let outcome = take_outcome memory e.kind in
-        let reach = event_reach s.limits posts (Take t.origin t.queue t.target t.number outcome) in
-        let parts = parts_of s posts (touched_of t.origin reach) in
-        let worked = memory_at (take_reach s.limits.ranks t.origin t.target e.kind) t.origin s.memories in
+        let reach = event_footprint s.limits posts (Take t.origin t.queue t.target t.number outcome) in
+        let parts = parts_of s posts (part_numbers t.origin reach) in
+        let worked = memory_at (take-footprint s.limits.ranks t.origin t.target e.kind) t.origin s.memories in
         let leave = λ (after : Posts). (let left : Parts = record parts { posts = after } in left) in
         let fits : same_outcome outcome (take_outcome worked e.kind) ≡ true = rw (take-outcome s t.origin t.target memory e.kind hm ranked) (same_outcome-refl outcome) in
         let takes : IsOk (take s.limits posts worked t.queue t.target t.number outcome) = rw (hf, whole, permitted, fits) refl in
-        let done : IsOk (take s.limits posts (worked_memory reach parts) t.queue t.target t.number outcome) =
-        subst (λ (m : Memory). IsOk (take s.limits posts m t.queue t.target t.number outcome)) (sym (take-worked s posts t.origin t.queue t.target t.number outcome e found)) takes in
-        rw hp (ok-then (take s.limits posts (worked_memory reach parts) t.queue t.target t.number outcome >>= λ after. Ok (leave after)) (with_parts s t.origin (touched_of t.origin reach))
-        (ok-then (take s.limits posts (worked_memory reach parts) t.queue t.target t.number outcome) leave done))
+        let done : IsOk (take s.limits posts (accessed_memory reach parts) t.queue t.target t.number outcome) =
+        subst (λ (m : Memory). IsOk (take s.limits posts m t.queue t.target t.number outcome)) (sym (take-on_memory s posts t.origin t.queue t.target t.number outcome e found)) takes in
+        rw hp (ok-then (take s.limits posts (accessed_memory reach parts) t.queue t.target t.number outcome >>= λ after. Ok (leave after)) (with_parts s t.origin (part_numbers t.origin reach))
+        (ok-then (take s.limits posts (accessed_memory reach parts) t.queue t.target t.number outcome) leave done))
 
     put-step : (posts : Posts) (q : Queue) (lane : List Entry) (place : ℕ) (e : Entry) (memory : Memory) → slice_get s.posts t.origin ≡ Some posts → slice_get s.memories t.target ≡ Some memory
         → t.target < s.limits.ranks → entry_in posts t.queue t.target t.number ≡ Some e
-        → find_entry posts t.queue t.target t.number whys.Put ≡ Ok (record { queue = q; lane = lane; place = place; entry = e })
+        → find_entry posts t.queue t.target t.number whys.Put ≡ Ok (record { queue = q; lane = lane; position = place; entry = e })
         → is_none q.broken ≡ true → may_put lane e ≡ true → IsOk (step s (Put t.origin t.queue t.target t.number (put_outcome memory e.kind)))
     put-step posts q lane place e memory hp hm ranked found hf whole permitted =
         let outcome = put_outcome memory e.kind in
-        let reach = event_reach s.limits posts (Put t.origin t.queue t.target t.number outcome) in
-        let parts = parts_of s posts (touched_of t.origin reach) in
-        let worked = memory_at (put_reach s.limits.ranks t.origin t.target e.kind) t.origin s.memories in
-        let leave = λ (after : Worked). (let left : Parts = record (with_worked_memory reach parts after.memory) { posts = after.posts } in left) in
+        let reach = event_footprint s.limits posts (Put t.origin t.queue t.target t.number outcome) in
+        let parts = parts_of s posts (part_numbers t.origin reach) in
+        let worked = memory_at (put-footprint s.limits.ranks t.origin t.target e.kind) t.origin s.memories in
+        let leave = λ (after : PostsAndMemory). (let left : Parts = record (with_accessed_memory reach parts after.memory) { posts = after.posts } in left) in
         let fits : same_outcome outcome (put_outcome worked e.kind) ≡ true = rw (put-outcome s t.origin t.target memory e.kind hm ranked) (same_outcome-refl outcome) in
         let puts : IsOk (put posts worked t.queue t.target t.number outcome) = rw (hf, whole, permitted, fits) refl in
-        let done : IsOk (put posts (worked_memory reach parts) t.queue t.target t.number outcome) =
-        subst (λ (m : Memory). IsOk (put posts m t.queue t.target t.number outcome)) (sym (put-worked s posts t.origin t.queue t.target t.number outcome e found)) puts in
-        rw hp (ok-then (put posts (worked_memory reach parts) t.queue t.target t.number outcome >>= λ after. Ok (leave after)) (with_parts s t.origin (touched_of t.origin reach))
-        (ok-then (put posts (worked_memory reach parts) t.queue t.target t.number outcome) leave done))
+        let done : IsOk (put posts (accessed_memory reach parts) t.queue t.target t.number outcome) =
+        subst (λ (m : Memory). IsOk (put posts m t.queue t.target t.number outcome)) (sym (put-on_memory s posts t.origin t.queue t.target t.number outcome e found)) puts in
+        rw hp (ok-then (put posts (accessed_memory reach parts) t.queue t.target t.number outcome >>= λ after. Ok (leave after)) (with_parts s t.origin (part_numbers t.origin reach))
+        (ok-then (put posts (accessed_memory reach parts) t.queue t.target t.number outcome) leave done))
 
     by-kind : (posts : Posts) (q : Queue) (lane : List Entry) (place : ℕ) (e : Entry) (target : Memory) → slice_get s.posts t.origin ≡ Some posts
         → slice_get s.memories t.target ≡ Some target → t.target < s.limits.ranks → entry_in posts t.queue t.target t.number ≡ Some e
-        → ((why : Why) → find_entry posts t.queue t.target t.number why ≡ Ok (record { queue = q; lane = lane; place = place; entry = e }))
+        → ((why : Why) → find_entry posts t.queue t.target t.number why ≡ Ok (record { queue = q; lane = lane; position = place; entry = e }))
         → is_none q.broken ≡ true → (b : Bool) → t.put ≡ b → (if b then may_put lane e else may_take s.limits.depth lane e) ≡ true → IsOk (step s (transfer_event s t))
     by-kind posts q lane place e target hp ht ranked found hf whole true is permitted =
         let event : transfer_event s t ≡ Put t.origin t.queue t.target t.number (put_outcome target e.kind) = rw (is, hp, ht, hf whys.Put) refl in
@@ -386,8 +386,8 @@ transfer-is_step s t k sound at =
         let ranked : t.target < s.limits.ranks = omega arith in
         let their = memory-there s t.target sound ranked in
         let rising = p.rising t.queue q l.queue_there t.target lane l.lane_there in
-        let at : place_of lane t.number ≡ Some place = subst (λ (n : ℕ). place_of lane n ≡ Some place) (sym l.number) (place_of-rising posts.next lane place e rising l.entry_there) in
-        let found = entry-found posts t.queue t.target t.number (record { queue = q; lane = lane; place = place; entry = e })
+        let at : position_of lane t.number ≡ Some place = subst (λ (n : ℕ). position_of lane n ≡ Some place) (sym l.number) (place_of-rising posts.next lane place e rising l.entry_there) in
+        let found = entry-found posts t.queue t.target t.number (record { queue = q; lane = lane; position = place; entry = e })
         (record { in_posts = l.queue_there; in_queue = l.lane_there; numbered = at; in_lane = l.entry_there }) in
         by-kind posts q lane place e their.0 l.posts_there their.1 ranked found
         (λ why. found-entry posts t q lane place e why l.queue_there l.lane_there at l.entry_there) l.whole t.put refl l.permitted

@@ -6,8 +6,8 @@ use Rattle.gaspi_types.specs.CallRows.{row_of, need_of}
 use Rattle.gaspi_types.specs.Checks.{◌>>=◌}
 use Rattle.gaspi_types.specs.Collectives.{same_args}
 use Rattle.gaspi_types.specs.Replies.{coll_fields}
-use Rattle.gaspi_types.specs.Tables.{entry_at}
-use Rattle.gaspi_types.specs.Touches.{reach_of}
+use Rattle.gaspi_types.specs.Tables.{item_at}
+use Rattle.gaspi_types.specs.Footprints.{footprint_of}
 use Rattle.gaspi_types.specs.declared.calls.Call.{Call}
 use Rattle.gaspi_types.specs.declared.calls.Call.TheVariants as calls
 use Rattle.gaspi_types.specs.declared.collectives.Coll.{Coll}
@@ -20,18 +20,18 @@ use Rattle.gaspi_types.specs.declared.replies.Ready.{Ready}
 use Rattle.gaspi_types.specs.declared.replies.Ready.TheVariants as ready
 use Rattle.gaspi_types.specs.declared.shapes.CallerId.{CallerId}
 use Rattle.gaspi_model.specs.CollectiveCalls.{plain_args, args_of, joining_call, collective_answer, is_join_of, is_joining, made_memory, made_posts, joined_posts}
-use Rattle.gaspi_model.specs.Parts.{Parts, group_or_none, parts_of, with_parts, touched_of, worked_memory, with_worked_memory}
+use Rattle.gaspi_model.specs.Parts.{Parts, group_or_none, parts_of, with_parts, part_numbers, accessed_memory, with_accessed_memory}
 use Rattle.gaspi_model.specs.Posting.{counted}
 use Rattle.gaspi_model.specs.Sound.{IsSound}
 use Rattle.gaspi_model.specs.State.{owed, thread_at, is_running}
-use Rattle.gaspi_model.specs.Step.{step, Met, joined, join_touch, group_in, answer_in, is_active, is_pending, is_pending_of, room_taken}
+use Rattle.gaspi_model.specs.Step.{step, PostsAndGroup, joined, join_footprint, group_in, answer_in, is_active, is_pending, is_pending_of, used_room}
 use Rattle.gaspi_model.specs.declared.states.Posts.{Posts}
 use Rattle.gaspi_model.specs.declared.states.State.{State}
 use Rattle.gaspi_types.proofs.Items.{slice_get-set_same}
 use Rattle.gaspi_model.proofs.CollectiveFinds.{MayJoin, join-found}
-use Rattle.gaspi_model.proofs.GroupSteps.{join-touch, group-worked, step-joined}
+use Rattle.gaspi_model.proofs.GroupSteps.{join-footprint, group-on_memory, step-joined}
 use Rattle.gaspi_model.proofs.Listed.Enabled.{pointwise-refl, same_numbers-refl, running-there, active-posts, ok-then, needs-one}
-use Rattle.gaspi_model.proofs.MetPosts.{met-joined}
+use Rattle.gaspi_model.proofs.CollectivePosts.{on_group-joined}
 use Rattle.gaspi_model.proofs.Sound.Completions.{group-there, staged-there}
 use Rattle.gaspi_model.proofs.Sound.GroupPosts.{owed-same}
 use Rattle.gaspi_model.proofs.Sound.GroupTables.{entry-set_same}
@@ -85,7 +85,7 @@ joins-itself s rank thread id call args named is = go (slice_get s.posts rank) r
         join-call may.0.members id call args may.1.args_is named
 
 -- a join of an active caller is a step where there is room for it
-pub join-is_step : (s : State) (rank thread id : ℕ) (call : Call) (args : Args) → IsSound s → is_active s rank thread ≡ true → room_taken s rank + need_of call (is_pending s rank thread call) false ≤ s.limits.events
+pub join-is_step : (s : State) (rank thread id : ℕ) (call : Call) (args : Args) → IsSound s → is_active s rank thread ≡ true → used_room s rank + need_of call (is_pending s rank thread call) false ≤ s.limits.events
     → (row_of call).group ≡ Some id → answer_in s rank thread call ≡ Some (ready.Join args) → IsOk (step s (Joined (record { rank = rank; thread = thread }) id args))
 join-is_step s rank thread id call args sound active room named is =
     let p = active-posts s rank thread active in
@@ -93,11 +93,11 @@ join-is_step s rank thread id call args sound active room named is =
   where
     with-posts : (posts : Posts) → slice_get s.posts rank ≡ Some posts → is_running (thread_at posts thread) ≡ true → IsOk (step s (Joined (record { rank = rank; thread = thread }) id args))
     with-posts posts hp running =
-        let reach = reach_of s.limits.ranks rank (join_touch id args.coll) in
-        let parts = parts_of s posts (touched_of rank reach) in
-        let group = group-worked s posts rank id (join_touch id args.coll) (join-touch id args.coll) in
+        let reach = footprint_of s.limits.ranks rank (join_footprint id args.coll) in
+        let parts = parts_of s posts (part_numbers rank reach) in
+        let group = group-on_memory s posts rank id (join_footprint id args.coll) (join-footprint id args.coll) in
         let one = needs-one call id (is_pending s rank thread call) named in
-        let taken : room_taken s rank ≡ posts.events + owed posts = rw hp refl in
+        let taken : used_room s rank ≡ posts.events + owed posts = rw hp refl in
         let fits = le-leb (posts.events + owed posts + 1) s.limits.events (omega arith) in
         let there = running-there (thread_at posts thread) running in
         let answer = in-posts s rank thread id call posts (ready.Join args) hp named is in
@@ -106,13 +106,13 @@ join-is_step s rank thread id call args sound active room named is =
         ap (λ (g : Group). is_join_of (collective_answer posts g rank thread id (joining_call id args)) args) group
         ∙ ap (λ (x : Call). is_join_of (collective_answer posts (group_in s id) rank thread id x) args) itself ∙ ap (λ (r : Ready). is_join_of r args) answer ∙ same_args-refl args in
         let done : IsOk (joined s.limits rank posts (group_or_none parts.group) thread id args) = rw (there, joins, fits) refl in
-        let leave = λ (after : Met). (let left : Parts = record (with_worked_memory reach parts (made_memory s.limits posts (worked_memory reach parts) args.coll)) { posts = after.posts; group = Some after.group } in left) in
-        rw hp (ok-then (joined s.limits rank posts (group_or_none parts.group) thread id args >>= λ after. Ok (leave after)) (with_parts s rank (touched_of rank reach))
+        let leave = λ (after : PostsAndGroup). (let left : Parts = record (with_accessed_memory reach parts (made_memory s.limits posts (accessed_memory reach parts) args.coll)) { posts = after.posts; group = Some after.group } in left) in
+        rw hp (ok-then (joined s.limits rank posts (group_or_none parts.group) thread id args >>= λ after. Ok (leave after)) (with_parts s rank (part_numbers rank reach))
         (ok-then (joined s.limits rank posts (group_or_none parts.group) thread id args) leave done))
 
 -- A collective that has joined is pending for its caller, and its rank has taken room for one event more.
 pub joined-pends : (s t : State) (c : CallerId) (call : Call) (id : ℕ) (args : Args) → IsSound s → (row_of call).group ≡ Some id → step s (Joined c id args) ≡ Ok t
-    → (is_pending t c.rank c.thread call ≡ true) × (room_taken t c.rank ≡ room_taken s c.rank + 1)
+    → (is_pending t c.rank c.thread call ≡ true) × (used_room t c.rank ≡ used_room s c.rank + 1)
 joined-pends s t c call id args sound named h =
     let made = step-joined s t c id args h in
     let m = made.2 in
@@ -122,7 +122,7 @@ joined-pends s t c call id args sound named h =
     let after = counted (joined_posts posts c.thread id args) in
     let left : made.1.posts ≡ after = rw m.is.leaves refl in
     let now : slice_get t.posts c.rank ≡ Some after = ap (λ (x : State). slice_get x.posts c.rank) m.leaves ∙ slice_get-set_same s.posts c.rank posts made.1.posts m.posts_there ∙ ap (λ (p : Posts). Some p) left in
-    let met = met-joined s t c id args h in
+    let met = on_group-joined s t c id args h in
     let same_posts : met.0 ≡ posts = (let some : ◌≡◌ {A = Option Posts} (Some met.0) (Some posts) = sym met.2.there ∙ m.posts_there in cc) in
     let same_after : met.1 ≡ after = (let some : ◌≡◌ {A = Option Posts} (Some met.1) (Some after) =
     sym (ap (λ (all : List Posts). slice_get all c.rank) met.2.leaves ∙ slice_get-set_same s.posts c.rank met.0 met.1 met.2.there) ∙ now in cc) in (
@@ -147,14 +147,14 @@ joined-pends s t c call id args sound named h =
         let there = entry-set_same (made_posts posts args.coll).pending id (Some (record { thread = c.thread; args = args })) (let many = ap length same in omega arith) in
         rw (now, named, there) (eq-eqb c.thread c.thread refl)
 
-    taken : (after posts : Posts) → slice_get t.posts c.rank ≡ Some after → slice_get s.posts c.rank ≡ Some posts → after.events ≡ posts.events + 1 → owed after ≡ owed posts → room_taken t c.rank ≡ room_taken s c.rank + 1
+    taken : (after posts : Posts) → slice_get t.posts c.rank ≡ Some after → slice_get s.posts c.rank ≡ Some posts → after.events ≡ posts.events + 1 → owed after ≡ owed posts → used_room t c.rank ≡ used_room s c.rank + 1
     taken after posts now before events owes = rw (now, before) (omega arith)
 
 -- a collective that is pending for its caller does not join again
 pub pending-joins-not : (s : State) (rank thread : ℕ) (call : Call) (found : Ready) → is_pending s rank thread call ≡ true → answer_in s rank thread call ≡ Some found → is_joining found ≡ false
 pending-joins-not s rank thread call found pending is = go (slice_get s.posts rank) refl (row_of call).group refl
   where
-    joins-not : (posts : Posts) (id : ℕ) (r : Ready) → is_pending_of thread (entry_at posts.pending id) ≡ true → collective_answer posts (group_in s id) rank thread id call ≡ r → is_joining r ≡ false
+    joins-not : (posts : Posts) (id : ℕ) (r : Ready) → is_pending_of thread (item_at posts.pending id) ≡ true → collective_answer posts (group_in s id) rank thread id call ≡ r → is_joining r ≡ false
     joins-not posts id (ready.Reply reply) pends answer = refl
     joins-not posts id ready.NotReady pends answer = refl
     joins-not posts id (ready.Join args) pends answer =

@@ -11,7 +11,7 @@ use Rattle.gaspi_types.specs.declared.replies.Reply.{Reply}
 use Rattle.gaspi_types.specs.declared.replies.Reply.TheVariants as replies
 use Rattle.gaspi_types.specs.declared.shapes.CallerId.{CallerId}
 use Rattle.gaspi_types.specs.declared.shapes.Limits.{Limits}
-use Rattle.gaspi_model.specs.Calls.{call_finds, ready_of, answer, recorded_reply}
+use Rattle.gaspi_model.specs.Calls.{call_result, ready_of, answer, recorded_reply}
 use Rattle.gaspi_model.specs.CollectiveCalls.{collective_answer, is_reply_of, is_join_of, is_joining, joining_call}
 use Rattle.gaspi_model.specs.State.{thread_at, is_running}
 use Rattle.gaspi_model.specs.Step.{step, group_in, answer_in, call_memory}
@@ -20,7 +20,7 @@ use Rattle.gaspi_model.specs.declared.states.Posts.{Posts}
 use Rattle.gaspi_model.specs.declared.states.State.{State}
 use Rattle.gaspi_model.proofs.GroupSteps.{step-completed, step-joined}
 use Rattle.gaspi_model.proofs.Listed.Readiness.{joining-names}
-use Rattle.gaspi_model.proofs.Made.{call_reach, step-called, worked-at}
+use Rattle.gaspi_model.proofs.Made.{call-footprint, step-called, on_memory-at}
 use Rattle.gaspi_model.proofs.Same.{same_reply-same, same_args-same}
 
 -- a call that is no collective never may join
@@ -33,7 +33,7 @@ never-joins limits me posts memory thread call = by-running (is_running (thread_
     by-finds (Err refusal) = refl
 
     by-running : (b : Bool) → is_running (thread_at posts thread) ≡ b → is_joining (answer limits me posts memory thread call) ≡ false
-    by-running true runs = rw runs (by-finds (call_finds limits me posts memory call))
+    by-running true runs = rw runs (by-finds (call_result limits me posts memory call))
     by-running false ended = rw ended refl
 
 -- a collective that is recorded was found so
@@ -56,7 +56,7 @@ step-recorded s t c call reply h = by-group (row_of call).group refl
     by-group None plain =
         let made = step-called s t c call reply plain h in
         let m = made.3 in
-        let memory : call_memory s c.rank made.0 call ≡ made.1 = worked-at s made.0 c.rank (call_reach s.limits.ranks c.rank call) ∙ sym m.worked in (
+        let memory : call_memory s c.rank made.0 call ≡ made.1 = on_memory-at s made.0 c.rank (call-footprint s.limits.ranks c.rank call) ∙ sym m.worked in (
           answer s.limits c.rank made.0 made.1 c.thread call,
           rw (m.posts_there, plain, memory) refl,
           never-joins s.limits c.rank made.0 made.1 c.thread call,

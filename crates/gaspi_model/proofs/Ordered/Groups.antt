@@ -6,7 +6,7 @@ use Rattle.std.proofs.lemmas.Bool.{eqb-true, eqb-false, eq-eqb}
 use Rattle.gaspi_types.specs.CallRows.{row_of}
 use Rattle.gaspi_types.specs.Groups.{is_building, building_at, handle_of_all, handle_at, with_group, with_added, without_group, with_committed, new_handle}
 use Rattle.gaspi_types.specs.Replies.{is_idle}
-use Rattle.gaspi_types.specs.World.{World, IsWorld}
+use Rattle.gaspi_types.specs.World.{ShapeValue, IsShape}
 use Rattle.gaspi_types.specs.declared.call_rows.Posting.{Posting}
 use Rattle.gaspi_types.specs.declared.calls.Call.{Call}
 use Rattle.gaspi_types.specs.declared.calls.Call.TheVariants.{GroupCreate, GroupAdd, GroupDelete}
@@ -23,37 +23,37 @@ use Rattle.gaspi_types.specs.declared.replies.Reply.TheVariants as replies
 use Rattle.gaspi_types.specs.declared.shapes.CallerId.{CallerId}
 use Rattle.gaspi_types.specs.declared.shapes.Limits.{Limits}
 use Rattle.gaspi_types.proofs.Items.{slice_get-set_same, slice_get-set_other, there-within}
-use Rattle.gaspi_model.specs.Calls.{call_asks, plain_done, posts_done, posts_after}
+use Rattle.gaspi_model.specs.Calls.{requested_kinds, plain_effect, posts_effect, posts_after}
 use Rattle.gaspi_model.specs.RankGroups.{handle_of, is_drop_of}
 use Rattle.gaspi_model.specs.Sound.{IsSound}
 use Rattle.gaspi_model.specs.State.{opening}
 use Rattle.gaspi_model.specs.Step.{step, after, reached, is_legal}
-use Rattle.gaspi_model.specs.Transfers.{Found, Worked}
+use Rattle.gaspi_model.specs.Transfers.{EntryPosition, PostsAndMemory}
 use Rattle.gaspi_model.specs.declared.states.Posts.{Posts}
 use Rattle.gaspi_model.specs.declared.states.Memory.{Memory}
 use Rattle.gaspi_model.specs.declared.states.State.{State}
 use Rattle.gaspi_model.proofs.FoundReplies.{found-reply}
 use Rattle.gaspi_model.proofs.GroupFinds.{create-found, add-found, drop-found}
 use Rattle.gaspi_model.proofs.Histories.{after-first, after-both, after-limits, leads, reached-sound}
-use Rattle.gaspi_types.specs.Collectives.{turn_made}
+use Rattle.gaspi_types.specs.Collectives.{round_segments}
 use Rattle.gaspi_types.specs.declared.calls.Call.TheVariants as calls
 use Rattle.gaspi_types.specs.declared.collectives.Coll.{Coll}
 use Rattle.gaspi_types.specs.declared.collectives.Coll.TheVariants as colls
 use Rattle.gaspi_types.specs.declared.groups.Args.{Args}
 use Rattle.gaspi_types.specs.declared.groups.Group.{Group}
-use Rattle.gaspi_types.specs.declared.groups.Made.{Made}
+use Rattle.gaspi_types.specs.declared.groups.MemberSegment.{MemberSegment}
 use Rattle.gaspi_model.specs.Posting.{counted}
-use Rattle.gaspi_model.specs.CollectiveCalls.{with_made_known, told_posts, completed_posts, made_posts, joined_posts}
-use Rattle.gaspi_model.specs.Step.{Met, group_in}
+use Rattle.gaspi_model.specs.CollectiveCalls.{with_made_known, posts_at_completion, completed_posts, made_posts, joined_posts}
+use Rattle.gaspi_model.specs.Step.{PostsAndGroup, group_in}
 use Rattle.gaspi_types.proofs.Chains.{bind_then, found_then, check_then, same_Ok}
 use Rattle.gaspi_types.specs.declared.replies.Refusal.TheVariants.{NoGroup, GroupStage}
 use Rattle.gaspi_model.proofs.CollectiveFinds.{done-found}
 use Rattle.gaspi_model.proofs.GroupSteps.{step-completed, step-joined}
-use Rattle.gaspi_model.proofs.MetPosts.{made-known}
+use Rattle.gaspi_model.proofs.CollectivePosts.{made-known}
 use Rattle.gaspi_model.proofs.Made.{IsTake, IsPut, step-called, step-take, step-put}
 use Rattle.gaspi_model.proofs.Same.{same_reply-same}
 use Rattle.gaspi_model.proofs.Sound.GroupTables.{entry-set_other, made-there, with_post-groups}
-use Rattle.gaspi_model.proofs.Sound.Told.{IsTold, told, told-get}
+use Rattle.gaspi_model.proofs.Sound.Registered.{IsTold, registering, registered-get}
 
 -- the groups of a rank
 abbrev groups_in : Option Posts → Option Handles
@@ -96,10 +96,10 @@ set-same_groups table place old new rank there same = set-groups table place old
     go true is = ap (λ (g : Handles). Some g) same ∙ subst (λ (k : ℕ). Some old.groups ≡ groups_in (slice_get table k)) (eqb-true place rank is) (sym (ap groups_in there))
     go false is = refl
 
-told-groups : (ranks me : ℕ) (p : Posts) (call : Call) (reply : Reply) (all : List Posts) (rank : ℕ) → groups_in (slice_get (told ranks me p call reply all) rank) ≡ groups_in (slice_get all rank)
-told-groups ranks me p call reply all rank = go (told-get ranks me p call reply all rank)
+at_completion-groups : (ranks me : ℕ) (p : Posts) (call : Call) (reply : Reply) (all : List Posts) (rank : ℕ) → groups_in (slice_get (registering ranks me p call reply all) rank) ≡ groups_in (slice_get all rank)
+at_completion-groups ranks me p call reply all rank = go (registered-get ranks me p call reply all rank)
   where
-    go : IsTold all (told ranks me p call reply all) rank → groups_in (slice_get (told ranks me p call reply all) rank) ≡ groups_in (slice_get all rank)
+    go : IsTold all (registering ranks me p call reply all) rank → groups_in (slice_get (registering ranks me p call reply all) rank) ≡ groups_in (slice_get all rank)
     go (inl same) = ap groups_in same
     go (inr (x, known, before, now)) = ap groups_in now ∙ sym (ap groups_in before)
 
@@ -111,7 +111,7 @@ post-groups groups (GroupDelete call) to is = absurd (let no : ⊥ = cc in no)
 post-groups groups (calls.Commit call) to is = absurd (let no : ⊥ = cc in no)
 post-groups groups other to is = refl
 
-plain-groups : (posts : Posts) (thread : ℕ) (call : Call) → (row_of call).group ≡ None → (plain_done posts thread call).groups ≡ groups_done posts.groups call
+plain-groups : (posts : Posts) (thread : ℕ) (call : Call) → (row_of call).group ≡ None → (plain_effect posts thread call).groups ≡ groups_done posts.groups call
 plain-groups posts thread GroupCreate plain = refl
 plain-groups posts thread (GroupAdd call) plain = refl
 plain-groups posts thread (GroupDelete call) plain = refl
@@ -121,9 +121,9 @@ plain-groups posts thread other plain = refl
 called-groups : (limits : Limits) (me : ℕ) (posts : Posts) (thread : ℕ) (call : Call) (reply : Reply) → (row_of call).group ≡ None → (posts_after limits me posts thread call reply).groups ≡ groups_after posts.groups call reply
 called-groups limits me posts thread call reply plain = go (is_idle reply) refl
   where
-    done : (o : Option Posting) → (row_of call).posting ≡ o → (posts_done limits me posts thread call).groups ≡ groups_done posts.groups call
+    done : (o : Option Posting) → (row_of call).posting ≡ o → (posts_effect limits me posts thread call).groups ≡ groups_done posts.groups call
     done None none = rw none (plain-groups posts thread call plain)
-    done (Some to) post = rw post (with_post-groups posts to.queue to.rank (call_asks limits me posts call) ∙ sym (post-groups posts.groups call to post))
+    done (Some to) post = rw post (with_post-groups posts to.queue to.rank (requested_kinds limits me posts call) ∙ sym (post-groups posts.groups call to post))
 
     go : (b : Bool) → is_idle reply ≡ b → (posts_after limits me posts thread call reply).groups ≡ groups_after posts.groups call reply
     go true idle = rw idle refl
@@ -135,20 +135,20 @@ same-groups None = refl
 same-groups (Some g) = refl
 
 -- what a collective that is done, and a join, leave of the groups
-made-groups : (seg size : ℕ) (made : List Made) (posts : Posts) → (with_made_known seg size made posts).groups ≡ posts.groups
+made-groups : (seg size : ℕ) (made : List MemberSegment) (posts : Posts) → (with_made_known seg size made posts).groups ≡ posts.groups
 made-groups seg size made posts = ap (λ (p : Posts). p.groups) (made-known seg size made posts).1
 
-told-left : (group : Group) (me id : ℕ) (call : Call) (posts : Posts) → (row_of call).group ≡ Some id → (told_posts group me id call posts).groups ≡ groups_done posts.groups call
-told-left group me id (calls.Commit call) posts named = (let same : call.group ≡ id = cc in ap (with_committed posts.groups) (sym same))
-told-left group me id (calls.Create call) posts named = made-groups call.seg call.size (turn_made group me) posts
-told-left group me id (calls.Barrier call) posts named = refl
-told-left group me id (calls.Allreduce call) posts named = refl
-told-left group me id other posts named = absurd (let no : ⊥ = cc in no)
+at_completion-left : (group : Group) (me id : ℕ) (call : Call) (posts : Posts) → (row_of call).group ≡ Some id → (posts_at_completion group me id call posts).groups ≡ groups_done posts.groups call
+at_completion-left group me id (calls.Commit call) posts named = (let same : call.group ≡ id = cc in ap (with_committed posts.groups) (sym same))
+at_completion-left group me id (calls.Create call) posts named = made-groups call.seg call.size (round_segments group me) posts
+at_completion-left group me id (calls.Barrier call) posts named = refl
+at_completion-left group me id (calls.Allreduce call) posts named = refl
+at_completion-left group me id other posts named = absurd (let no : ⊥ = cc in no)
 
 completed-groups : (b : Bool) (posts : Posts) (group : Group) (me id : ℕ) (call : Call) → (row_of call).group ≡ Some id
     → (counted (if b then posts else completed_posts posts group me id call)).groups ≡ (if b then posts.groups else groups_done posts.groups call)
 completed-groups true posts group me id call named = refl
-completed-groups false posts group me id call named = told-left group me id call posts named
+completed-groups false posts group me id call named = at_completion-left group me id call posts named
 
 joined-groups : (posts : Posts) (thread id : ℕ) (args : Args) → (counted (joined_posts posts thread id args)).groups ≡ posts.groups
 joined-groups posts thread id args = go args.coll
@@ -170,7 +170,7 @@ step-groups : (s t : State) (e : Event) (rank : ℕ) → step s e ≡ Ok t → g
 step-groups s t (Joined c id args) rank h =
     let made = step-joined s t c id args h in
     let m = made.2 in
-    let left : made.1.posts.groups ≡ made.0.groups = ap (λ (w : Met). w.posts.groups) m.is.leaves ∙ joined-groups made.0 c.thread id args in
+    let left : made.1.posts.groups ≡ made.0.groups = ap (λ (w : PostsAndGroup). w.posts.groups) m.is.leaves ∙ joined-groups made.0 c.thread id args in
     ap (λ (x : State). groups_of x rank) m.leaves
     ∙ set-same_groups s.posts c.rank made.0 made.1.posts rank m.posts_there left
     ∙ same-groups (groups_of s rank)
@@ -181,16 +181,16 @@ step-groups s t (Called c call reply) rank h = by-group (row_of call).group refl
         let made = step-called s t c call reply plain h in
         let m = made.3 in
         let left : made.2.posts.groups ≡ groups_after made.0.groups call reply =
-        ap (λ (w : Worked). w.posts.groups) m.is.leaves ∙ called-groups s.limits c.rank made.0 c.thread call reply plain in
+        ap (λ (w : PostsAndMemory). w.posts.groups) m.is.leaves ∙ called-groups s.limits c.rank made.0 c.thread call reply plain in
         ap (λ (x : State). groups_of x rank) m.leaves
-        ∙ told-groups s.limits.ranks c.rank made.0 call reply (slice_set s.posts c.rank made.2.posts) rank
+        ∙ at_completion-groups s.limits.ranks c.rank made.0 call reply (slice_set s.posts c.rank made.2.posts) rank
         ∙ set-groups s.posts c.rank made.0 made.2.posts rank m.posts_there
         ∙ by-rank s c call reply rank made.0 made.2.posts m.posts_there left (c.rank == rank) refl
     by-group (Some id) named =
         let made = step-completed s t c id call reply named h in
         let m = made.2 in
         let left : made.1.posts.groups ≡ groups_after made.0.groups call reply =
-        ap (λ (w : Met). w.posts.groups) m.is.leaves ∙ completed-groups (is_idle reply) made.0 (group_in s id) c.rank id call named in
+        ap (λ (w : PostsAndGroup). w.posts.groups) m.is.leaves ∙ completed-groups (is_idle reply) made.0 (group_in s id) c.rank id call named in
         ap (λ (x : State). groups_of x rank) m.leaves
         ∙ set-groups s.posts c.rank made.0 made.1.posts rank m.posts_there
         ∙ by-rank s c call reply rank made.0 made.1.posts m.posts_there left (c.rank == rank) refl
@@ -201,7 +201,7 @@ step-groups s t (Take origin queue target number outcome) rank h =
     ∙ set-same_groups s.posts origin made.0 made.2 rank m.posts_there (same-take made.0 made.1 outcome made.2 made.3 m.is)
     ∙ same-groups (groups_of s rank)
   where
-    same-take : (posts : Posts) (memory : Memory) (outcome : Outcome) (after : Posts) (at : Found) → IsTake s.limits posts memory queue target number outcome after at → after.groups ≡ posts.groups
+    same-take : (posts : Posts) (memory : Memory) (outcome : Outcome) (after : Posts) (at : EntryPosition) → IsTake s.limits posts memory queue target number outcome after at → after.groups ≡ posts.groups
     same-take posts memory Applied after at h = ap (λ (p : Posts). p.groups) h.leaves
     same-take posts memory Failed after at h = ap (λ (p : Posts). p.groups) h.leaves
 step-groups s t (Put origin queue target number outcome) rank h =
@@ -211,23 +211,23 @@ step-groups s t (Put origin queue target number outcome) rank h =
     ∙ set-same_groups s.posts origin made.0 made.2.posts rank m.posts_there (same-put made.0 made.1 outcome made.2 made.3 m.is)
     ∙ same-groups (groups_of s rank)
   where
-    same-put : (posts : Posts) (memory : Memory) (outcome : Outcome) (after : Worked) (at : Found) → IsPut posts memory queue target number outcome after at → after.posts.groups ≡ posts.groups
-    same-put posts memory Applied after at h = ap (λ (w : Worked). w.posts.groups) h.leaves
-    same-put posts memory Failed after at h = ap (λ (w : Worked). w.posts.groups) h.leaves
+    same-put : (posts : Posts) (memory : Memory) (outcome : Outcome) (after : PostsAndMemory) (at : EntryPosition) → IsPut posts memory queue target number outcome after at → after.posts.groups ≡ posts.groups
+    same-put posts memory Applied after at h = ap (λ (w : PostsAndMemory). w.posts.groups) h.leaves
+    same-put posts memory Failed after at h = ap (λ (w : PostsAndMemory). w.posts.groups) h.leaves
 
 -- how many groups a rank has made: never fewer later, and one more by each group that is made
 abbrev made_in : Option Handles → ℕ
 made_in None = 0
-made_in (Some groups) = groups.made
+made_in (Some groups) = groups.last_id
 
-done-made : (groups : Handles) (call : Call) → groups.made ≤ (groups_done groups call).made
+done-made : (groups : Handles) (call : Call) → groups.last_id ≤ (groups_done groups call).last_id
 done-made groups GroupCreate = omega arith
 done-made groups other = omega arith
 
-event-made : (groups : Handles) (e : Event) (rank : ℕ) → groups.made ≤ (event_groups e rank groups).made
+event-made : (groups : Handles) (e : Event) (rank : ℕ) → groups.last_id ≤ (event_groups e rank groups).last_id
 event-made groups (Called c call reply) rank = go (c.rank == rank) (is_idle reply)
   where
-    go : (mine idle : Bool) → groups.made ≤ (if mine then (if idle then groups else groups_done groups call) else groups).made
+    go : (mine idle : Bool) → groups.last_id ≤ (if mine then (if idle then groups else groups_done groups call) else groups).last_id
     go false idle = omega arith
     go true true = omega arith
     go true false = done-made groups call
@@ -255,15 +255,15 @@ create-made s t c id h =
     let m = made.3 in
     let found = create-found made.0 (replies.Id id) (found-reply s.limits c.rank made.0 made.1 c.thread GroupCreate (replies.Id id) (same_reply-same _ _ m.is.answered) refl) in
     let here : groups_of s c.rank ≡ Some made.0.groups = ap groups_in m.posts_there in
-    let next : id ≡ made.0.groups.made + 1 = same-id id (made.0.groups.made + 1) found.answers in
-    let before : made_in (groups_of s c.rank) ≡ made.0.groups.made = ap made_in here in
+    let next : id ≡ made.0.groups.last_id + 1 = same-id id (made.0.groups.last_id + 1) found.answers in
+    let before : made_in (groups_of s c.rank) ≡ made.0.groups.last_id = ap made_in here in
     let mine = eq-eqb c.rank c.rank refl in
-    let later : made_in (groups_of t c.rank) ≡ made.0.groups.made + 1 = ap made_in (step-groups s t (Called c GroupCreate (replies.Id id)) c.rank h)
+    let later : made_in (groups_of t c.rank) ≡ made.0.groups.last_id + 1 = ap made_in (step-groups s t (Called c GroupCreate (replies.Id id)) c.rank h)
     ∙ ap (λ (o : Option Handles). made_in (option_map (event_groups (Called c GroupCreate (replies.Id id)) c.rank) o)) here
-    ∙ ap (λ (b : Bool). (if b then with_group made.0.groups else made.0.groups).made) mine in
+    ∙ ap (λ (b : Bool). (if b then with_group made.0.groups else made.0.groups).last_id) mine in
     (omega arith, omega arith)
 
-pub numbers-rise : (w : World) (earlier later rest : List Event) (c d : CallerId) (m n : ℕ) → c.rank ≡ d.rank
+pub numbers-rise : (w : ShapeValue) (earlier later rest : List Event) (c d : CallerId) (m n : ℕ) → c.rank ≡ d.rank
     → is_legal w (earlier ++ Called c GroupCreate (replies.Id m) ∷ later ++ Called d GroupCreate (replies.Id n) ∷ rest) ≡ true → m < n
 numbers-rise w earlier later rest c d m n same legal =
     let one : Event = Called c GroupCreate (replies.Id m) in
@@ -315,7 +315,7 @@ call-keeps : (s t : State) (c : CallerId) (call : Call) (reply : Reply) (id : �
     → handle_at posts.groups id ≡ Some h → h.stage ≡ Committed → is_drop_of c.rank id (Called c call reply) ≡ false → is_idle reply ≡ false → handle_at (groups_done posts.groups call) id ≡ Some h
 call-keeps s t c GroupCreate reply id posts h sound made there at committed kept awake =
     let few = made-there s.limits.ranks posts.groups id h (sound.posts c.rank posts there).groups at in
-    entry-set_other posts.groups.table (posts.groups.made + 1) id (Some new_handle) (λ same. (let no : ⊥ = omega arith in no)) ∙ at
+    entry-set_other posts.groups.table (posts.groups.last_id + 1) id (Some new_handle) (λ same. (let no : ⊥ = omega arith in no)) ∙ at
 call-keeps s t c (GroupAdd call) reply id posts h sound made there at committed kept awake =
     let called = step-called s t c (GroupAdd call) reply refl made in
     let m = called.3 in
@@ -371,7 +371,7 @@ committed-kept s t e rank id h sound made there committed kept = go (slice_get s
         handle-after s t e rank id posts h made at (event e posts made at is kept)
 
 -- group 0 has every rank, and stays so
-pub all-ranks : (w : World) (history : List Event) (s : State) (rank : ℕ) → IsWorld w → reached w history ≡ Ok s → rank < w.limits.ranks → handle_of s rank 0 ≡ Some (handle_of_all w.limits.ranks)
+pub all-ranks : (w : ShapeValue) (history : List Event) (s : State) (rank : ℕ) → IsShape w → reached w history ≡ Ok s → rank < w.limits.ranks → handle_of s rank 0 ≡ Some (handle_of_all w.limits.ranks)
 all-ranks w history s rank world h less =
     let sound = reached-sound w history s world h in
     let limits = after-limits (opening w) s history h in

@@ -7,17 +7,17 @@ use Rattle.gaspi_types.specs.Replies.{is_idle}
 use Rattle.gaspi_types.specs.SegmentBytes.{range_of}
 use Rattle.gaspi_types.specs.Segments.{bytes_in}
 use Rattle.gaspi_types.specs.declared.segments.Segment.{Segment}
-use Rattle.gaspi_model.specs.Changes.{IsSent, IsReceived, put_rank}
-use Rattle.gaspi_types.specs.World.{World, IsWorld}
+use Rattle.gaspi_model.specs.Changes.{IsSendDone, IsReceiveDone, put_rank}
+use Rattle.gaspi_types.specs.World.{ShapeValue, IsShape}
 use Rattle.gaspi_types.specs.CallRows.{row_of}
-use Rattle.gaspi_types.specs.Touches.{reach_of}
+use Rattle.gaspi_types.specs.Footprints.{footprint_of}
 use Rattle.gaspi_types.specs.declared.calls.Call.{Call}
 use Rattle.gaspi_types.specs.declared.calls.Call.TheVariants as calls
 use Rattle.gaspi_types.specs.declared.collectives.Coll.{Coll}
 use Rattle.gaspi_types.specs.declared.collectives.Coll.TheVariants as colls
 use Rattle.gaspi_types.specs.declared.groups.Args.{Args}
-use Rattle.gaspi_types.specs.declared.touches.Touch.{Touch}
-use Rattle.gaspi_types.specs.declared.touches.Reach.TheVariants.{Alone, Group, GroupAndMemory}
+use Rattle.gaspi_types.specs.declared.footprints.DeclaredFootprint.{DeclaredFootprint}
+use Rattle.gaspi_types.specs.declared.footprints.Footprint.TheVariants.{Alone, Group, GroupAndMemory}
 use Rattle.gaspi_model.specs.CollectiveCalls.{made_memory}
 use Rattle.gaspi_types.specs.declared.calls.Call.TheVariants.{Alloc, Delete, Store, Reset, PassiveSend, PassiveReceive, FetchAdd, CompareSwap}
 use Rattle.gaspi_types.specs.declared.calls.passive.PassiveSend as send
@@ -32,21 +32,21 @@ use Rattle.gaspi_types.specs.declared.replies.Reply.TheVariants as replies
 use Rattle.gaspi_types.specs.declared.shapes.CallerId.{CallerId}
 use Rattle.gaspi_types.specs.declared.shapes.Limits.{Limits}
 use Rattle.gaspi_types.proofs.Items.{slice_get-set_same, slice_get-set_other, same-or-not, map-at, behind-of-joined}
-use Rattle.gaspi_model.specs.Calls.{memory_done, memory_after}
-use Rattle.gaspi_model.specs.Messages.{inbox_of, sent_by, received_by, gathered, sent_in, received_in, IsEarliest}
+use Rattle.gaspi_model.specs.Calls.{memory_effect, memory_after}
+use Rattle.gaspi_model.specs.Messages.{inbox_of, sent_by, received_by, collected_from, sent_in, received_in, IsEarliest}
 use Rattle.gaspi_model.specs.Parts.{memory_or_none}
 use Rattle.gaspi_model.specs.PassiveCalls.{message_of}
 use Rattle.gaspi_model.specs.Sound.{IsSound}
 use Rattle.gaspi_model.specs.State.{opening, opening_memory}
-use Rattle.gaspi_model.specs.Step.{step, join_touch, call_brought, after, reached, is_legal}
-use Rattle.gaspi_model.specs.Transfers.{Found, Worked, carried_bytes}
+use Rattle.gaspi_model.specs.Step.{step, join_footprint, call_message, after, reached, is_legal}
+use Rattle.gaspi_model.specs.Transfers.{EntryPosition, PostsAndMemory, carried_bytes}
 use Rattle.gaspi_model.specs.declared.states.Posts.{Posts}
 use Rattle.gaspi_model.specs.declared.states.Memory.{Memory}
 use Rattle.gaspi_model.specs.declared.states.State.{State}
 use Rattle.gaspi_model.proofs.FoundReplies.{found-reply}
 use Rattle.gaspi_model.proofs.Histories.{after-first, after-joined, after-limits, leads, reached-sound}
 use Rattle.gaspi_model.proofs.IdleSteps.{only-counted}
-use Rattle.gaspi_model.proofs.GroupSteps.{IsOnGroup, join-touch, step-completed, step-joined}
+use Rattle.gaspi_model.proofs.GroupSteps.{IsOnGroup, join-footprint, step-completed, step-joined}
 use Rattle.gaspi_model.proofs.Made.{IsPut, memory_at, memories_at, step-take}
 use Rattle.gaspi_model.proofs.PassiveFinds.{send-found, receive-found}
 use Rattle.gaspi_model.proofs.Same.{same_reply-same}
@@ -54,7 +54,7 @@ use Rattle.gaspi_model.proofs.Changed.Messages.{message-sent, message-received}
 use Rattle.gaspi_model.proofs.Sound.Inboxes.{put-same-inbox}
 use Rattle.gaspi_model.proofs.Sound.Opening.{opens}
 use Rattle.gaspi_model.proofs.Sound.Steps.{steps}
-use Rattle.gaspi_model.proofs.Worked.{memory_rank, sound-called, sound-put}
+use Rattle.gaspi_model.proofs.OnPostsAndMemory.{memory_rank, sound-called, sound-put}
 
 append-nil : {A : Type 0} (xs : List A) → xs ++ [] ≡ xs
 append-nil [] = refl
@@ -75,7 +75,7 @@ is_passive (PassiveSend call) = true
 is_passive (PassiveReceive call) = true
 is_passive call = false
 
-plain-keeps : (limits : Limits) (posts : Posts) (brought : Option Message) (memory : Memory) (call : Call) → is_passive call ≡ false → (memory_done limits posts brought memory call).inbox ≡ memory.inbox
+plain-keeps : (limits : Limits) (posts : Posts) (brought : Option Message) (memory : Memory) (call : Call) → is_passive call ≡ false → (memory_effect limits posts brought memory call).inbox ≡ memory.inbox
 plain-keeps limits posts brought memory (PassiveSend call) is = absurd (let no : ⊥ = cc in no)
 plain-keeps limits posts brought memory (PassiveReceive call) is = absurd (let no : ⊥ = cc in no)
 plain-keeps limits posts brought memory (Alloc call) is = refl
@@ -97,15 +97,15 @@ made-inbox limits posts memory (colls.Create seg size) = refl
 made-inbox limits posts memory (colls.Commit mask) = refl
 
 -- the inboxes where the own memory, if it is touched, is replaced by one with the same inbox
-reach-inbox : (all : List Memory) (me id : ℕ) (touch : Touch) (memory : Memory) (rank ranks : ℕ) → IsOnGroup touch id
-    → memory.inbox ≡ (memory_at (reach_of ranks me touch) me all).inbox
-    → (memory_or_none (slice_get (memories_at (reach_of ranks me touch) me memory all) rank)).inbox ≡ (memory_or_none (slice_get all rank)).inbox
-reach-inbox all me id touch memory rank ranks (inl is) same = rw is (go (nat_lt id 8))
+footprint-inbox : (all : List Memory) (me id : ℕ) (touch : DeclaredFootprint) (memory : Memory) (rank ranks : ℕ) → IsOnGroup touch id
+    → memory.inbox ≡ (memory_at (footprint_of ranks me touch) me all).inbox
+    → (memory_or_none (slice_get (memories_at (footprint_of ranks me touch) me memory all) rank)).inbox ≡ (memory_or_none (slice_get all rank)).inbox
+footprint-inbox all me id touch memory rank ranks (inl is) same = rw is (go (nat_lt id 8))
   where
     go : (b : Bool) → (memory_or_none (slice_get (memories_at (if b then Group id else Alone) me memory all) rank)).inbox ≡ (memory_or_none (slice_get all rank)).inbox
     go true = refl
     go false = refl
-reach-inbox all me id touch memory rank ranks (inr is) same = rw is (go (nat_lt id 8) (subst (λ (x : Touch). memory.inbox ≡ (memory_at (reach_of ranks me x) me all).inbox) is same))
+footprint-inbox all me id touch memory rank ranks (inr is) same = rw is (go (nat_lt id 8) (subst (λ (x : DeclaredFootprint). memory.inbox ≡ (memory_at (footprint_of ranks me x) me all).inbox) is same))
   where
     there : (o : Option Memory) → slice_get all me ≡ o → memory.inbox ≡ (memory_or_none (slice_get all me)).inbox
         → (memory_or_none (slice_get (slice_set all me memory) rank)).inbox ≡ (memory_or_none (slice_get all rank)).inbox
@@ -132,13 +132,13 @@ joined-inbox s t c id args rank h =
     let made = step-joined s t c id args h in
     let m = made.2 in
     ap (λ (x : State). inbox_of x rank) m.leaves
-    ∙ reach-inbox s.memories c.rank id (join_touch id args.coll) _ rank s.limits.ranks (join-touch id args.coll) (made-inbox s.limits made.0 _ args.coll)
+    ∙ footprint-inbox s.memories c.rank id (join_footprint id args.coll) _ rank s.limits.ranks (join-footprint id args.coll) (made-inbox s.limits made.0 _ args.coll)
 
 other-keeps : (s t : State) (c : CallerId) (call : Call) (reply : Reply) (rank : ℕ) → (row_of call).group ≡ None → IsSound s → step s (Called c call reply) ≡ Ok t → is_passive call ≡ false → inbox_of t rank ≡ inbox_of s rank
 other-keeps s t c call reply rank ungrouped sound h plain =
     let made = sound-called s t c call reply ungrouped sound h in
     let m = made.3 in
-    let left : made.2.memory.inbox ≡ made.1.inbox = ap (λ (w : Worked). w.memory.inbox) m.is.leaves ∙ go made.0 made.1 (call_brought s c.rank call) (is_idle reply) refl in
+    let left : made.2.memory.inbox ≡ made.1.inbox = ap (λ (w : PostsAndMemory). w.memory.inbox) m.is.leaves ∙ go made.0 made.1 (call_message s c.rank call) (is_idle reply) refl in
     ap (λ (x : State). inbox_of x rank) m.leaves ∙ kept-inbox s.memories (memory_rank s.limits c.rank call) made.1 made.2.memory rank m.memory_there left
   where
     go : (posts : Posts) (memory : Memory) (brought : Option Message) (b : Bool) → is_idle reply ≡ b → (memory_after s.limits posts brought memory call reply).inbox ≡ memory.inbox
@@ -180,7 +180,7 @@ Flows s t e rank = inbox_of s rank ++ sent_by s e rank ≡ received_by s e rank 
 none-flows : (before after : List Message) → after ≡ before → before ++ [] ≡ after
 none-flows before after same = append-nil before ∙ sym same
 
-sent-flows : (s t : State) (c : CallerId) (call : send.PassiveSend) (rank : ℕ) → IsSent s t c.rank call.rank call.seg call.offset call.size → Flows s t (Called c (PassiveSend call) replies.Done) rank
+sent-flows : (s t : State) (c : CallerId) (call : send.PassiveSend) (rank : ℕ) → IsSendDone s t c.rank call.rank call.seg call.offset call.size → Flows s t (Called c (PassiveSend call) replies.Done) rank
 sent-flows s t c call rank sent = go (call.rank == rank) refl
   where
     message : Message
@@ -207,7 +207,7 @@ sent-flows s t c call rank sent = go (call.rank == rank) refl
         let apart = λ (e : call.rank ≡ rank). eqb-false call.rank rank is e in
         rw is (none-flows (inbox_of s rank) (inbox_of t rank) (later ∙ ap (λ (o : Option Memory). (memory_or_none o).inbox) (slice_get-set_other s.memories call.rank rank new apart)))
 
-received-flows : (s t : State) (c : CallerId) (call : receive.PassiveReceive) (sender rank : ℕ) → IsReceived s t c.rank call.seg call.offset call.size sender
+received-flows : (s t : State) (c : CallerId) (call : receive.PassiveReceive) (sender rank : ℕ) → IsReceiveDone s t c.rank call.seg call.offset call.size sender
     → Flows s t (Called c (PassiveReceive call) (replies.Id sender)) rank
 received-flows s t c call sender rank got = go (c.rank == rank) refl
   where
@@ -238,11 +238,11 @@ receive-flows s t c call (replies.Id sender) rank sound h = received-flows s t c
 receive-flows s t c call reply rank sound h =
     none-flows (inbox_of s rank) (inbox_of t rank) (receive-keeps s t c call reply rank sound h (λ sender is. let no : ⊥ = cc in no))
 
-put-keeps : (posts : Posts) (memory : Memory) (queue target number : ℕ) (outcome : Outcome) (after : Worked) (at : Found) → IsPut posts memory queue target number outcome after at
+put-keeps : (posts : Posts) (memory : Memory) (queue target number : ℕ) (outcome : Outcome) (after : PostsAndMemory) (at : EntryPosition) → IsPut posts memory queue target number outcome after at
     → after.memory.inbox ≡ memory.inbox
 put-keeps posts memory queue target number Applied after at h =
-    ap (λ (w : Worked). w.memory.inbox) h.leaves ∙ put-same-inbox memory (destination_of at.entry.kind) (carried_bytes at.entry.phase)
-put-keeps posts memory queue target number Failed after at h = ap (λ (w : Worked). w.memory.inbox) h.leaves
+    ap (λ (w : PostsAndMemory). w.memory.inbox) h.leaves ∙ put-same-inbox memory (destination_of at.entry.kind) (carried_bytes at.entry.phase)
+put-keeps posts memory queue target number Failed after at h = ap (λ (w : PostsAndMemory). w.memory.inbox) h.leaves
 
 flows : (s t : State) (e : Event) (rank : ℕ) → IsSound s → step s e ≡ Ok t → Flows s t e rank
 flows s t (Called c (PassiveSend call) reply) rank sound h = send-flows s t c call reply rank sound h
@@ -263,8 +263,8 @@ flows s t (Put origin queue target number outcome) rank sound h =
     ∙ kept-inbox s.memories (put_rank origin target made.3.entry.kind) made.1 made.2.memory rank m.memory_there (put-keeps made.0 made.1 queue target number outcome made.2 made.3 m.is))
 
 -- the same of events one after another
-gathered-step : (brings : State → Event → List Message) (s t : State) (e : Event) (events : List Event) → step s e ≡ Ok t → gathered brings s (e ∷ events) ≡ brings s e ++ gathered brings t events
-gathered-step brings s t e events h = rw h refl
+collected-step : (brings : State → Event → List Message) (s t : State) (e : Event) (events : List Event) → step s e ≡ Ok t → collected_from brings s (e ∷ events) ≡ brings s e ++ collected_from brings t events
+collected-step brings s t e events h = rw h refl
 
 all-flow : (s u : State) (events : List Event) (rank : ℕ) → IsSound s → after s events ≡ Ok u → inbox_of s rank ++ sent_in s events rank ≡ received_in s events rank ++ inbox_of u rank
 all-flow s u [] rank sound h = (let same : s ≡ u = cc in append-nil (inbox_of s rank) ∙ ap (λ (x : State). inbox_of x rank) same)
@@ -273,8 +273,8 @@ all-flow s u (e ∷ events) rank sound h =
     let t = first.0 in
     let one = flows s t e rank sound first.1 in
     let rest = all-flow t u events rank (steps s t e sound first.1) first.2 in
-    let sends = gathered-step (λ at x. sent_by at x rank) s t e events first.1 in
-    let receives = gathered-step (λ at x. received_by at x rank) s t e events first.1 in
+    let sends = collected-step (λ at x. sent_by at x rank) s t e events first.1 in
+    let receives = collected-step (λ at x. received_by at x rank) s t e events first.1 in
     ap (λ (x : List Message). inbox_of s rank ++ x) sends
     ∙ sym (append_assoc (inbox_of s rank) (sent_by s e rank) (sent_in t events rank))
     ∙ ap (λ (x : List Message). x ++ sent_in t events rank) one
@@ -283,7 +283,7 @@ all-flow s u (e ∷ events) rank sound h =
     ∙ sym (append_assoc (received_by s e rank) (received_in t events rank) (inbox_of u rank))
     ∙ ap (λ (x : List Message). x ++ inbox_of u rank) (sym receives)
 
-opening-inbox : (w : World) (rank : ℕ) → inbox_of (opening w) rank ≡ []
+opening-inbox : (w : ShapeValue) (rank : ℕ) → inbox_of (opening w) rank ≡ []
 opening-inbox w rank = go (slice_get (opening w).memories rank) refl
   where
     go : (o : Option Memory) → slice_get (opening w).memories rank ≡ o → inbox_of (opening w) rank ≡ []
@@ -292,13 +292,13 @@ opening-inbox w rank = go (slice_get (opening w).memories rank) refl
         let from = map-at (opening_memory w) (range_with_len 0 w.limits.ranks) rank m at in
         ap (λ (o : Option Memory). (memory_or_none o).inbox) at ∙ ap (λ (x : Memory). x.inbox) from.2
 
-pub messages-flow : (w : World) (history : List Event) (s : State) (rank : ℕ) → IsWorld w → reached w history ≡ Ok s
+pub messages-flow : (w : ShapeValue) (history : List Event) (s : State) (rank : ℕ) → IsShape w → reached w history ≡ Ok s
     → sent_in (opening w) history rank ≡ received_in (opening w) history rank ++ inbox_of s rank
 messages-flow w history s rank world h =
     ap (λ (x : List Message). x ++ sent_in (opening w) history rank) (sym (opening-inbox w rank)) ∙ all-flow (opening w) s history rank (opens w world) h
 
 -- an inbox has at most as many messages as the limits of the world say
-pub few-messages : (w : World) (history : List Event) (s : State) (rank : ℕ) → IsWorld w → reached w history ≡ Ok s → length (inbox_of s rank) ≤ w.limits.inbox
+pub few-messages : (w : ShapeValue) (history : List Event) (s : State) (rank : ℕ) → IsShape w → reached w history ≡ Ok s → length (inbox_of s rank) ≤ w.limits.inbox
 few-messages w history s rank world h = go (slice_get s.memories rank) refl
   where
     go : (o : Option Memory) → slice_get s.memories rank ≡ o → length (inbox_of s rank) ≤ w.limits.inbox
@@ -309,7 +309,7 @@ few-messages w history s rank world h = go (slice_get s.memories rank) refl
         let same : s.limits.inbox ≡ w.limits.inbox = ap (λ (l : Limits). l.inbox) (after-limits (opening w) s history h) in
         omega arith
 
-pub earliest-received : (w : World) (history : List Event) (s : State) (c : CallerId) (call : receive.PassiveReceive) (sender : ℕ) → IsWorld w → reached w history ≡ Ok s
+pub earliest-received : (w : ShapeValue) (history : List Event) (s : State) (c : CallerId) (call : receive.PassiveReceive) (sender : ℕ) → IsShape w → reached w history ≡ Ok s
     → is_legal w (history ++ Called c (PassiveReceive call) (replies.Id sender) ∷ []) ≡ true → IsEarliest w history s c.rank sender
 earliest-received w history s c call sender world h legal =
     let event : Event = Called c (PassiveReceive call) (replies.Id sender) in

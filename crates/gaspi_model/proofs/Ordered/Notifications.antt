@@ -4,7 +4,7 @@ use Rattle.std.proofs.Common.{◌≡◌, ℕ, zero, suc, ◌+◌, ◌<◌, arith
 use Rattle.std.specs.List.{slice_get, slice_set, prefix_len, list_any}
 use Rattle.std.proofs.lemmas.Bool.{eq-eqb, eqb-true, eqb-false, lt-ltb}
 use Rattle.gaspi_types.specs.Kinds.{is_write_kind, is_read_kind, is_notify_kind, is_read_note_kind}
-use Rattle.gaspi_types.specs.Lanes.{may_put, may_put_kind, is_carried, place_of, posted_entries}
+use Rattle.gaspi_types.specs.Lanes.{may_put, may_put_kind, is_carried, position_of, posted_entries}
 use Rattle.gaspi_types.specs.Replies.{is_idle}
 use Rattle.gaspi_types.specs.declared.entries.Entry.{Entry}
 use Rattle.gaspi_types.specs.declared.entries.Kind.{Kind}
@@ -27,14 +27,14 @@ use Rattle.gaspi_types.specs.declared.events.Event.TheVariants.{Called, Joined, 
 use Rattle.gaspi_model.specs.Posting.{with_post, counted}
 use Rattle.gaspi_types.specs.Tables.{changed_at}
 use Rattle.gaspi_types.specs.Queues.{with_entries}
-use Rattle.gaspi_model.specs.Calls.{posts_done, plain_done, call_asks, answer, recorded_reply}
+use Rattle.gaspi_model.specs.Calls.{posts_effect, plain_effect, requested_kinds, answer, recorded_reply}
 use Rattle.gaspi_model.specs.QueueCalls.{emptied}
-use Rattle.gaspi_model.specs.Transfers.{Found, find_entry, taken_bytes}
+use Rattle.gaspi_model.specs.Transfers.{EntryPosition, find_entry, source_bytes}
 use Rattle.gaspi_model.specs.State.{opening}
 use Rattle.gaspi_model.specs.Step.{step, after, reached, is_legal}
-use Rattle.gaspi_model.specs.Order.{IsStanding, IsWriteStanding, IsReadStanding, IsNotificationStanding, IsReadNoteStanding, is_purge_of}
-use Rattle.gaspi_types.specs.World.{World}
-use Rattle.gaspi_model.specs.Shards.{standing}
+use Rattle.gaspi_model.specs.Order.{IsInLane, IsWriteInLane, IsReadInLane, IsNotificationInLane, IsReadNoteInLane, is_purge_of}
+use Rattle.gaspi_types.specs.World.{ShapeValue}
+use Rattle.gaspi_model.specs.Shards.{entry_after}
 use Rattle.gaspi_types.specs.declared.entries.Queue.{Queue}
 use Rattle.gaspi_model.specs.declared.states.Posts.{Posts}
 use Rattle.gaspi_model.specs.declared.states.Memory.{Memory}
@@ -45,10 +45,10 @@ use Rattle.gaspi_model.specs.declared.states.Why.TheVariants as whys
 use Rattle.gaspi_types.proofs.Chains.{both, found_then, same_Ok}
 use Rattle.gaspi_model.proofs.FoundReplies.{found-reply}
 use Rattle.gaspi_model.proofs.Same.{same_reply-same}
-use Rattle.gaspi_model.proofs.MetPosts.{IsMet, met-called, met-joined}
+use Rattle.gaspi_model.proofs.CollectivePosts.{IsMet, on_group-called, on_group-joined}
 use Rattle.gaspi_model.proofs.Made.{step-called, step-take, step-put}
 use Rattle.gaspi_types.proofs.Items.{slice_get-set_same, slice_get-set_other, same-or-not}
-use Rattle.gaspi_model.proofs.Sound.Told.{IsTold, told, told-get}
+use Rattle.gaspi_model.proofs.Sound.Registered.{IsTold, registering, registered-get}
 use Rattle.gaspi_model.proofs.Histories.{after-first, after-both, leads}
 use Rattle.gaspi_model.proofs.FoundEntries.{IsFound, find_entry-ok, found-again, with_phase, queue_with_failed, failed_with}
 
@@ -66,7 +66,7 @@ number-stops k (x ∷ lane) e at = go (x.number == k) refl (number-stops k lane 
         let further : slice_get (x ∷ lane) (1 + prefix_len (λ y. not (y.number == k)) lane) ≡ Some e = rw is at at in
         rest (rw (one-more (prefix_len (λ y. not (y.number == k)) lane)) at further)
 
-pub found-number : (lane : List Entry) (k place : ℕ) (e : Entry) → place_of lane k ≡ Some place → slice_get lane place ≡ Some e → e.number ≡ k
+pub found-number : (lane : List Entry) (k place : ℕ) (e : Entry) → position_of lane k ≡ Some place → slice_get lane place ≡ Some e → e.number ≡ k
 found-number lane k place e h at = go (nat_lt (prefix_len (λ x. not (x.number == k)) lane) (length lane)) refl
   where
     go : (t : Bool) → nat_lt (prefix_len (λ x. not (x.number == k)) lane) (length lane) ≡ t → e.number ≡ k
@@ -193,19 +193,19 @@ purges (Purge call) queue = call.queue == queue
 purges call queue = false
 
 done-keeps : {K : Kind → Bool} (limits : Limits) (me : ℕ) (posts : Posts) (thread : ℕ) (call : Call) (queue target m : ℕ) → purges call queue ≡ false → InQueues K posts.queues queue target m
-    → InQueues K (posts_done limits me posts thread call).queues queue target m
+    → InQueues K (posts_effect limits me posts thread call).queues queue target m
 done-keeps {K} limits me posts thread call queue target m unpurged h = go (row_of call).posting refl
   where
-    plain : (call : Call) → purges call queue ≡ false → InQueues K (plain_done posts thread call).queues queue target m
+    plain : (call : Call) → purges call queue ≡ false → InQueues K (plain_effect posts thread call).queues queue target m
     plain (Purge call) apart = queues-changed posts.queues call.queue emptied queue target m (λ q at same i. absurd (eqb-false call.queue queue apart same)) h
     plain (Wait call) apart =
         queues-changed posts.queues call.queue (λ (q : Queue). record q { open_count = 0 }) queue target m
         (λ q at same i. record { lane = i.lane; lane_there = i.lane_there; has = i.has }) h
     plain other apart = h
 
-    go : (o : Option Posting) → (row_of call).posting ≡ o → InQueues K (posts_done limits me posts thread call).queues queue target m
+    go : (o : Option Posting) → (row_of call).posting ≡ o → InQueues K (posts_effect limits me posts thread call).queues queue target m
     go None none = rw none (plain call unpurged)
-    go (Some to) post = rw post (post-keeps posts to.queue to.rank queue target m (call_asks limits me posts call) h)
+    go (Some to) post = rw post (post-keeps posts to.queue to.rank queue target m (requested_kinds limits me posts call) h)
 
 idle-keeps : {K : Kind → Bool} (idle : Bool) (before done : Posts) (queue target m : ℕ) → InQueues K before.queues queue target m → (idle ≡ false → InQueues K done.queues queue target m)
     → InQueues K (counted (if idle then before else done)).queues queue target m
@@ -246,17 +246,17 @@ posts-replaced s rank posts posts' origin queue target m at t is keeps h = same-
     (λ apart. record { posts = h.posts; posts_there = rw is (slice_get-set_other s.posts rank origin posts' apart ∙ h.posts_there); in_queues = h.in_queues })
 
 -- a segment told to a rank leaves what stands in lanes
-told-stands : {K : Kind → Bool} (t : State) (ranks me : ℕ) (p : Posts) (call : Call) (reply : Reply) (all : List Posts) (origin queue target m : ℕ) → t.posts ≡ told ranks me p call reply all → {limits : Limits} {memories : List Memory} {groups : List Group}
+at_completion-stands : {K : Kind → Bool} (t : State) (ranks me : ℕ) (p : Posts) (call : Call) (reply : Reply) (all : List Posts) (origin queue target m : ℕ) → t.posts ≡ registering ranks me p call reply all → {limits : Limits} {memories : List Memory} {groups : List Group}
     → Stands K (record { limits = limits; posts = all; memories = memories; groups = groups }) origin queue target m → Stands K t origin queue target m
-told-stands {K} t ranks me p call reply all origin queue target m is h = go (told-get ranks me p call reply all origin)
+at_completion-stands {K} t ranks me p call reply all origin queue target m is h = go (registered-get ranks me p call reply all origin)
   where
-    go : IsTold all (told ranks me p call reply all) origin → Stands K t origin queue target m
+    go : IsTold all (registering ranks me p call reply all) origin → Stands K t origin queue target m
     go (inl same) = record { posts = h.posts; posts_there = rw is (same ∙ h.posts_there); in_queues = h.in_queues }
     go (inr (x, known, before, now)) =
         let same : x ≡ h.posts = (let some : ◌≡◌ {A = Option Posts} (Some x) (Some h.posts) = sym before ∙ h.posts_there in cc) in
         record { posts = record x { segments = record x.segments { known = known } }; posts_there = rw is now; in_queues = rw same h.in_queues }
 
-found-replaced : {K : Kind → Bool} (posts : Posts) (changed replaced number : ℕ) (at : Found) (lane' : List Entry) (change : Queue → Queue) (queue target m : ℕ)
+found-replaced : {K : Kind → Bool} (posts : Posts) (changed replaced number : ℕ) (at : EntryPosition) (lane' : List Entry) (change : Queue → Queue) (queue target m : ℕ)
     → IsFound posts changed replaced number at
     → ((q : Queue) → (change q).lanes ≡ slice_set q.lanes replaced lane') → (changed ≡ queue → replaced ≡ target → HasEntry K at.lane m → HasEntry K lane' m) → InQueues K posts.queues queue target m
     → InQueues K (changed_at posts.queues changed change) queue target m
@@ -269,11 +269,11 @@ found-replaced posts changed replaced number at lane' change queue target m is l
     record { lane = r.lane; lane_there = rw (lanes q) r.lane_there; has = r.has }) h
 
 -- an entry that failed stands still
-failed-keeps : {K : Kind → Bool} (posts : Posts) (changed replaced number : ℕ) (at : Found) (queue target m : ℕ) → IsFound posts changed replaced number at
+failed-keeps : {K : Kind → Bool} (posts : Posts) (changed replaced number : ℕ) (at : EntryPosition) (queue target m : ℕ) → IsFound posts changed replaced number at
     → InQueues K posts.queues queue target m → InQueues K (counted (failed_with posts changed replaced at)).queues queue target m
 failed-keeps posts changed replaced number at queue target m is i =
-    found-replaced posts changed replaced number at (with_phase at.lane at.place at.entry phases.Failed) (queue_with_failed replaced at) queue target m is (λ q. refl)
-    (λ b c. entry-phase at.lane at.place at.entry phases.Failed m is.in_lane) i
+    found-replaced posts changed replaced number at (with_phase at.lane at.position at.entry phases.Failed) (queue_with_failed replaced at) queue target m is (λ q. refl)
+    (λ b c. entry-phase at.lane at.position at.entry phases.Failed m is.in_lane) i
 
 -- a put of that number in that lane
 abbrev IsThis : (origin origin' queue queue' target target' m m' : ℕ) → Type 0 → Type 0
@@ -293,8 +293,8 @@ this-or-not origin origin' queue queue' target target' m m' this other =
     (λ differs. other (λ a b c d. differs a))
 
 -- an event on a group leaves what stands in lanes
-met-stands : {K : Kind → Bool} (s t : State) (me : ℕ) (posts after : Posts) (origin queue target m : ℕ) → IsMet s t me posts after → Stands K s origin queue target m → Stands K t origin queue target m
-met-stands {K} s t me posts after origin queue target m met stands =
+on_group-stands : {K : Kind → Bool} (s t : State) (me : ℕ) (posts after : Posts) (origin queue target m : ℕ) → IsMet s t me posts after → Stands K s origin queue target m → Stands K t origin queue target m
+on_group-stands {K} s t me posts after origin queue target m met stands =
     posts-replaced s me posts after origin queue target m met.there t met.leaves (λ same i. subst (λ (qs : List Queue). InQueues K qs queue target m) (sym met.keeps.queues) i) stands
 
 called-keeps : {K : Kind → Bool} (s t : State) (c : CallerId) (call : Call) (reply : Reply) (origin queue target m : ℕ) → (row_of call).group ≡ None → is_purge_of origin queue (Called c call reply) ≡ false
@@ -303,19 +303,19 @@ called-keeps s t c call reply origin queue target m plain unpurged h stands =
     let made = step-called s t c call reply plain h in
     let f = made.3 in
     let all = slice_set s.posts c.rank made.2.posts in
-    inr (told-stands t s.limits.ranks c.rank made.0 call reply all origin queue target m (ap (λ (x : State). x.posts) f.leaves)
+    inr (at_completion-stands t s.limits.ranks c.rank made.0 call reply all origin queue target m (ap (λ (x : State). x.posts) f.leaves)
     (posts-replaced s c.rank made.0 made.2.posts origin queue target m f.posts_there (record s { posts = all }) refl
-    (λ same i. rw f.is.leaves (idle-keeps (is_idle reply) made.0 (posts_done s.limits c.rank made.0 c.thread call) queue target m i
+    (λ same i. rw f.is.leaves (idle-keeps (is_idle reply) made.0 (posts_effect s.limits c.rank made.0 c.thread call) queue target m i
     (λ awake. done-keeps s.limits c.rank made.0 c.thread call queue target m (not-purged s.limits c made.0 made.1 call reply origin queue same unpurged awake (same_reply-same _ _ f.is.answered)) i))) stands))
 
 -- an entry that stands is put, or still stands, unless its queue is purged
 step-keeps : {K : Kind → Bool} (s t : State) (e : Event) (origin queue target m : ℕ) → is_purge_of origin queue e ≡ false → step s e ≡ Ok t → Stands K s origin queue target m
     → (e ≡ Put origin queue target m Applied) ⊎ Stands K t origin queue target m
-step-keeps s t (Joined c id args) origin queue target m unpurged h stands = inr (met-stands s t c.rank _ _ origin queue target m (met-joined s t c id args h).2 stands)
+step-keeps s t (Joined c id args) origin queue target m unpurged h stands = inr (on_group-stands s t c.rank _ _ origin queue target m (on_group-joined s t c id args h).2 stands)
 step-keeps {K} s t (Called c call reply) origin queue target m unpurged h stands = by-group (row_of call).group refl
   where
     by-group : (o : Option ℕ) → (row_of call).group ≡ o → (Called c call reply ≡ Put origin queue target m Applied) ⊎ Stands K t origin queue target m
-    by-group (Some id) named = inr (met-stands s t c.rank _ _ origin queue target m (met-called s t c id call reply named h).2 stands)
+    by-group (Some id) named = inr (on_group-stands s t c.rank _ _ origin queue target m (on_group-called s t c id call reply named h).2 stands)
     by-group None plain = called-keeps s t c call reply origin queue target m plain unpurged h stands
 step-keeps s t (Take origin' queue' target' number Failed) origin queue target m unpurged h stands =
     let made = step-take s t origin' queue' target' number Failed h in
@@ -327,11 +327,11 @@ step-keeps s t (Take origin' queue' target' number Applied) origin queue target 
     let made = step-take s t origin' queue' target' number Applied h in
     let f = made.4 in
     let at = made.3 in
-    let phase = phases.Carried (taken_bytes made.1 at.entry.kind) in
-    let lane = with_phase at.lane at.place at.entry phase in
+    let phase = phases.Carried (source_bytes made.1 at.entry.kind) in
+    let lane = with_phase at.lane at.position at.entry phase in
     inr (posts-replaced s origin' made.0 made.2 origin queue target m f.posts_there t (ap (λ (x : State). x.posts) f.leaves)
     (λ same i. rw f.is.leaves (found-replaced made.0 queue' target' number at lane (λ (q : Queue). record q { lanes = slice_set q.lanes target' lane }) queue target m f.is.is (λ q. refl)
-    (λ b c. entry-phase at.lane at.place at.entry phase m f.is.is.in_lane) i)) stands)
+    (λ b c. entry-phase at.lane at.position at.entry phase m f.is.is.in_lane) i)) stands)
 step-keeps s t (Put origin' queue' target' number Failed) origin queue target m unpurged h stands =
     let made = step-put s t origin' queue' target' number Failed h in
     let f = made.4 in
@@ -346,8 +346,8 @@ step-keeps s t (Put origin' queue' target' number Applied) origin queue target m
     (λ a b c d. inl (rw (a, b, c, d) refl))
     (λ apart.
     inr (posts-replaced s origin' made.0 made.2.posts origin queue target m f.posts_there t (ap (λ (x : State). x.posts) f.leaves)
-    (λ a i. rw f.is.leaves (found-replaced made.0 queue' target' number at (remove at.lane at.place) (λ (q : Queue). record q { lanes = slice_set q.lanes target' (remove at.lane at.place) }) queue target m f.is.is (λ q. refl)
-    (λ b c has. stays at.entry number (found-number at.lane number at.place at.entry f.is.is.numbered f.is.is.in_lane) (apart a b c) (entry-removed at.lane at.place at.entry m f.is.is.in_lane has)) i)) stands))
+    (λ a i. rw f.is.leaves (found-replaced made.0 queue' target' number at (remove at.lane at.position) (λ (q : Queue). record q { lanes = slice_set q.lanes target' (remove at.lane at.position) }) queue target m f.is.is (λ q. refl)
+    (λ b c has. stays at.entry number (found-number at.lane number at.position at.entry f.is.is.numbered f.is.is.in_lane) (apart a b c) (entry-removed at.lane at.position at.entry m f.is.is.in_lane has)) i)) stands))
   where
     stays : {P : Type 0} (x : Entry) (k : ℕ) → x.number ≡ k → (k ≡ m → ⊥) → (x.number ≡ m) ⊎ P → P
     stays x k is differs (inl same) = absurd (differs (sym is ∙ same))
@@ -381,15 +381,15 @@ after-keeps {K} s t (e ∷ events) origin queue target m unpurged h stands =
 -- where an entry with a number stands
 record IsAt (s : State) (origin queue target number : ℕ) (e : Entry) : Type 0 where
   posts : Posts
-  at : Found
+  at : EntryPosition
   posts_there : slice_get s.posts origin ≡ Some posts
   found : find_entry posts queue target number whys.Put ≡ Ok at
   is : at.entry ≡ e
 
-standing-at : (s : State) (origin queue target number : ℕ) (e : Entry) → standing s origin queue target number ≡ Some e → IsAt s origin queue target number e
+standing-at : (s : State) (origin queue target number : ℕ) (e : Entry) → entry_after s origin queue target number ≡ Some e → IsAt s origin queue target number e
 standing-at s origin queue target number e h = with-posts (slice_get s.posts origin) refl
   where
-    with-found : (posts : Posts) → slice_get s.posts origin ≡ Some posts → (r : Result Found Why) → find_entry posts queue target number whys.Put ≡ r → IsAt s origin queue target number e
+    with-found : (posts : Posts) → slice_get s.posts origin ≡ Some posts → (r : Result EntryPosition Why) → find_entry posts queue target number whys.Put ≡ r → IsAt s origin queue target number e
     with-found posts hp (Ok at) hf =
         let some : ◌≡◌ {A = Option Entry} (Some at.entry) (Some e) = rw (hp, hf) at h in
         record { posts = posts; at = at; posts_there = hp; found = hf; is = (let same : at.entry ≡ e = cc in same) }
@@ -399,7 +399,7 @@ standing-at s origin queue target number e h = with-posts (slice_get s.posts ori
     with-posts None hp = absurd (let none : ◌≡◌ {A = Option Entry} None (Some e) = rw hp at h in let no : ⊥ = cc in no)
     with-posts (Some posts) hp = with-found posts hp (find_entry posts queue target number whys.Put) refl
 
-entry-stands : (K : Kind → Bool) (s : State) (origin queue target m : ℕ) (e : Entry) → standing s origin queue target m ≡ Some e → K e.kind ≡ true → Stands K s origin queue target m
+entry-stands : (K : Kind → Bool) (s : State) (origin queue target m : ℕ) (e : Entry) → entry_after s origin queue target m ≡ Some e → K e.kind ≡ true → Stands K s origin queue target m
 entry-stands K s origin queue target m e h kind =
     let i = standing-at s origin queue target m e h in
     let f = find_entry-ok i.posts queue target m _ i.at i.found in
@@ -412,7 +412,7 @@ entry-stands K s origin queue target m e h kind =
         in_queue = record {
           lane = i.at.lane;
           lane_there = f.in_queue;
-          has = record { place = i.at.place; entry = i.at.entry; there = f.in_lane; kind = rw i.is kind; numbered = found-number i.at.lane m i.at.place i.at.entry f.numbered f.in_lane };
+          has = record { place = i.at.position; entry = i.at.entry; there = f.in_lane; kind = rw i.is kind; numbered = found-number i.at.lane m i.at.position i.at.entry f.numbered f.in_lane };
         };
       };
     }
@@ -440,7 +440,7 @@ read-note-waits lane e kind put earlier = go e.kind kind ((both (is_carried e) (
     go (ReadNote own) is h = let none : not true ≡ true = rw earlier at h in cc
 
 -- while an entry stands, none of its lane that waits for it is put with a greater number
-no-put : (K N : Kind → Bool) → Waits K N → (t u : State) (origin queue target m n : ℕ) (e : Entry) → Stands K t origin queue target m → standing t origin queue target n ≡ Some e → N e.kind ≡ true → m < n
+no-put : (K N : Kind → Bool) → Waits K N → (t u : State) (origin queue target m n : ℕ) (e : Entry) → Stands K t origin queue target m → entry_after t origin queue target n ≡ Some e → N e.kind ≡ true → m < n
     → step t (Put origin queue target n Applied) ≡ Ok u → ⊥
 no-put K N waits t u origin queue target m n e stands h kind less put =
     let made = step-put t u origin queue target n Applied put in
@@ -449,20 +449,20 @@ no-put K N waits t u origin queue target m n e stands h kind less put =
     let fi = find_entry-ok i.posts queue target n _ i.at i.found in
     let posts : i.posts ≡ made.0 = (let some : ◌≡◌ {A = Option Posts} (Some i.posts) (Some made.0) = sym i.posts_there ∙ f.posts_there in cc) in
     let found : find_entry made.0 queue target n whys.Put ≡ Ok i.at = rw (sym posts) i.found in
-    let same : i.at ≡ made.3 = (let ok : ◌≡◌ {A = Result Found Why} (Ok i.at) (Ok made.3) = sym found ∙ found-again made.0 queue target n made.3 _ f.is.is in cc) in
-    let entry : made.3.entry ≡ e = ap (λ (x : Found). x.entry) (sym same) ∙ i.is in
+    let same : i.at ≡ made.3 = (let ok : ◌≡◌ {A = Result EntryPosition Why} (Ok i.at) (Ok made.3) = sym found ∙ found-again made.0 queue target n made.3 _ f.is.is in cc) in
+    let entry : made.3.entry ≡ e = ap (λ (x : EntryPosition). x.entry) (sym same) ∙ i.is in
     let has = stands.in_queues.in_queue.has in
     let posts' : stands.posts ≡ made.0 = (let some : ◌≡◌ {A = Option Posts} (Some stands.posts) (Some made.0) = sym stands.posts_there ∙ f.posts_there in cc) in
     let queue' : stands.in_queues.q ≡ made.3.queue = (let some : ◌≡◌ {A = Option Queue} (Some stands.in_queues.q) (Some made.3.queue) = sym stands.in_queues.queue_there ∙ rw posts' f.is.is.in_posts in cc) in
     let lane' : stands.in_queues.in_queue.lane ≡ made.3.lane = (let some : ◌≡◌ {A = Option (List Entry)} (Some stands.in_queues.in_queue.lane) (Some made.3.lane) = sym stands.in_queues.in_queue.lane_there ∙ rw queue' f.is.is.in_queue in cc) in
-    let number = found-number made.3.lane n made.3.place made.3.entry f.is.is.numbered f.is.is.in_lane in
+    let number = found-number made.3.lane n made.3.position made.3.entry f.is.is.numbered f.is.is.in_lane in
     let earlier : has_earlier K made.3.lane made.3.entry.number ≡ true =
     entry-earlier K made.3.lane has.place has.entry made.3.entry.number (subst (λ (l : List Entry). slice_get l has.place ≡ Some has.entry) lane' has.there) has.kind
     (rw (has.numbered, number) less) in
     waits made.3.lane made.3.entry (rw entry kind) f.is.permitted earlier
 
-order-of : (K N : Kind → Bool) → Waits K N → (w : World) (earlier later rest : List Event) (origin queue target m n : ℕ) → is_legal w (earlier ++ later ++ Put origin queue target n Applied ∷ rest) ≡ true
-    → IsStanding (λ e. K e.kind) w earlier origin queue target m → IsStanding (λ e. N e.kind) w (earlier ++ later) origin queue target n → m < n
+order-of : (K N : Kind → Bool) → Waits K N → (w : ShapeValue) (earlier later rest : List Event) (origin queue target m n : ℕ) → is_legal w (earlier ++ later ++ Put origin queue target n Applied ∷ rest) ≡ true
+    → IsInLane (λ e. K e.kind) w earlier origin queue target m → IsInLane (λ e. N e.kind) w (earlier ++ later) origin queue target n → m < n
     → list_any (is_purge_of origin queue) later ≡ false
     → (place : ℕ) × (slice_get later place ≡ Some (Put origin queue target m Applied))
 order-of K N waits w earlier later rest origin queue target m n legal first note less unpurged =
@@ -474,22 +474,22 @@ order-of K N waits w earlier later rest origin queue target m n legal first note
     let middle : note.state ≡ whole.0 = (let ok : ◌≡◌ {A = Result State Why} (Ok note.state) (Ok whole.0) = sym note.leads ∙ whole.1 in cc) in
     let stood = entry-stands K first.state origin queue target m first.entry first.stands first.kind in
     go part.0 whole.0 third.0 (after-keeps part.0 whole.0 later origin queue target m unpurged part.2 (subst (λ (x : State). Stands K x origin queue target m) before stood))
-    (subst (λ (x : State). standing x origin queue target n ≡ Some note.entry) middle note.stands) third.1
+    (subst (λ (x : State). entry_after x origin queue target n ≡ Some note.entry) middle note.stands) third.1
   where
     go : (s t u : State) → ((k : ℕ) × (slice_get later k ≡ Some (Put origin queue target m Applied))) ⊎ Stands K t origin queue target m
-        → standing t origin queue target n ≡ Some note.entry → step t (Put origin queue target n Applied) ≡ Ok u
+        → entry_after t origin queue target n ≡ Some note.entry → step t (Put origin queue target n Applied) ≡ Ok u
         → (place : ℕ) × (slice_get later place ≡ Some (Put origin queue target m Applied))
     go s t u (inl found) stands put = found
     go s t u (inr still) stands put = absurd (no-put K N waits t u origin queue target m n note.entry still stands note.kind less put)
 
-pub order : (w : World) (earlier later rest : List Event) (origin queue target m n : ℕ) → is_legal w (earlier ++ later ++ Put origin queue target n Applied ∷ rest) ≡ true
-    → IsWriteStanding w earlier origin queue target m → IsNotificationStanding w (earlier ++ later) origin queue target n → m < n
+pub order : (w : ShapeValue) (earlier later rest : List Event) (origin queue target m n : ℕ) → is_legal w (earlier ++ later ++ Put origin queue target n Applied ∷ rest) ≡ true
+    → IsWriteInLane w earlier origin queue target m → IsNotificationInLane w (earlier ++ later) origin queue target n → m < n
     → list_any (is_purge_of origin queue) later ≡ false
     → (place : ℕ) × (slice_get later place ≡ Some (Put origin queue target m Applied))
 order w earlier later rest origin queue target m n legal write note less unpurged = order-of is_write_kind is_notify_kind notify-waits w earlier later rest origin queue target m n legal write note less unpurged
 
-pub read-order : (w : World) (earlier later rest : List Event) (origin queue target m n : ℕ) → is_legal w (earlier ++ later ++ Put origin queue target n Applied ∷ rest) ≡ true
-    → IsReadStanding w earlier origin queue target m → IsReadNoteStanding w (earlier ++ later) origin queue target n → m < n
+pub read-order : (w : ShapeValue) (earlier later rest : List Event) (origin queue target m n : ℕ) → is_legal w (earlier ++ later ++ Put origin queue target n Applied ∷ rest) ≡ true
+    → IsReadInLane w earlier origin queue target m → IsReadNoteInLane w (earlier ++ later) origin queue target n → m < n
     → list_any (is_purge_of origin queue) later ≡ false
     → (place : ℕ) × (slice_get later place ≡ Some (Put origin queue target m Applied))
 read-order w earlier later rest origin queue target m n legal read note less unpurged = order-of is_read_kind is_read_note_kind read-note-waits w earlier later rest origin queue target m n legal read note less unpurged

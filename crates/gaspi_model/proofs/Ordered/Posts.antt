@@ -4,7 +4,7 @@ use Rattle.std.specs.List.{slice_get, slice_set}
 use Rattle.std.proofs.lemmas.Bool.{ltb-true}
 use Rattle.gaspi_types.specs.Lanes.{posted_entries}
 use Rattle.gaspi_types.specs.Posts.{slot_in, write_item, read_item, write_notify_item, read_notify_item, transfer_kind, write_kinds, read_kinds, notify_kinds, write_notify_kinds, read_notify_kinds, write_list_kinds, write_list_notify_kinds, read_list_kinds, read_list_notify_kinds}
-use Rattle.gaspi_types.specs.World.{World, IsWorld}
+use Rattle.gaspi_types.specs.World.{ShapeValue, IsShape}
 use Rattle.gaspi_types.specs.declared.entries.Entry.{Entry}
 use Rattle.gaspi_types.specs.declared.entries.Kind.{Kind}
 use Rattle.gaspi_types.specs.declared.entries.Kind.TheVariants.{Notify, ReadNote}
@@ -24,7 +24,7 @@ use Rattle.gaspi_types.specs.declared.calls.posts.ReadListNotify as read_list_no
 use Rattle.gaspi_types.specs.declared.calls.posts.Item.{Item}
 use Rattle.gaspi_types.specs.declared.entries.Direction.{Direction}
 use Rattle.gaspi_types.specs.declared.entries.Direction.TheVariants.{Outward, Inward}
-use Rattle.gaspi_types.specs.declared.entries.Ends.{Ends}
+use Rattle.gaspi_types.specs.declared.entries.Endpoints.{Endpoints}
 use Rattle.gaspi_types.specs.declared.segments.Extent.{Extent}
 use Rattle.gaspi_types.specs.declared.shapes.Limits.{Limits}
 use Rattle.gaspi_types.specs.declared.replies.Refusal.{Refusal}
@@ -34,14 +34,14 @@ use Rattle.gaspi_types.specs.declared.events.Event.TheVariants.{Called}
 use Rattle.gaspi_model.specs.State.{opening}
 use Rattle.gaspi_model.specs.Posting.{with_post, counted}
 use Rattle.gaspi_types.specs.Queues.{with_entries}
-use Rattle.gaspi_model.specs.PostCalls.{asked_finds}
-use Rattle.gaspi_model.specs.Calls.{call_finds, posts_done}
-use Rattle.gaspi_model.specs.Transfers.{Worked, find_entry}
+use Rattle.gaspi_model.specs.PostCalls.{post_request_result}
+use Rattle.gaspi_model.specs.Calls.{call_result, posts_effect}
+use Rattle.gaspi_model.specs.Transfers.{PostsAndMemory, find_entry}
 use Rattle.gaspi_model.specs.Step.{step, reached, is_legal}
-use Rattle.gaspi_model.specs.Shards.{standing}
+use Rattle.gaspi_model.specs.Shards.{entry_after}
 use Rattle.gaspi_model.specs.Sound.{IsSound}
 use Rattle.gaspi_types.specs.Lanes.{is_write, is_read, is_notify, is_read_note}
-use Rattle.gaspi_model.specs.Order.{IsStanding, AreStanding, IsWriteStanding, IsReadStanding, IsNotificationStanding, IsReadNoteStanding}
+use Rattle.gaspi_model.specs.Order.{IsInLane, AreInLane, IsWriteInLane, IsReadInLane, IsNotificationInLane, IsReadNoteInLane}
 use Rattle.gaspi_types.specs.declared.entries.Queue.{Queue}
 use Rattle.gaspi_model.specs.declared.states.Posts.{Posts}
 use Rattle.gaspi_model.specs.declared.states.Memory.{Memory}
@@ -52,33 +52,33 @@ use Rattle.gaspi_model.proofs.Asked.{AreTransfers, near_in, far_in, transfers-le
 use Rattle.gaspi_types.specs.CallRows.{row_of}
 use Rattle.gaspi_model.proofs.Made.{step-called}
 use Rattle.gaspi_model.proofs.Same.{same_reply-same}
-use Rattle.gaspi_types.proofs.Items.{slice_get-set_same, past-none, front-of-joined, behind-of-joined}
+use Rattle.gaspi_types.proofs.Items.{slice_get-set_same, past-none, prefix-of-joined, behind-of-joined}
 use Rattle.gaspi_model.proofs.Sound.Rising.{place_of-rising}
 use Rattle.gaspi_model.proofs.Sound.Accounts.{post-ok}
 use Rattle.gaspi_model.proofs.FoundReplies.{found-reply}
-use Rattle.gaspi_model.proofs.Sound.Told.{told-mine}
+use Rattle.gaspi_model.proofs.Sound.Registered.{registered-mine}
 use Rattle.gaspi_model.proofs.Histories.{reached-sound, after-both, after-first, leads}
 use Rattle.gaspi_model.proofs.Sound.Steps.{steps}
 
 -- an entry of a lane stands under its number
 entry-stands : (t : State) (posts : Posts) (q : Queue) (lane : List Entry) (origin queue target place : ℕ) (e : Entry) → slice_get t.posts origin ≡ Some posts → slice_get posts.queues queue ≡ Some q
-    → slice_get q.lanes target ≡ Some lane → slice_get lane place ≡ Some e → IsSound t → standing t origin queue target e.number ≡ Some e
+    → slice_get q.lanes target ≡ Some lane → slice_get lane place ≡ Some e → IsSound t → entry_after t origin queue target e.number ≡ Some e
 entry-stands t posts q lane origin queue target place e hp hq hl he sound =
     let rising = (sound.posts origin posts hp).rising queue q hq target lane hl in
     let at = place_of-rising posts.next lane place e rising he in
-    let found : find_entry posts queue target e.number whys.Put ≡ Ok (record { queue = q; lane = lane; place = place; entry = e }) = rw (hq, hl, at, he) refl in
+    let found : find_entry posts queue target e.number whys.Put ≡ Ok (record { queue = q; lane = lane; position = place; entry = e }) = rw (hq, hl, at, he) refl in
     rw (hp, found) refl
 
 -- what a post leaves in its lane: all that it asks for
 record PostLeaves (t : State) (origin queue target next : ℕ) (asked : Result (List Kind) Refusal) : Type 0 where
   kinds : List Kind
   asks : asked ≡ Ok kinds
-  stand : (k : ℕ) (e : Entry) → slice_get (posted_entries next kinds) k ≡ Some e → standing t origin queue target e.number ≡ Some e
+  stand : (k : ℕ) (e : Entry) → slice_get (posted_entries next kinds) k ≡ Some e → entry_after t origin queue target e.number ≡ Some e
 
 -- a call that posts so
 record IsPosting (limits : Limits) (me thread : ℕ) (posts : Posts) (call : Call) (rank queue : ℕ) (asked : Result (List Kind) Refusal) : Type 0 where
-  finds : (memory : Memory) → call_finds limits me posts memory call ≡ asked_finds limits posts rank queue asked
-  leaves : posts_done limits me posts thread call ≡ with_post posts queue rank asked
+  finds : (memory : Memory) → call_result limits me posts memory call ≡ post_request_result limits posts rank queue asked
+  leaves : posts_effect limits me posts thread call ≡ with_post posts queue rank asked
   plain : (row_of call).group ≡ None
 
 post-leaves : (s t : State) (c : CallerId) (call : Call) (rank queue : ℕ) (posts : Posts) (asked : Result (List Kind) Refusal) → IsSound s → slice_get s.posts c.rank ≡ Some posts
@@ -88,15 +88,15 @@ post-leaves s t c call rank queue posts asked sound hp so h =
     let m = made.3 in
     let same : made.0 ≡ posts = (let some : ◌≡◌ {A = Option Posts} (Some made.0) (Some posts) = sym m.posts_there ∙ hp in cc) in
     let finds = found-reply s.limits c.rank made.0 made.1 c.thread call replies.Done (same_reply-same _ _ m.is.answered) refl in
-    let finds' : asked_finds s.limits posts rank queue asked ≡ Ok (Some replies.Done) =
-    sym (so.finds made.1) ∙ subst (λ (x : Posts). call_finds s.limits c.rank x made.1 call ≡ Ok (Some replies.Done)) same finds in
+    let finds' : post_request_result s.limits posts rank queue asked ≡ Ok (Some replies.Done) =
+    sym (so.finds made.1) ∙ subst (λ (x : Posts). call_result s.limits c.rank x made.1 call ≡ Ok (Some replies.Done)) same finds in
     let posted = post-ok s.limits posts rank queue asked (Some replies.Done) finds' in
     let p = posted.2 in
     let later : made.2.posts ≡ counted (with_post posts queue rank (Ok posted.1)) =
-    ap (λ (x : Worked). x.posts) m.is.leaves ∙ ap (λ (x : Posts). counted (posts_done s.limits c.rank x c.thread call)) same ∙ ap counted so.leaves
+    ap (λ (x : PostsAndMemory). x.posts) m.is.leaves ∙ ap (λ (x : Posts). counted (posts_effect s.limits c.rank x c.thread call)) same ∙ ap counted so.leaves
     ∙ ap (λ (a : Result (List Kind) Refusal). counted (with_post posts queue rank a)) p.asks in
     let there : slice_get t.posts c.rank ≡ Some made.2.posts = ap (λ (x : State). slice_get x.posts c.rank) m.leaves
-    ∙ told-mine s.limits.ranks c.rank made.0 call replies.Done (slice_set s.posts c.rank made.2.posts) ∙ slice_get-set_same s.posts c.rank made.0 made.2.posts m.posts_there in
+    ∙ registered-mine s.limits.ranks c.rank made.0 call replies.Done (slice_set s.posts c.rank made.2.posts) ∙ slice_get-set_same s.posts c.rank made.0 made.2.posts m.posts_there in
     let lanes = (sound.posts c.rank posts hp).lanes queue posted.0 p.in_posts in
     record {
       kinds = posted.1;
@@ -107,7 +107,7 @@ post-leaves s t c call rank queue posts asked sound hp so h =
   where
     in-lane : (before later : Posts) (q : Queue) (kinds : List Kind) → slice_get t.posts c.rank ≡ Some later → later ≡ counted (with_post before queue rank (Ok kinds))
         → slice_get before.queues queue ≡ Some q → IsSound t → (lane : List Entry) → slice_get q.lanes rank ≡ Some lane
-        → (k : ℕ) (e : Entry) → slice_get (posted_entries before.next kinds) k ≡ Some e → standing t c.rank queue rank e.number ≡ Some e
+        → (k : ℕ) (e : Entry) → slice_get (posted_entries before.next kinds) k ≡ Some e → entry_after t c.rank queue rank e.number ≡ Some e
     in-lane before later q kinds there is hq sound' lane hl k e at =
         let changed = with_entries rank (posted_entries before.next kinds) q in
         let queue_there : slice_get later.queues queue ≡ Some changed = rw (is, hq) (slice_get-set_same before.queues queue q changed hq) in
@@ -118,17 +118,17 @@ post-leaves s t c call rank queue posts asked sound hp so h =
 
     with-lane : (before later : Posts) (q : Queue) (kinds : List Kind) → slice_get t.posts c.rank ≡ Some later → later ≡ counted (with_post before queue rank (Ok kinds))
         → slice_get before.queues queue ≡ Some q → IsSound t → (o : Option (List Entry)) → slice_get q.lanes rank ≡ o → rank < s.limits.ranks → length q.lanes ≡ s.limits.ranks
-        → (k : ℕ) (e : Entry) → slice_get (posted_entries before.next kinds) k ≡ Some e → standing t c.rank queue rank e.number ≡ Some e
+        → (k : ℕ) (e : Entry) → slice_get (posted_entries before.next kinds) k ≡ Some e → entry_after t c.rank queue rank e.number ≡ Some e
     with-lane before later q kinds there is hq sound' (Some lane) hl within lanes = in-lane before later q kinds there is hq sound' lane hl
     with-lane before later q kinds there is hq sound' None hl within lanes = absurd (past-none q.lanes rank (omega arith) hl)
 
 -- the state after a post that a legal history ends with
-record AfterPost (w : World) (history : List Event) (c : CallerId) (call : Call) (rank queue next : ℕ) (asked : Result (List Kind) Refusal) : Type 0 where
+record AfterPost (w : ShapeValue) (history : List Event) (c : CallerId) (call : Call) (rank queue next : ℕ) (asked : Result (List Kind) Refusal) : Type 0 where
   state : State
   leads_to : reached w (history ++ Called c call replies.Done ∷ []) ≡ Ok state
   leaves : PostLeaves state c.rank queue rank next asked
 
-after-post : (w : World) (history : List Event) (c : CallerId) (call : Call) (rank queue : ℕ) (s : State) (posts : Posts) (asked : Result (List Kind) Refusal) → IsWorld w → reached w history ≡ Ok s
+after-post : (w : ShapeValue) (history : List Event) (c : CallerId) (call : Call) (rank queue : ℕ) (s : State) (posts : Posts) (asked : Result (List Kind) Refusal) → IsShape w → reached w history ≡ Ok s
     → slice_get s.posts c.rank ≡ Some posts → IsPosting s.limits c.rank c.thread posts call rank queue asked → is_legal w (history ++ Called c call replies.Done ∷ []) ≡ true
     → AfterPost w history c call rank queue posts.next asked
 after-post w history c call rank queue s posts asked world h hp so legal =
@@ -158,16 +158,16 @@ posted-at next (x ∷ kinds) (suc k) kind at =
     posted-at (next + 1) kinds k kind at ∙ ap (λ (n : ℕ). Some (record { number = n; kind = kind; phase = phases.Posted })) number
 
 -- an entry of a post stands after it
-stands-at : (is_kind : Entry → Bool) (w : World) (history : List Event) (c : CallerId) (call : Call) (rank queue next : ℕ) (asked : Result (List Kind) Refusal) (k : ℕ) (kind : Kind)
+stands-at : (is_kind : Entry → Bool) (w : ShapeValue) (history : List Event) (c : CallerId) (call : Call) (rank queue next : ℕ) (asked : Result (List Kind) Refusal) (k : ℕ) (kind : Kind)
     → (a : AfterPost w history c call rank queue next asked) → slice_get a.leaves.kinds k ≡ Some kind → is_kind (record { number = next + k; kind = kind; phase = phases.Posted }) ≡ true
-    → IsStanding is_kind w (history ++ Called c call replies.Done ∷ []) c.rank queue rank (next + k)
+    → IsInLane is_kind w (history ++ Called c call replies.Done ∷ []) c.rank queue rank (next + k)
 stands-at is_kind w history c call rank queue next asked k kind a at is =
     let e : Entry = record { number = next + k; kind = kind; phase = phases.Posted } in
     record { state = a.state; entry = e; leads = a.leads_to; stands = a.leaves.stand k e (posted-at next a.leaves.kinds k kind at); kind = is }
 
 -- the transfers of a post
 transfer-at : (direction : Direction) (near far : ℕ → Option Extent) (items : List Item) (kinds : List Kind) (k : ℕ) → AreTransfers direction near far items kinds → k < length items
-    → (ends : Ends) × (slice_get kinds k ≡ Some (transfer_kind direction ends))
+    → (ends : Endpoints) × (slice_get kinds k ≡ Some (transfer_kind direction ends))
 transfer-at direction near far [] [] k are less = absurd (let no : ⊥ = omega arith in no)
 transfer-at direction near far [] (kind ∷ kinds) k are less = absurd are
 transfer-at direction near far (item ∷ items) [] k are less = absurd are
@@ -176,24 +176,24 @@ transfer-at direction near far (item ∷ items) (kind ∷ kinds) (suc k) are les
 
 -- of a kind as a transfer's
 abbrev IsKindOf : Direction → (Entry → Bool) → Type 0
-IsKindOf direction is_kind = (n : ℕ) (ends : Ends) → is_kind (record { number = n; kind = transfer_kind direction ends; phase = phases.Posted }) ≡ true
+IsKindOf direction is_kind = (n : ℕ) (ends : Endpoints) → is_kind (record { number = n; kind = transfer_kind direction ends; phase = phases.Posted }) ≡ true
 
 transfers-stand : (direction : Direction) (is_kind : Entry → Bool) (near far : ℕ → Option Extent) (items : List Item) (transfers rest : List Kind)
-    → (w : World) (history : List Event) (c : CallerId) (call : Call) (rank queue next : ℕ) (asked : Result (List Kind) Refusal) (a : AfterPost w history c call rank queue next asked)
+    → (w : ShapeValue) (history : List Event) (c : CallerId) (call : Call) (rank queue next : ℕ) (asked : Result (List Kind) Refusal) (a : AfterPost w history c call rank queue next asked)
     → IsKindOf direction is_kind → AreTransfers direction near far items transfers → a.leaves.kinds ≡ transfers ++ rest
-    → AreStanding is_kind w (history ++ Called c call replies.Done ∷ []) c.rank queue rank next (length items)
+    → AreInLane is_kind w (history ++ Called c call replies.Done ∷ []) c.rank queue rank next (length items)
 transfers-stand direction is_kind near far items transfers rest w history c call rank queue next asked a kinds are is k less =
     let many = transfers-length direction near far items transfers are in
     let at = transfer-at direction near far items transfers k are less in
     let there : slice_get a.leaves.kinds k ≡ Some (transfer_kind direction at.0) =
-    ap (λ (x : List Kind). slice_get x k) is ∙ front-of-joined transfers rest k (omega arith) ∙ at.1 in
+    ap (λ (x : List Kind). slice_get x k) is ∙ prefix-of-joined transfers rest k (omega arith) ∙ at.1 in
     stands-at is_kind w history c call rank queue next asked k (transfer_kind direction at.0) a there (kinds (next + k) at.0)
 
 -- and a notification behind them
 note-stands : (direction : Direction) (is_kind : Entry → Bool) (near far : ℕ → Option Extent) (items : List Item) (transfers : List Kind) (note : Kind)
-    → (w : World) (history : List Event) (c : CallerId) (call : Call) (rank queue next : ℕ) (asked : Result (List Kind) Refusal) (a : AfterPost w history c call rank queue next asked)
+    → (w : ShapeValue) (history : List Event) (c : CallerId) (call : Call) (rank queue next : ℕ) (asked : Result (List Kind) Refusal) (a : AfterPost w history c call rank queue next asked)
     → ((n : ℕ) → is_kind (record { number = n; kind = note; phase = phases.Posted }) ≡ true) → AreTransfers direction near far items transfers → a.leaves.kinds ≡ transfers ++ note ∷ []
-    → IsStanding is_kind w (history ++ Called c call replies.Done ∷ []) c.rank queue rank (next + length items)
+    → IsInLane is_kind w (history ++ Called c call replies.Done ∷ []) c.rank queue rank (next + length items)
 note-stands direction is_kind near far items transfers note w history c call rank queue next asked a kind are is =
     let many = transfers-length direction near far items transfers are in
     let there : slice_get a.leaves.kinds (length items) ≡ Some note =
@@ -206,11 +206,11 @@ nothing-behind [] = refl
 nothing-behind (kind ∷ kinds) = ap (λ (rest : List Kind). kind ∷ rest) (nothing-behind kinds)
 
 -- the number of the first
-first-of : (is_kind : Entry → Bool) (w : World) (history : List Event) (origin queue target next : ℕ) (count : ℕ) → 0 < count → AreStanding is_kind w history origin queue target next count
-    → IsStanding is_kind w history origin queue target next
+first-of : (is_kind : Entry → Bool) (w : ShapeValue) (history : List Event) (origin queue target next : ℕ) (count : ℕ) → 0 < count → AreInLane is_kind w history origin queue target next count
+    → IsInLane is_kind w history origin queue target next
 first-of is_kind w history origin queue target next count some all =
     let number : next + 0 ≡ next = omega arith in
-    subst (λ (n : ℕ). IsStanding is_kind w history origin queue target n) number (all 0 some)
+    subst (λ (n : ℕ). IsInLane is_kind w history origin queue target n) number (all 0 some)
 
 writes : IsKindOf Outward is_write
 writes n ends = refl
@@ -218,9 +218,9 @@ writes n ends = refl
 reads : IsKindOf Inward is_read
 reads n ends = refl
 
-pub posted-write : (w : World) (history : List Event) (c : CallerId) (call : write.Write) (s : State) (posts : Posts) → IsWorld w → reached w history ≡ Ok s
+pub posted-write : (w : ShapeValue) (history : List Event) (c : CallerId) (call : write.Write) (s : State) (posts : Posts) → IsShape w → reached w history ≡ Ok s
     → slice_get s.posts c.rank ≡ Some posts → is_legal w (history ++ Called c (calls.Write call) replies.Done ∷ []) ≡ true
-    → IsWriteStanding w (history ++ Called c (calls.Write call) replies.Done ∷ []) c.rank call.queue call.rank posts.next
+    → IsWriteInLane w (history ++ Called c (calls.Write call) replies.Done ∷ []) c.rank call.queue call.rank posts.next
 posted-write w history c call s posts world h hp legal =
     let asked = write_kinds c.rank posts.segments call in
     let a = after-post w history c (calls.Write call) call.rank call.queue s posts asked world h hp (record { finds = λ memory. refl; leaves = refl; plain = refl }) legal in
@@ -228,9 +228,9 @@ posted-write w history c call s posts world h hp legal =
     first-of is_write w (history ++ Called c (calls.Write call) replies.Done ∷ []) c.rank call.queue call.rank posts.next 1 (omega arith)
     (transfers-stand Outward is_write (near_in posts.segments) (far_in c.rank posts.segments call.rank) (write_item call ∷ []) a.leaves.kinds [] w history c (calls.Write call) call.rank call.queue posts.next asked a writes are (nothing-behind a.leaves.kinds))
 
-pub posted-read : (w : World) (history : List Event) (c : CallerId) (call : read.Read) (s : State) (posts : Posts) → IsWorld w → reached w history ≡ Ok s
+pub posted-read : (w : ShapeValue) (history : List Event) (c : CallerId) (call : read.Read) (s : State) (posts : Posts) → IsShape w → reached w history ≡ Ok s
     → slice_get s.posts c.rank ≡ Some posts → is_legal w (history ++ Called c (calls.Read call) replies.Done ∷ []) ≡ true
-    → IsReadStanding w (history ++ Called c (calls.Read call) replies.Done ∷ []) c.rank call.queue call.rank posts.next
+    → IsReadInLane w (history ++ Called c (calls.Read call) replies.Done ∷ []) c.rank call.queue call.rank posts.next
 posted-read w history c call s posts world h hp legal =
     let asked = read_kinds c.rank posts.segments call in
     let a = after-post w history c (calls.Read call) call.rank call.queue s posts asked world h hp (record { finds = λ memory. refl; leaves = refl; plain = refl }) legal in
@@ -238,21 +238,21 @@ posted-read w history c call s posts world h hp legal =
     first-of is_read w (history ++ Called c (calls.Read call) replies.Done ∷ []) c.rank call.queue call.rank posts.next 1 (omega arith)
     (transfers-stand Inward is_read (near_in posts.segments) (far_in c.rank posts.segments call.rank) (read_item call ∷ []) a.leaves.kinds [] w history c (calls.Read call) call.rank call.queue posts.next asked a reads are (nothing-behind a.leaves.kinds))
 
-pub posted-notify : (w : World) (history : List Event) (c : CallerId) (call : notify.Notify) (s : State) (posts : Posts) → IsWorld w → reached w history ≡ Ok s
+pub posted-notify : (w : ShapeValue) (history : List Event) (c : CallerId) (call : notify.Notify) (s : State) (posts : Posts) → IsShape w → reached w history ≡ Ok s
     → slice_get s.posts c.rank ≡ Some posts → is_legal w (history ++ Called c (calls.Notify call) replies.Done ∷ []) ≡ true
-    → IsNotificationStanding w (history ++ Called c (calls.Notify call) replies.Done ∷ []) c.rank call.queue call.rank posts.next
+    → IsNotificationInLane w (history ++ Called c (calls.Notify call) replies.Done ∷ []) c.rank call.queue call.rank posts.next
 posted-notify w history c call s posts world h hp legal =
     let asked = notify_kinds s.limits.notes c.rank posts.segments call in
     let a = after-post w history c (calls.Notify call) call.rank call.queue s posts asked world h hp (record { finds = λ memory. refl; leaves = refl; plain = refl }) legal in
     let k = noted_writes-ok s.limits.notes c.rank posts.segments call.rank [] call.rseg call.note call.value a.leaves.kinds a.leaves.asks in
     let number : posts.next + 0 ≡ posts.next = omega arith in
-    subst (λ (n : ℕ). IsNotificationStanding w (history ++ Called c (calls.Notify call) replies.Done ∷ []) c.rank call.queue call.rank n) number
+    subst (λ (n : ℕ). IsNotificationInLane w (history ++ Called c (calls.Notify call) replies.Done ∷ []) c.rank call.queue call.rank n) number
     (note-stands Outward is_notify (near_in posts.segments) (far_in c.rank posts.segments call.rank) [] k.transfers (Notify (slot_in k.theirs call.rseg call.note) call.value) w history c (calls.Notify call) call.rank call.queue posts.next asked a (λ n. refl) k.are k.is)
 
-pub posted-write_notify : (w : World) (history : List Event) (c : CallerId) (call : write_notify.WriteNotify) (s : State) (posts : Posts) → IsWorld w → reached w history ≡ Ok s
+pub posted-write_notify : (w : ShapeValue) (history : List Event) (c : CallerId) (call : write_notify.WriteNotify) (s : State) (posts : Posts) → IsShape w → reached w history ≡ Ok s
     → slice_get s.posts c.rank ≡ Some posts → is_legal w (history ++ Called c (calls.WriteNotify call) replies.Done ∷ []) ≡ true
-    → IsWriteStanding w (history ++ Called c (calls.WriteNotify call) replies.Done ∷ []) c.rank call.queue call.rank posts.next
-    × IsNotificationStanding w (history ++ Called c (calls.WriteNotify call) replies.Done ∷ []) c.rank call.queue call.rank (posts.next + 1)
+    → IsWriteInLane w (history ++ Called c (calls.WriteNotify call) replies.Done ∷ []) c.rank call.queue call.rank posts.next
+    × IsNotificationInLane w (history ++ Called c (calls.WriteNotify call) replies.Done ∷ []) c.rank call.queue call.rank (posts.next + 1)
 posted-write_notify w history c call s posts world h hp legal =
     let asked = write_notify_kinds s.limits.notes c.rank posts.segments call in
     let a = after-post w history c (calls.WriteNotify call) call.rank call.queue s posts asked world h hp (record { finds = λ memory. refl; leaves = refl; plain = refl }) legal in
@@ -263,10 +263,10 @@ posted-write_notify w history c call s posts world h hp legal =
       note-stands Outward is_notify (near_in posts.segments) (far_in c.rank posts.segments call.rank) (write_notify_item call ∷ []) k.transfers note w history c (calls.WriteNotify call) call.rank call.queue posts.next asked a (λ n. refl) k.are k.is,
     )
 
-pub posted-read_notify : (w : World) (history : List Event) (c : CallerId) (call : read_notify.ReadNotify) (s : State) (posts : Posts) → IsWorld w → reached w history ≡ Ok s
+pub posted-read_notify : (w : ShapeValue) (history : List Event) (c : CallerId) (call : read_notify.ReadNotify) (s : State) (posts : Posts) → IsShape w → reached w history ≡ Ok s
     → slice_get s.posts c.rank ≡ Some posts → is_legal w (history ++ Called c (calls.ReadNotify call) replies.Done ∷ []) ≡ true
-    → IsReadStanding w (history ++ Called c (calls.ReadNotify call) replies.Done ∷ []) c.rank call.queue call.rank posts.next
-    × IsReadNoteStanding w (history ++ Called c (calls.ReadNotify call) replies.Done ∷ []) c.rank call.queue call.rank (posts.next + 1)
+    → IsReadInLane w (history ++ Called c (calls.ReadNotify call) replies.Done ∷ []) c.rank call.queue call.rank posts.next
+    × IsReadNoteInLane w (history ++ Called c (calls.ReadNotify call) replies.Done ∷ []) c.rank call.queue call.rank (posts.next + 1)
 posted-read_notify w history c call s posts world h hp legal =
     let asked = read_notify_kinds s.limits.notes c.rank posts.segments call in
     let a = after-post w history c (calls.ReadNotify call) call.rank call.queue s posts asked world h hp (record { finds = λ memory. refl; leaves = refl; plain = refl }) legal in
@@ -277,9 +277,9 @@ posted-read_notify w history c call s posts world h hp legal =
       note-stands Inward is_read_note (near_in posts.segments) (far_in c.rank posts.segments call.rank) (read_notify_item call ∷ []) k.transfers note w history c (calls.ReadNotify call) call.rank call.queue posts.next asked a (λ n. refl) k.are k.is,
     )
 
-pub posted-write_list : (w : World) (history : List Event) (c : CallerId) (call : write_list.WriteList) (s : State) (posts : Posts) → IsWorld w → reached w history ≡ Ok s
+pub posted-write_list : (w : ShapeValue) (history : List Event) (c : CallerId) (call : write_list.WriteList) (s : State) (posts : Posts) → IsShape w → reached w history ≡ Ok s
     → slice_get s.posts c.rank ≡ Some posts → is_legal w (history ++ Called c (calls.WriteList call) replies.Done ∷ []) ≡ true
-    → AreStanding is_write w (history ++ Called c (calls.WriteList call) replies.Done ∷ []) c.rank call.queue call.rank posts.next (length call.items)
+    → AreInLane is_write w (history ++ Called c (calls.WriteList call) replies.Done ∷ []) c.rank call.queue call.rank posts.next (length call.items)
 posted-write_list w history c call s posts world h hp legal =
     let asked = write_list_kinds c.rank posts.segments call in
     let a = after-post w history c (calls.WriteList call) call.rank call.queue s posts asked world h hp (record { finds = λ memory. refl; leaves = refl; plain = refl }) legal in
@@ -287,9 +287,9 @@ posted-write_list w history c call s posts world h hp legal =
     let are = alone-ok Outward c.rank posts.segments call.rank call.items a.leaves.kinds l.1 in
     transfers-stand Outward is_write (near_in posts.segments) (far_in c.rank posts.segments call.rank) call.items a.leaves.kinds [] w history c (calls.WriteList call) call.rank call.queue posts.next asked a writes are (nothing-behind a.leaves.kinds)
 
-pub posted-read_list : (w : World) (history : List Event) (c : CallerId) (call : read_list.ReadList) (s : State) (posts : Posts) → IsWorld w → reached w history ≡ Ok s
+pub posted-read_list : (w : ShapeValue) (history : List Event) (c : CallerId) (call : read_list.ReadList) (s : State) (posts : Posts) → IsShape w → reached w history ≡ Ok s
     → slice_get s.posts c.rank ≡ Some posts → is_legal w (history ++ Called c (calls.ReadList call) replies.Done ∷ []) ≡ true
-    → AreStanding is_read w (history ++ Called c (calls.ReadList call) replies.Done ∷ []) c.rank call.queue call.rank posts.next (length call.items)
+    → AreInLane is_read w (history ++ Called c (calls.ReadList call) replies.Done ∷ []) c.rank call.queue call.rank posts.next (length call.items)
 posted-read_list w history c call s posts world h hp legal =
     let asked = read_list_kinds c.rank posts.segments call in
     let a = after-post w history c (calls.ReadList call) call.rank call.queue s posts asked world h hp (record { finds = λ memory. refl; leaves = refl; plain = refl }) legal in
@@ -297,10 +297,10 @@ posted-read_list w history c call s posts world h hp legal =
     let are = alone-ok Inward c.rank posts.segments call.rank call.items a.leaves.kinds l.1 in
     transfers-stand Inward is_read (near_in posts.segments) (far_in c.rank posts.segments call.rank) call.items a.leaves.kinds [] w history c (calls.ReadList call) call.rank call.queue posts.next asked a reads are (nothing-behind a.leaves.kinds)
 
-pub posted-write_list_notify : (w : World) (history : List Event) (c : CallerId) (call : write_list_notify.WriteListNotify) (s : State) (posts : Posts) → IsWorld w → reached w history ≡ Ok s
+pub posted-write_list_notify : (w : ShapeValue) (history : List Event) (c : CallerId) (call : write_list_notify.WriteListNotify) (s : State) (posts : Posts) → IsShape w → reached w history ≡ Ok s
     → slice_get s.posts c.rank ≡ Some posts → is_legal w (history ++ Called c (calls.WriteListNotify call) replies.Done ∷ []) ≡ true
-    → AreStanding is_write w (history ++ Called c (calls.WriteListNotify call) replies.Done ∷ []) c.rank call.queue call.rank posts.next (length call.items)
-    × IsNotificationStanding w (history ++ Called c (calls.WriteListNotify call) replies.Done ∷ []) c.rank call.queue call.rank (posts.next + length call.items)
+    → AreInLane is_write w (history ++ Called c (calls.WriteListNotify call) replies.Done ∷ []) c.rank call.queue call.rank posts.next (length call.items)
+    × IsNotificationInLane w (history ++ Called c (calls.WriteListNotify call) replies.Done ∷ []) c.rank call.queue call.rank (posts.next + length call.items)
 posted-write_list_notify w history c call s posts world h hp legal =
     let asked = write_list_notify_kinds s.limits.notes c.rank posts.segments call in
     let a = after-post w history c (calls.WriteListNotify call) call.rank call.queue s posts asked world h hp (record { finds = λ memory. refl; leaves = refl; plain = refl }) legal in
@@ -311,10 +311,10 @@ posted-write_list_notify w history c call s posts world h hp legal =
       note-stands Outward is_notify (near_in posts.segments) (far_in c.rank posts.segments call.rank) call.items k.transfers note w history c (calls.WriteListNotify call) call.rank call.queue posts.next asked a (λ n. refl) k.are k.is,
     )
 
-pub posted-read_list_notify : (w : World) (history : List Event) (c : CallerId) (call : read_list_notify.ReadListNotify) (s : State) (posts : Posts) → IsWorld w → reached w history ≡ Ok s
+pub posted-read_list_notify : (w : ShapeValue) (history : List Event) (c : CallerId) (call : read_list_notify.ReadListNotify) (s : State) (posts : Posts) → IsShape w → reached w history ≡ Ok s
     → slice_get s.posts c.rank ≡ Some posts → is_legal w (history ++ Called c (calls.ReadListNotify call) replies.Done ∷ []) ≡ true
-    → AreStanding is_read w (history ++ Called c (calls.ReadListNotify call) replies.Done ∷ []) c.rank call.queue call.rank posts.next (length call.items)
-    × IsReadNoteStanding w (history ++ Called c (calls.ReadListNotify call) replies.Done ∷ []) c.rank call.queue call.rank (posts.next + length call.items)
+    → AreInLane is_read w (history ++ Called c (calls.ReadListNotify call) replies.Done ∷ []) c.rank call.queue call.rank posts.next (length call.items)
+    × IsReadNoteInLane w (history ++ Called c (calls.ReadListNotify call) replies.Done ∷ []) c.rank call.queue call.rank (posts.next + length call.items)
 posted-read_list_notify w history c call s posts world h hp legal =
     let asked = read_list_notify_kinds s.limits.notes c.rank posts.segments call in
     let a = after-post w history c (calls.ReadListNotify call) call.rank call.queue s posts asked world h hp (record { finds = λ memory. refl; leaves = refl; plain = refl }) legal in

@@ -16,7 +16,7 @@ use Rattle.gaspi_types.specs.declared.replies.Refusal.TheVariants.{CallerEnded}
 use Rattle.gaspi_model.specs.State.{thread_at, is_running}
 use Rattle.gaspi_model.specs.Posting.{counted}
 use Rattle.gaspi_model.specs.Calls.{answer, recorded_reply}
-use Rattle.gaspi_model.specs.Transfers.{Found}
+use Rattle.gaspi_model.specs.Transfers.{EntryPosition}
 use Rattle.gaspi_model.specs.Step.{step, after}
 use Rattle.gaspi_model.specs.Settled.{AreLanesEmpty, IsSettled}
 use Rattle.gaspi_model.specs.Changes.{IsOnlyCounted}
@@ -33,11 +33,11 @@ use Rattle.gaspi_types.proofs.Items.{slice_get-set}
 use Rattle.gaspi_model.proofs.FoundEntries.{IsFound}
 
 -- an entry that stands in a lane that is empty
-no-entry : (s : State) (posts : Posts) (origin queue target number : ℕ) (at : Found) → AreLanesEmpty s → slice_get s.posts origin ≡ Some posts → IsFound posts queue target number at
+no-entry : (s : State) (posts : Posts) (origin queue target number : ℕ) (at : EntryPosition) → AreLanesEmpty s → slice_get s.posts origin ≡ Some posts → IsFound posts queue target number at
     → is_none at.queue.broken ≡ true → ⊥
 no-entry s posts origin queue target number at empty hp is whole =
     let none = empty origin posts hp queue at.queue is.in_posts whole target at.lane is.in_queue in
-    let here : slice_get {X = Entry} [] at.place ≡ Some at.entry = subst (λ (lane : List Entry). slice_get lane at.place ≡ Some at.entry) none is.in_lane in
+    let here : slice_get {X = Entry} [] at.position ≡ Some at.entry = subst (λ (lane : List Entry). slice_get lane at.position ≡ Some at.entry) none is.in_lane in
     let no : ⊥ = cc in no
 
 counted-settled : (s t : State) (rank : ℕ) → IsSettled s → IsOnlyCounted s t rank → IsSettled t

@@ -13,15 +13,15 @@ use Rattle.gaspi_types.specs.declared.call_rows.Posting.{Posting}
 use Rattle.gaspi_types.specs.declared.calls.Call.{Call}
 use Rattle.gaspi_types.specs.declared.calls.Call.TheVariants.{Write, Read, Notify, WriteNotify, ReadNotify, WriteList, WriteListNotify, ReadList, ReadListNotify, End}
 use Rattle.gaspi_types.specs.declared.shapes.Limits.{Limits}
-use Rattle.gaspi_model.specs.Calls.{call_asks}
+use Rattle.gaspi_model.specs.Calls.{requested_kinds}
 use Rattle.gaspi_types.specs.declared.events.Outcome.{Outcome}
 use Rattle.gaspi_types.specs.declared.events.Outcome.TheVariants.{Applied, Failed}
 use Rattle.gaspi_model.specs.State.{owed}
 use Rattle.gaspi_types.specs.Queues.{queue_owed}
 use Rattle.gaspi_model.specs.Posting.{counted}
 use Rattle.gaspi_types.specs.Tables.{changed_at}
-use Rattle.gaspi_model.specs.PostCalls.{asked_finds}
-use Rattle.gaspi_model.specs.Transfers.{Found, taken_bytes, Worked}
+use Rattle.gaspi_model.specs.PostCalls.{post_request_result}
+use Rattle.gaspi_model.specs.Transfers.{EntryPosition, source_bytes, PostsAndMemory}
 use Rattle.gaspi_types.specs.declared.entries.Queue.{Queue}
 use Rattle.gaspi_model.specs.declared.states.Posts.{Posts}
 use Rattle.gaspi_model.specs.declared.states.Memory.{Memory}
@@ -76,7 +76,7 @@ carried_owes (phases.Carried bytes) h = refl
 carried_owes phases.Failed h = absurd (let no : ⊥ = cc in no)
 
 -- an event more, and owing one less: the room taken stays
-pub with_lane-owed : (posts : Posts) (queue target number : ℕ) (at : Found) (lane : List Entry) → IsFound posts queue target number at
+pub with_lane-owed : (posts : Posts) (queue target number : ℕ) (at : EntryPosition) (lane : List Entry) → IsFound posts queue target number at
     → lane_owed lane + 1 ≡ lane_owed at.lane
     → (counted (with_lane posts queue target lane)).events + owed (counted (with_lane posts queue target lane)) ≡ posts.events + owed posts
 with_lane-owed posts queue target number at lane is less =
@@ -85,11 +85,11 @@ with_lane-owed posts queue target number at lane is less =
     omega arith
 
 -- an event more, and an entry that failed, which owes nothing
-failed-owed : (posts : Posts) (queue target number : ℕ) (at : Found) → IsFound posts queue target number at
+failed-owed : (posts : Posts) (queue target number : ℕ) (at : EntryPosition) → IsFound posts queue target number at
     → (counted (failed_with posts queue target at)).events + owed (counted (failed_with posts queue target at)) + entry_owed at.entry ≡ posts.events + owed posts + 1
 failed-owed posts queue target number at is =
-    let lane = lane_owed-phase at.lane at.place at.entry phases.Failed is.in_lane in
-    let lanes = queue_owed-lane at.queue.lanes target at.lane (with_phase at.lane at.place at.entry phases.Failed) is.in_queue in
+    let lane = lane_owed-phase at.lane at.position at.entry phases.Failed is.in_lane in
+    let lanes = queue_owed-lane at.queue.lanes target at.lane (with_phase at.lane at.position at.entry phases.Failed) is.in_queue in
     let queues = entries_owed-queue posts.queues queue at.queue (queue_with_failed target at) is.in_posts in
     omega arith
 
@@ -98,24 +98,24 @@ abbrev pub take_spares : Outcome → ℕ
 take_spares Applied = 0
 take_spares Failed = 1
 
-pub take-owed : (limits : Limits) (posts : Posts) (memory : Memory) (queue target number : ℕ) (outcome : Outcome) (after : Posts) (at : Found)
+pub take-owed : (limits : Limits) (posts : Posts) (memory : Memory) (queue target number : ℕ) (outcome : Outcome) (after : Posts) (at : EntryPosition)
     → IsTake limits posts memory queue target number outcome after at → after.events + owed after + take_spares outcome ≡ posts.events + owed posts
 take-owed limits posts memory queue target number Failed after at h =
     let two = posted_owes at.entry.phase (both (is_posted at.entry) _ h.permitted).0 in
     let failed = failed-owed posts queue target number at h.is in
     rw h.leaves (omega arith)
 take-owed limits posts memory queue target number Applied after at h =
-    let phase = phases.Carried (taken_bytes memory at.entry.kind) in
+    let phase = phases.Carried (source_bytes memory at.entry.kind) in
     let two = posted_owes at.entry.phase (both (is_posted at.entry) _ h.permitted).0 in
-    let lane = lane_owed-phase at.lane at.place at.entry phase h.is.in_lane in
-    let owes = with_lane-owed posts queue target number at (with_phase at.lane at.place at.entry phase) h.is (omega arith) in
+    let lane = lane_owed-phase at.lane at.position at.entry phase h.is.in_lane in
+    let owes = with_lane-owed posts queue target number at (with_phase at.lane at.position at.entry phase) h.is (omega arith) in
     rw h.leaves (omega arith)
 
-pub put-owed : (posts : Posts) (memory : Memory) (queue target number : ℕ) (outcome : Outcome) (after : Worked) (at : Found)
+pub put-owed : (posts : Posts) (memory : Memory) (queue target number : ℕ) (outcome : Outcome) (after : PostsAndMemory) (at : EntryPosition)
     → IsPut posts memory queue target number outcome after at → after.posts.events + owed after.posts ≡ posts.events + owed posts
 put-owed posts memory queue target number Applied after at h =
     let one = carried_owes at.entry.phase (both (is_carried at.entry) _ h.permitted).0 in
-    let lane = lane_owed-remove at.lane at.place at.entry h.is.in_lane in
+    let lane = lane_owed-remove at.lane at.position at.entry h.is.in_lane in
     rw h.leaves (with_lane-owed posts queue target number at _ h.is (omega arith))
 put-owed posts memory queue target number Failed after at h =
     let one = carried_owes at.entry.phase (both (is_carried at.entry) _ h.permitted).0 in
@@ -126,11 +126,11 @@ put-owed posts memory queue target number Failed after at h =
 
 -- a call that posts asks for as many entries as its row says, and for at least one
 pub asks-counted : (limits : Limits) (me : ℕ) (posts : Posts) (call : Call) (to : Posting) (kinds : List Kind) → (row_of call).posting ≡ Some to
-    → call_asks limits me posts call ≡ Ok kinds → length kinds ≡ to.entries
+    → requested_kinds limits me posts call ≡ Ok kinds → length kinds ≡ to.entries
 asks-counted limits me posts call to kinds is h = (asked-by limits.notes me posts.segments call to kinds is h).count
 
 pub asks-some : (limits : Limits) (me : ℕ) (posts : Posts) (call : Call) (to : Posting) (kinds : List Kind) → (row_of call).posting ≡ Some to
-    → call_asks limits me posts call ≡ Ok kinds → 1 ≤ to.entries
+    → requested_kinds limits me posts call ≡ Ok kinds → 1 ≤ to.entries
 asks-some limits me posts call to kinds is h = (asked-by limits.notes me posts.segments call to kinds is h).some
 
 -- and is no end
@@ -160,7 +160,7 @@ pub record IsPosted (limits : Limits) (posts : Posts) (rank queue : ℕ) (asked 
   pub room : nat_le (q.open_count + length kinds) limits.depth ≡ true
   pub done : reply ≡ Some replies.Done
 
-pub post-ok : (limits : Limits) (posts : Posts) (rank queue : ℕ) (asked : Result (List Kind) Refusal) (reply : Option Reply) → asked_finds limits posts rank queue asked ≡ Ok reply
+pub post-ok : (limits : Limits) (posts : Posts) (rank queue : ℕ) (asked : Result (List Kind) Refusal) (reply : Option Reply) → post_request_result limits posts rank queue asked ≡ Ok reply
     → (q : Queue) × (kinds : List Kind) × IsPosted limits posts rank queue asked reply q kinds
 post-ok limits posts rank queue asked reply h =
     check_then (nat_lt rank limits.ranks) BadRank _ reply h (λ ranked h1.

@@ -24,8 +24,8 @@ use Rattle.gaspi_types.specs.Tables.{changed_at}
 use Rattle.gaspi_model.specs.QueueCalls.{emptied, purged}
 use Rattle.gaspi_model.specs.GroupCalls.{group_create_leaves, group_add_leaves, group_delete_leaves}
 use Rattle.gaspi_model.specs.SegmentCalls.{with_own, without_own}
-use Rattle.gaspi_model.specs.PostCalls.{asked_finds}
-use Rattle.gaspi_model.specs.Calls.{posts_after, charge, answer, call_finds, ready_of, recorded_reply, plain_finds, plain_done, call_asks}
+use Rattle.gaspi_model.specs.PostCalls.{post_request_result}
+use Rattle.gaspi_model.specs.Calls.{posts_after, charge, answer, call_result, ready_of, recorded_reply, plain_result, plain_effect, requested_kinds}
 use Rattle.gaspi_types.specs.declared.entries.Queue.{Queue}
 use Rattle.gaspi_model.specs.declared.states.ThreadState.{ThreadState}
 use Rattle.gaspi_model.specs.declared.states.ThreadState.TheVariants as threads
@@ -119,7 +119,7 @@ posts-grow false posts done events same = omega arith
 
 -- a post, by what it asks for: so many entries, where it is not refused
 posted-grows : (limits : Limits) (posts : Posts) (rank queue count : ℕ) (asked : Result (List Kind) Refusal) (finds : Result (Option Reply) Refusal) → HasLanes limits.ranks posts
-    → ((kinds : List Kind) → asked ≡ Ok kinds → length kinds ≡ count) → asked_finds limits posts rank queue asked ≡ finds
+    → ((kinds : List Kind) → asked ≡ Ok kinds → length kinds ≡ count) → post_request_result limits posts rank queue asked ≡ finds
     → (counted (if is_idle (recorded_reply (ready_of finds)) then posts else with_post posts queue rank asked)).events
     + owed (counted (if is_idle (recorded_reply (ready_of finds)) then posts else with_post posts queue rank asked))
     ≡ posts.events + owed posts + (if is_done (recorded_reply (ready_of finds)) then 1 + 2 * count else 1)
@@ -160,9 +160,9 @@ at-most-charged a b m n less same = omega arith
 
 -- of a running thread, by what the call finds that posts nothing
 plain-grows : (limits : Limits) (me : ℕ) (posts : Posts) (memory : Memory) (thread : ℕ) (call : Call) (finds : Result (Option Reply) Refusal)
-    → is_running (thread_at posts thread) ≡ true → plain_finds limits me posts memory call ≡ finds
-    → (counted (if is_idle (recorded_reply (ready_of finds)) then posts else plain_done posts thread call)).events
-    + owed (counted (if is_idle (recorded_reply (ready_of finds)) then posts else plain_done posts thread call)) ≤ posts.events + owed posts + (if is_end call then 0 else 1)
+    → is_running (thread_at posts thread) ≡ true → plain_result limits me posts memory call ≡ finds
+    → (counted (if is_idle (recorded_reply (ready_of finds)) then posts else plain_effect posts thread call)).events
+    + owed (counted (if is_idle (recorded_reply (ready_of finds)) then posts else plain_effect posts thread call)) ≤ posts.events + owed posts + (if is_end call then 0 else 1)
 plain-grows limits me posts memory thread (Alloc call) finds running is = at-most _ _ (posts-grow (is_idle (recorded_reply (ready_of finds))) posts (with_own posts call.seg call.size) refl refl)
 plain-grows limits me posts memory thread (Delete call) finds running is = at-most _ _ (posts-grow (is_idle (recorded_reply (ready_of finds))) posts (without_own posts call.seg) refl refl)
 plain-grows limits me posts memory thread (Wait call) finds running is = at-most _ _ (waited-grows (is_idle (recorded_reply (ready_of finds))) posts call.queue)
@@ -177,7 +177,7 @@ plain-grows limits me posts memory thread other finds running is = at-most _ _ (
 
 -- of a running thread, by what the call finds
 running-grows : (limits : Limits) (me : ℕ) (posts : Posts) (memory : Memory) (thread : ℕ) (call : Call) (finds : Result (Option Reply) Refusal)
-    → HasLanes limits.ranks posts → is_running (thread_at posts thread) ≡ true → call_finds limits me posts memory call ≡ finds
+    → HasLanes limits.ranks posts → is_running (thread_at posts thread) ≡ true → call_result limits me posts memory call ≡ finds
     → Grows limits me posts thread call (recorded_reply (ready_of finds))
 running-grows limits me posts memory thread call finds lanes running is = by-posting (row_of call).posting refl
   where
@@ -192,7 +192,7 @@ running-grows limits me posts memory thread call finds lanes running is = by-pos
         let charge_is = charged (is_end call) refl none in
         rw (none, running) (at-most-charged _ _ _ _ grows (rw none at charge_is))
     by-posting (Some to) post =
-        let grows = posted-grows limits posts to.rank to.queue to.entries (call_asks limits me posts call) finds lanes (λ kinds asks. asks-counted limits me posts call to kinds post asks) (rw post at is) in
+        let grows = posted-grows limits posts to.rank to.queue to.entries (requested_kinds limits me posts call) finds lanes (λ kinds asks. asks-counted limits me posts call to kinds post asks) (rw post at is) in
         rw (post, posting-goes_on call to post) (at-most _ _ grows)
 
 -- of a thread that has ended, or has no section
@@ -211,8 +211,8 @@ call-grows limits me posts memory thread call reply lanes is = go (is_running (t
   where
     go : (b : Bool) → is_running (thread_at posts thread) ≡ b → Grows limits me posts thread call reply
     go true running =
-        let same : reply ≡ recorded_reply (ready_of (call_finds limits me posts memory call)) = rw running at is in
-        rw same (running-grows limits me posts memory thread call (call_finds limits me posts memory call) lanes running refl)
+        let same : reply ≡ recorded_reply (ready_of (call_result limits me posts memory call)) = rw running at is in
+        rw same (running-grows limits me posts memory thread call (call_result limits me posts memory call) lanes running refl)
     go false ended =
         let refused : reply ≡ replies.Refused CallerEnded = rw ended at is in
         rw refused (ended-grows limits me posts thread call ended)

@@ -19,9 +19,9 @@ use Rattle.gaspi_types.specs.declared.replies.Refusal.TheVariants.{BadQueue, Que
 use Rattle.gaspi_model.specs.Posting.{with_post}
 use Rattle.gaspi_types.specs.Tables.{changed_at}
 use Rattle.gaspi_types.specs.Queues.{with_entries}
-use Rattle.gaspi_model.specs.PostCalls.{asked_finds}
-use Rattle.gaspi_model.specs.QueueCalls.{wait_finds, emptied}
-use Rattle.gaspi_model.specs.Calls.{posts_done, plain_done, posts_after, answer, call_finds, plain_finds, call_asks, recorded_reply}
+use Rattle.gaspi_model.specs.PostCalls.{post_request_result}
+use Rattle.gaspi_model.specs.QueueCalls.{wait_result, emptied}
+use Rattle.gaspi_model.specs.Calls.{posts_effect, plain_effect, posts_after, answer, call_result, plain_result, requested_kinds, recorded_reply}
 use Rattle.gaspi_model.specs.Sound.{AreRising, IsSoundQueue}
 use Rattle.gaspi_types.specs.declared.entries.Queue.{Queue}
 use Rattle.gaspi_model.specs.declared.states.Posts.{Posts}
@@ -49,7 +49,7 @@ queues-changed depth queues changed change all one queue q h = go (slice_get que
     go (Some x) at = parts x at (slice_get-set queues changed queue (change x) q (rw at at h))
 
 -- what a wait that is done found
-wait-done : (posts : Posts) (call : wait.Wait) (reply : Reply) (q : Queue) → wait_finds posts call ≡ Ok (Some reply) → slice_get posts.queues call.queue ≡ Some q → list_any has_awaited q.lanes ≡ false
+wait-done : (posts : Posts) (call : wait.Wait) (reply : Reply) (q : Queue) → wait_result posts call ≡ Ok (Some reply) → slice_get posts.queues call.queue ≡ Some q → list_any has_awaited q.lanes ≡ false
 wait-done posts call reply q h at =
     found_then (slice_get posts.queues call.queue) BadQueue _ (Some reply) h (λ x hx h1.
     absent_then x.broken QueueBroken _ (Some reply) h1 (λ whole h2.
@@ -65,7 +65,7 @@ wait-done posts call reply q h at =
 abbrev RiseBelow : ℕ → List Queue → Type 0
 RiseBelow next queues = (k : ℕ) (q : Queue) → slice_get queues k ≡ Some q → (target : ℕ) (lane : List Entry) → slice_get q.lanes target ≡ Some lane → AreRising next lane
 
-post-queues : (limits : Limits) (posts : Posts) (rank queue : ℕ) (asked : Result (List Kind) Refusal) (reply : Reply) → asked_finds limits posts rank queue asked ≡ Ok (Some reply)
+post-queues : (limits : Limits) (posts : Posts) (rank queue : ℕ) (asked : Result (List Kind) Refusal) (reply : Reply) → post_request_result limits posts rank queue asked ≡ Ok (Some reply)
     → AllSound limits.depth posts.queues → RiseBelow posts.next posts.queues → AllSound limits.depth (with_post posts queue rank asked).queues
 post-queues limits posts rank queue asked reply h all rise =
     let posted = post-ok limits posts rank queue asked (Some reply) h in
@@ -76,8 +76,8 @@ post-queues limits posts rank queue asked reply h all rise =
     let room : q.open_count + length posted.1 ≤ limits.depth = rw (sym same) (leb-true _ _ p.room) in
     queue-posted limits.depth posts.next q rank posted.1 (all queue q at) (rise queue q at) room))
 
-plain-queues : (limits : Limits) (me : ℕ) (posts : Posts) (memory : Memory) (thread : ℕ) (call : Call) (reply : Reply) → plain_finds limits me posts memory call ≡ Ok (Some reply)
-    → AllSound limits.depth posts.queues → AllSound limits.depth (plain_done posts thread call).queues
+plain-queues : (limits : Limits) (me : ℕ) (posts : Posts) (memory : Memory) (thread : ℕ) (call : Call) (reply : Reply) → plain_result limits me posts memory call ≡ Ok (Some reply)
+    → AllSound limits.depth posts.queues → AllSound limits.depth (plain_effect posts thread call).queues
 plain-queues limits me posts memory thread (Wait call) reply h all =
     queues-changed limits.depth posts.queues call.queue (λ (q : Queue). record q { open_count = 0 }) all
     (λ q at. queue-waited limits.depth q (all call.queue q at) (wait-done posts call reply q h at))
@@ -85,13 +85,13 @@ plain-queues limits me posts memory thread (Purge call) reply h all =
     queues-changed limits.depth posts.queues call.queue emptied all (λ q at. queue-purged limits.depth q)
 plain-queues limits me posts memory thread other reply h all = all
 
-done-queues : (limits : Limits) (me : ℕ) (posts : Posts) (memory : Memory) (thread : ℕ) (call : Call) (reply : Reply) → call_finds limits me posts memory call ≡ Ok (Some reply)
-    → AllSound limits.depth posts.queues → RiseBelow posts.next posts.queues → AllSound limits.depth (posts_done limits me posts thread call).queues
+done-queues : (limits : Limits) (me : ℕ) (posts : Posts) (memory : Memory) (thread : ℕ) (call : Call) (reply : Reply) → call_result limits me posts memory call ≡ Ok (Some reply)
+    → AllSound limits.depth posts.queues → RiseBelow posts.next posts.queues → AllSound limits.depth (posts_effect limits me posts thread call).queues
 done-queues limits me posts memory thread call reply h all rise = go (row_of call).posting refl
   where
-    go : (o : Option Posting) → (row_of call).posting ≡ o → AllSound limits.depth (posts_done limits me posts thread call).queues
+    go : (o : Option Posting) → (row_of call).posting ≡ o → AllSound limits.depth (posts_effect limits me posts thread call).queues
     go None none = rw none (plain-queues limits me posts memory thread call reply (rw none at h) all)
-    go (Some to) post = rw post (post-queues limits posts to.rank to.queue (call_asks limits me posts call) reply (rw post at h) all rise)
+    go (Some to) post = rw post (post-queues limits posts to.rank to.queue (requested_kinds limits me posts call) reply (rw post at h) all rise)
 
 -- the queues after a call that is recorded with the reply that it has
 pub called-queues : (limits : Limits) (me : ℕ) (posts : Posts) (memory : Memory) (thread : ℕ) (call : Call) (reply : Reply)

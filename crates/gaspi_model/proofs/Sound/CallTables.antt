@@ -26,14 +26,14 @@ use Rattle.gaspi_types.specs.Segments.{new_segment, extent_of, extents_of}
 use Rattle.gaspi_model.specs.State.{new_slots}
 use Rattle.gaspi_model.specs.Memories.{bytes_of}
 use Rattle.gaspi_model.specs.Posting.{with_post, counted}
-use Rattle.gaspi_model.specs.SegmentCalls.{alloc_finds, delete_finds, with_known}
+use Rattle.gaspi_model.specs.SegmentCalls.{alloc_result, delete_result, with_known}
 use Rattle.gaspi_types.specs.Queues.{user_of}
 use Rattle.gaspi_types.specs.Groups.{with_group, with_added, without_group}
 use Rattle.gaspi_types.specs.declared.groups.Handles.{Handles}
 use Rattle.gaspi_types.specs.declared.inboxes.Message.{Message}
 use Rattle.gaspi_model.specs.QueueCalls.{emptied}
-use Rattle.gaspi_model.specs.Calls.{posts_done, plain_done, posts_after, memory_done, memory_after, call_finds, plain_finds, call_asks, answer, recorded_reply}
-use Rattle.gaspi_model.specs.Coherence.{counts_of, HasSlots, Tables, tables_of, AreMade, AllFit, Knows}
+use Rattle.gaspi_model.specs.Calls.{posts_effect, plain_effect, posts_after, memory_effect, memory_after, call_result, plain_result, requested_kinds, answer, recorded_reply}
+use Rattle.gaspi_model.specs.Coherence.{counts_of, HasSlots, Tables, tables_of, AreMade, AreWithinSegments, Knows}
 use Rattle.gaspi_types.specs.declared.entries.Queue.{Queue}
 use Rattle.gaspi_model.specs.declared.states.Posts.{Posts}
 use Rattle.gaspi_types.specs.declared.segments.Segment.{Segment}
@@ -41,8 +41,8 @@ use Rattle.gaspi_model.specs.declared.states.Memory.{Memory}
 use Rattle.gaspi_types.proofs.Chains.{bind_then, check_then, found_then, absent_then}
 use Rattle.gaspi_model.proofs.Sound.Layouts.{HaveSameLayout, same-layout, bytes-layout, slots-layout, replaced-layout, send-layout, receive-layout}
 use Rattle.gaspi_types.proofs.Written.{with_range-length, with_swap-length, set-extents}
-use Rattle.gaspi_model.proofs.Sound.Told.{changed_at-get, told, told-cases}
-use Rattle.gaspi_model.proofs.Worked.{memory_rank}
+use Rattle.gaspi_model.proofs.Sound.Registered.{changed_at-get, registering, registered-cases}
+use Rattle.gaspi_model.proofs.OnPostsAndMemory.{memory_rank}
 use Rattle.gaspi_model.proofs.Sound.Successors.{Succeeds, succeeds-itself, OwnsStay, own-other, free-unused, alloc-succeeds, delete-succeeds}
 use Rattle.gaspi_types.proofs.Extents.{extent-set}
 use Rattle.gaspi_model.proofs.Sound.FittingEntries.{MayPost, KindsFit, fits-post, fits-queue, fits-emptied, asks-fit}
@@ -54,7 +54,7 @@ pub record IsAllocated (posts : Posts) (seg size : ℕ) : Type 0 where
   pub numbered : nat_lt seg 32 ≡ true
   pub free : extent_in posts.segments.own seg ≡ None
 
-pub alloc-found : (posts : Posts) (call : alloc.Alloc) (reply : Reply) → alloc_finds posts call ≡ Ok (Some reply) → IsAllocated posts call.seg call.size
+pub alloc-found : (posts : Posts) (call : alloc.Alloc) (reply : Reply) → alloc_result posts call ≡ Ok (Some reply) → IsAllocated posts call.seg call.size
 alloc-found posts call reply h =
     bind_then (alloc_checks posts.segments.own call.seg call.size) _ (Some reply) h (λ fits hc h1.
     check_then (nat_lt call.seg 32) _ _ fits hc (λ numbered h2.
@@ -87,7 +87,7 @@ no-position p xs k x none at = go (nat_lt (prefix_len (λ y. not (p y)) xs) (len
     go true is = absurd (let some : ◌≡◌ {A = Option ℕ} (Some (prefix_len (λ y. not (p y)) xs)) None = rw is at none in let no : ⊥ = cc in no)
     go false is = prefix-whole p xs k x (ltb-false (prefix_len (λ y. not (p y)) xs) (length xs) is) at
 
-pub delete-found : (posts : Posts) (call : delete.Delete) (reply : Reply) → delete_finds posts call ≡ Ok (Some reply) → user_of posts.queues call.seg ≡ None
+pub delete-found : (posts : Posts) (call : delete.Delete) (reply : Reply) → delete_result posts call ≡ Ok (Some reply) → user_of posts.queues call.seg ≡ None
 delete-found posts call reply h =
     found_then (extent_in posts.segments.own call.seg) _ _ (Some reply) h (λ mine hm h1.
     absent_then (user_of posts.queues call.seg) _ _ (Some reply) h1 (λ unused h2. unused))
@@ -105,10 +105,10 @@ unused-entry queues seg none queue q hq target lane hl place e he =
 pub record KeepsFit (notes : ℕ) (tables : List Tables) (me : ℕ) (before after : Posts) : Type 0 where
   pub succeeds : Succeeds (tables_of before) (tables_of after)
   pub known : Knows tables after.segments.known
-  pub entries : AllFit notes tables me after.queues
+  pub entries : AreWithinSegments notes tables me after.queues
   pub owns : OwnsStay before.segments.own after.segments.own after.queues
 
-pub fits-itself : (notes : ℕ) (tables : List Tables) (me : ℕ) (posts : Posts) → Knows tables posts.segments.known → AllFit notes tables me posts.queues → KeepsFit notes tables me posts posts
+pub fits-itself : (notes : ℕ) (tables : List Tables) (me : ℕ) (posts : Posts) → Knows tables posts.segments.known → AreWithinSegments notes tables me posts.queues → KeepsFit notes tables me posts posts
 fits-itself notes tables me posts knows all = record {
   succeeds = succeeds-itself (tables_of posts);
   known = knows;
@@ -117,7 +117,7 @@ fits-itself notes tables me posts knows all = record {
 }
 
 -- posts whose queues are other ones
-pub fits-requeued : (notes : ℕ) (tables : List Tables) (me : ℕ) (posts : Posts) (queues : List Queue) → Knows tables posts.segments.known → AllFit notes tables me queues → KeepsFit notes tables me posts (record posts { queues = queues })
+pub fits-requeued : (notes : ℕ) (tables : List Tables) (me : ℕ) (posts : Posts) (queues : List Queue) → Knows tables posts.segments.known → AreWithinSegments notes tables me queues → KeepsFit notes tables me posts (record posts { queues = queues })
 fits-requeued notes tables me posts queues knows all = record {
   succeeds = succeeds-itself (tables_of posts);
   known = knows;
@@ -127,7 +127,7 @@ fits-requeued notes tables me posts queues knows all = record {
 
 post-fits : (notes : ℕ) (tables : List Tables) (me : ℕ) (posts : Posts) (queue rank : ℕ) (asked : Result (List Kind) Refusal) → MayPost tables me (tables_of posts) posts.segments.known
     → ((kinds : List Kind) (theirs : Tables) → asked ≡ Ok kinds → slice_get tables rank ≡ Some theirs → KindsFit notes (tables_of posts) theirs kinds)
-    → AllFit notes tables me posts.queues → KeepsFit notes tables me posts (with_post posts queue rank asked)
+    → AreWithinSegments notes tables me posts.queues → KeepsFit notes tables me posts (with_post posts queue rank asked)
 post-fits notes tables me posts queue rank (Err refusal) may fit all = fits-itself notes tables me posts may.knows all
 post-fits notes tables me posts queue rank (Ok kinds) may fit all = record {
   succeeds = succeeds-itself (tables_of posts);
@@ -137,7 +137,7 @@ post-fits notes tables me posts queue rank (Ok kinds) may fit all = record {
 }
 
 -- the groups are no matter of the entries
-regrouped-fits : (notes : ℕ) (tables : List Tables) (me : ℕ) (posts : Posts) (groups : Handles) → MayPost tables me (tables_of posts) posts.segments.known → AllFit notes tables me posts.queues
+regrouped-fits : (notes : ℕ) (tables : List Tables) (me : ℕ) (posts : Posts) (groups : Handles) → MayPost tables me (tables_of posts) posts.segments.known → AreWithinSegments notes tables me posts.queues
     → KeepsFit notes tables me posts (record posts { groups = groups })
 regrouped-fits notes tables me posts groups may all = record {
   succeeds = succeeds-itself (tables_of posts);
@@ -147,8 +147,8 @@ regrouped-fits notes tables me posts groups may all = record {
 }
 
 pub plain-fits : (limits : Limits) (tables : List Tables) (me : ℕ) (posts : Posts) (memory : Memory) (thread : ℕ) (call : Call) (reply : Reply) → MayPost tables me (tables_of posts) posts.segments.known
-    → length posts.segments.next_generations ≡ 32 → AllFit limits.notes tables me posts.queues → plain_finds limits me posts memory call ≡ Ok (Some reply)
-    → KeepsFit limits.notes tables me posts (plain_done posts thread call)
+    → length posts.segments.next_generations ≡ 32 → AreWithinSegments limits.notes tables me posts.queues → plain_result limits me posts memory call ≡ Ok (Some reply)
+    → KeepsFit limits.notes tables me posts (plain_effect posts thread call)
 plain-fits limits tables me posts memory thread (Alloc call) reply may many all finds =
     let found = alloc-found posts call reply finds in
     record {
@@ -185,28 +185,28 @@ plain-fits limits tables me posts memory thread End reply may many all finds = r
 plain-fits limits tables me posts memory thread other reply may many all finds = fits-itself limits.notes tables me posts may.knows all
 
 done-fits : (limits : Limits) (tables : List Tables) (me : ℕ) (posts : Posts) (memory : Memory) (thread : ℕ) (call : Call) (reply : Reply) → MayPost tables me (tables_of posts) posts.segments.known
-    → length posts.segments.next_generations ≡ 32 → AllFit limits.notes tables me posts.queues → call_finds limits me posts memory call ≡ Ok (Some reply)
-    → KeepsFit limits.notes tables me posts (posts_done limits me posts thread call)
+    → length posts.segments.next_generations ≡ 32 → AreWithinSegments limits.notes tables me posts.queues → call_result limits me posts memory call ≡ Ok (Some reply)
+    → KeepsFit limits.notes tables me posts (posts_effect limits me posts thread call)
 done-fits limits tables me posts memory thread call reply may many all finds = go (row_of call).posting refl
   where
-    go : (o : Option Posting) → (row_of call).posting ≡ o → KeepsFit limits.notes tables me posts (posts_done limits me posts thread call)
+    go : (o : Option Posting) → (row_of call).posting ≡ o → KeepsFit limits.notes tables me posts (posts_effect limits me posts thread call)
     go None none = rw none (plain-fits limits tables me posts memory thread call reply may many all (rw none at finds))
     go (Some to) post =
-        rw post (post-fits limits.notes tables me posts to.queue to.rank (call_asks limits me posts call) may
+        rw post (post-fits limits.notes tables me posts to.queue to.rank (requested_kinds limits me posts call) may
         (λ kinds theirs asks ht. asks-fit limits me posts tables (tables_of posts) call to kinds theirs refl may post ht asks) all)
 
 pub counted-fits : (notes : ℕ) (tables : List Tables) (me : ℕ) (before after : Posts) → KeepsFit notes tables me before after → KeepsFit notes tables me before (counted after)
 counted-fits notes tables me before after keeps = record { succeeds = keeps.succeeds; known = keeps.known; entries = keeps.entries; owns = keeps.owns }
 
 pub called-fits : (limits : Limits) (tables : List Tables) (me : ℕ) (posts : Posts) (memory : Memory) (thread : ℕ) (call : Call) (reply : Reply) → MayPost tables me (tables_of posts) posts.segments.known
-    → length posts.segments.next_generations ≡ 32 → AllFit limits.notes tables me posts.queues → reply ≡ recorded_reply (answer limits me posts memory thread call)
+    → length posts.segments.next_generations ≡ 32 → AreWithinSegments limits.notes tables me posts.queues → reply ≡ recorded_reply (answer limits me posts memory thread call)
     → KeepsFit limits.notes tables me posts (posts_after limits me posts thread call reply)
 called-fits limits tables me posts memory thread call reply may many all is = go (is_idle reply) refl
   where
     go : (b : Bool) → is_idle reply ≡ b → KeepsFit limits.notes tables me posts (posts_after limits me posts thread call reply)
     go true idle = rw idle (counted-fits limits.notes tables me posts posts (fits-itself limits.notes tables me posts may.knows all))
     go false awake =
-        rw awake (counted-fits limits.notes tables me posts (posts_done limits me posts thread call)
+        rw awake (counted-fits limits.notes tables me posts (posts_effect limits me posts thread call)
         (done-fits limits tables me posts memory thread call reply may many all (found-reply limits me posts memory thread call reply is awake)))
 
 -- The own table of a rank and the memory that a call works on.
@@ -233,7 +233,7 @@ set-slots notes memory seg o slots fresh all =
     ∙ ap (counts_of notes) (sym (map-set (option_map extent_of) memory.segments seg o))
 
 pub plain-tables : (limits : Limits) (me : ℕ) (posts : Posts) (brought : Option Message) (memory : Memory) (thread : ℕ) (call : Call)
-    → KeepsTables limits.notes me (memory_rank limits me call) posts (plain_done posts thread call) memory (memory_done limits posts brought memory call)
+    → KeepsTables limits.notes me (memory_rank limits me call) posts (plain_effect posts thread call) memory (memory_effect limits posts brought memory call)
 plain-tables limits me posts brought memory thread (Alloc call) =
     let generation = next_generation posts.segments.next_generations call.seg in
     let new = new_segment generation call.size in
@@ -257,7 +257,7 @@ plain-tables limits me posts brought memory thread (CompareSwap call) =
 plain-tables limits me posts brought memory thread other = inl (refl, same-layout memory)
 
 -- a post leaves the memory
-pub post-leaves : (limits : Limits) (posts : Posts) (brought : Option Message) (memory : Memory) (call : Call) (to : Posting) → (row_of call).posting ≡ Some to → memory_done limits posts brought memory call ≡ memory
+pub post-leaves : (limits : Limits) (posts : Posts) (brought : Option Message) (memory : Memory) (call : Call) (to : Posting) → (row_of call).posting ≡ Some to → memory_effect limits posts brought memory call ≡ memory
 post-leaves limits posts brought memory (Alloc call) to is = absurd (let no : ⊥ = cc in no)
 post-leaves limits posts brought memory (Delete call) to is = absurd (let no : ⊥ = cc in no)
 post-leaves limits posts brought memory (Store call) to is = absurd (let no : ⊥ = cc in no)
@@ -269,27 +269,27 @@ post-leaves limits posts brought memory (CompareSwap call) to is = absurd (let n
 post-leaves limits posts brought memory other to is = refl
 
 done-tables : (limits : Limits) (me : ℕ) (posts : Posts) (brought : Option Message) (memory : Memory) (thread : ℕ) (call : Call)
-    → KeepsTables limits.notes me (memory_rank limits me call) posts (posts_done limits me posts thread call) memory (memory_done limits posts brought memory call)
+    → KeepsTables limits.notes me (memory_rank limits me call) posts (posts_effect limits me posts thread call) memory (memory_effect limits posts brought memory call)
 done-tables limits me posts brought memory thread call = go (row_of call).posting refl
   where
-    go : (o : Option Posting) → (row_of call).posting ≡ o → KeepsTables limits.notes me (memory_rank limits me call) posts (posts_done limits me posts thread call) memory (memory_done limits posts brought memory call)
+    go : (o : Option Posting) → (row_of call).posting ≡ o → KeepsTables limits.notes me (memory_rank limits me call) posts (posts_effect limits me posts thread call) memory (memory_effect limits posts brought memory call)
     go None none = rw none (plain-tables limits me posts brought memory thread call)
-    go (Some to) post = rw (post, post-leaves limits posts brought memory call to post) (inl (with_post-own posts to.queue to.rank (call_asks limits me posts call), same-layout memory))
+    go (Some to) post = rw (post, post-leaves limits posts brought memory call to post) (inl (with_post-own posts to.queue to.rank (requested_kinds limits me posts call), same-layout memory))
 
 pub called-tables : (limits : Limits) (me : ℕ) (posts : Posts) (brought : Option Message) (memory : Memory) (thread : ℕ) (call : Call) (reply : Reply)
     → KeepsTables limits.notes me (memory_rank limits me call) posts (posts_after limits me posts thread call reply) memory (memory_after limits posts brought memory call reply)
 called-tables limits me posts brought memory thread call reply = go (is_idle reply) refl (done-tables limits me posts brought memory thread call)
   where
-    go : (b : Bool) → is_idle reply ≡ b → KeepsTables limits.notes me (memory_rank limits me call) posts (posts_done limits me posts thread call) memory (memory_done limits posts brought memory call)
+    go : (b : Bool) → is_idle reply ≡ b → KeepsTables limits.notes me (memory_rank limits me call) posts (posts_effect limits me posts thread call) memory (memory_effect limits posts brought memory call)
         → KeepsTables limits.notes me (memory_rank limits me call) posts (posts_after limits me posts thread call reply) memory (memory_after limits posts brought memory call reply)
     go true idle done = rw idle (inl (refl, same-layout memory))
     go false awake done = rw awake done
 
 -- What a rank knows when it is told a segment.
 
-known-told : (tables : List Tables) (known : List (List (Option Extent))) (me : ℕ) (mine : Tables) (seg : ℕ) → slice_get tables me ≡ Some mine → AreMade mine → Knows tables known
+known-registered : (tables : List Tables) (known : List (List (Option Extent))) (me : ℕ) (mine : Tables) (seg : ℕ) → slice_get tables me ≡ Some mine → AreMade mine → Knows tables known
     → Knows tables (changed_at known me (λ table. slice_set table seg (extent_in mine.own seg)))
-known-told tables known me mine seg here made knows rank table theirs hk ht segment x at =
+known-registered tables known me mine seg here made knows rank table theirs hk ht segment x at =
     by-rank (me == rank) refl (slice_get known rank) refl (sym (changed_at-get known me rank (λ t. slice_set t seg (extent_in mine.own seg))) ∙ hk)
   where
     in-table : (t : List (Option Extent)) → slice_get known rank ≡ Some t → me ≡ rank → ((segment ≡ seg) × (extent_in mine.own seg ≡ Some x)) ⊎ (extent_in t segment ≡ Some x)
@@ -313,10 +313,10 @@ known-told tables known me mine seg here made knows rank table theirs hk ht segm
         in-table t kt (eqb-true me rank is) (extent-set t seg (extent_in mine.own seg) segment x (rw new at))
 
 -- what ranks know when one of them is told a segment
-pub told-knows : (tables : List Tables) (ranks me : ℕ) (p : Posts) (call : Call) (reply : Reply) (all : List Posts) → slice_get tables me ≡ Some (tables_of p) → AreMade (tables_of p)
-    → ((r : ℕ) (x : Posts) → slice_get all r ≡ Some x → Knows tables x.segments.known) → (r : ℕ) (x : Posts) → slice_get (told ranks me p call reply all) r ≡ Some x → Knows tables x.segments.known
-told-knows tables ranks me p call reply all here made know r x h =
-    told-cases ranks me p call reply
+pub registered-knows : (tables : List Tables) (ranks me : ℕ) (p : Posts) (call : Call) (reply : Reply) (all : List Posts) → slice_get tables me ≡ Some (tables_of p) → AreMade (tables_of p)
+    → ((r : ℕ) (x : Posts) → slice_get all r ≡ Some x → Knows tables x.segments.known) → (r : ℕ) (x : Posts) → slice_get (registering ranks me p call reply all) r ≡ Some x → Knows tables x.segments.known
+registered-knows tables ranks me p call reply all here made know r x h =
+    registered-cases ranks me p call reply
     (λ same. know r x (rw (same all) at h))
     (λ x' is awake other same.
     by-rank x'.seg x'.rank (x'.rank == r) refl (slice_get all r) refl (sym (ap (λ (xs : List Posts). slice_get xs r) (same all) ∙ changed_at-get all x'.rank r (with_known me x'.seg (extent_in p.segments.own x'.seg))) ∙ h))
@@ -328,4 +328,4 @@ told-knows tables ranks me p call reply all here made know r x h =
     by-rank seg rank true is (Some y) at h =
         let some : ◌≡◌ {A = Option Posts} (Some (with_known me seg (extent_in p.segments.own seg) y)) (Some x) = rw (is, at) at h in
         let new : with_known me seg (extent_in p.segments.own seg) y ≡ x = cc in
-        rw (sym new) (known-told tables y.segments.known me (tables_of p) seg here made (know r y at))
+        rw (sym new) (known-registered tables y.segments.known me (tables_of p) seg here made (know r y at))

@@ -5,11 +5,11 @@ use Rattle.std.specs.Option.{option_map}
 use Rattle.std.proofs.lemmas.List.{length-replicate}
 use Rattle.std.proofs.lemmas.Option.{slice_get-map, get_or_from_slice_get}
 use Rattle.gaspi_types.specs.SegmentTables.{extent_in, next_generation}
-use Rattle.gaspi_types.specs.World.{World}
+use Rattle.gaspi_types.specs.World.{ShapeValue}
 use Rattle.gaspi_types.specs.declared.entries.Entry.{Entry}
 use Rattle.gaspi_types.specs.declared.segments.Extent.{Extent}
 use Rattle.gaspi_model.specs.State.{opening, opening_extents, opening_posts, opening_memory, opening_queue, opening_generations, generations_used, declared_size, new_slots}
-use Rattle.gaspi_model.specs.Coherence.{counts_of, HasSlots, Tables, tables_of, AreMade, AllFit, IsCoherent}
+use Rattle.gaspi_model.specs.Coherence.{counts_of, HasSlots, Tables, tables_of, AreMade, AreWithinSegments, AgreesOnSegments}
 use Rattle.gaspi_types.specs.Segments.{new_segment, extent_of, extents_of}
 use Rattle.gaspi_types.specs.declared.entries.Queue.{Queue}
 use Rattle.gaspi_types.proofs.Extents.{extent-at}
@@ -28,7 +28,7 @@ segment-extent (Some size) =
     let same = length-replicate {A = ℕ} size 0 in
     rw same refl
 
-own-agrees : (w : World) (rank : ℕ) → (opening_posts w rank).segments.own ≡ extents_of (opening_memory w rank).segments
+own-agrees : (w : ShapeValue) (rank : ℕ) → (opening_posts w rank).segments.own ≡ extents_of (opening_memory w rank).segments
 own-agrees w rank =
     map-alike (option_map extent_of) (λ (segment : ℕ). option_map (new_segment 0) (declared_size w rank segment))
     (λ (segment : ℕ). option_map (λ (size : ℕ). (let e : Extent = record { generation = 0; size = size } in e)) (declared_size w rank segment)) (range_with_len 0 32)
@@ -46,7 +46,7 @@ extent-count : (notes : ℕ) (o : Option ℕ)
 extent-count notes None = refl
 extent-count notes (Some size) = refl
 
-slots-agree : (w : World) (rank : ℕ) → HasSlots w.limits.notes (opening_memory w rank)
+slots-agree : (w : ShapeValue) (rank : ℕ) → HasSlots w.limits.notes (opening_memory w rank)
 slots-agree w rank =
     sym (map-alike (option_map length) (λ (segment : ℕ). option_map (λ (size : ℕ). new_slots w.limits.notes) (declared_size w rank segment))
     (λ (segment : ℕ). option_map (λ (size : ℕ). w.limits.notes) (declared_size w rank segment)) (range_with_len 0 32)
@@ -57,7 +57,7 @@ slots-agree w rank =
     ∙ ap (counts_of w.limits.notes) (own-agrees w rank)
 
 -- each declared segment uses the first generation of its number
-opening-made : (w : World) (rank : ℕ) → AreMade (tables_of (opening_posts w rank))
+opening-made : (w : ShapeValue) (rank : ℕ) → AreMade (tables_of (opening_posts w rank))
 opening-made w rank segment x at =
     let from = map-at (λ (k : ℕ). option_map (λ (size : ℕ). (let e : Extent = record { generation = 0; size = size } in e)) (declared_size w rank k)) (range_with_len 0 32) segment (Some x) (extent-at (opening_extents w rank) segment x at).1 in
     by-size from.0 from.1 (declared_size w rank from.0) refl from.2
@@ -73,13 +73,13 @@ opening-made w rank segment x at =
         let next : next_generation (opening_generations w rank) segment ≡ 1 = get_or_from_slice_get (opening_generations w rank) segment 1 0 used in
         omega arith
 
-none-fit : (notes : ℕ) (tables : List Tables) (origin queues ranks : ℕ) → AllFit notes tables origin (replicate queues (opening_queue ranks))
+none-fit : (notes : ℕ) (tables : List Tables) (origin queues ranks : ℕ) → AreWithinSegments notes tables origin (replicate queues (opening_queue ranks))
 none-fit notes tables origin queues ranks queue q at target lane here place e there mine theirs hm ht =
     let opened = slice_get-replicate queues (opening_queue ranks) q queue at in
     let none = slice_get-replicate ranks [] lane target (subst (λ (x : Queue). slice_get x.lanes target ≡ Some lane) opened here) in
     absurd (let nothing : slice_get {X = Entry} [] place ≡ Some e = subst (λ (l : List Entry). slice_get l place ≡ Some e) none there in let no : ⊥ = cc in no)
 
-pub opens-coherent : (w : World) → IsCoherent (opening w)
+pub opens-coherent : (w : ShapeValue) → AgreesOnSegments (opening w)
 opens-coherent w = record {
   own = λ rank posts memory hp hm.
       let p = map-at (opening_posts w) (range_with_len 0 w.limits.ranks) rank posts hp in

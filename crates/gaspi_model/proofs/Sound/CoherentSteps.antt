@@ -21,9 +21,9 @@ use Rattle.gaspi_types.specs.Tables.{changed_at}
 use Rattle.gaspi_model.specs.State.{segment_at}
 use Rattle.gaspi_model.specs.Posting.{counted}
 use Rattle.gaspi_model.specs.Changes.{IsOnlyCounted, take_rank, put_rank}
-use Rattle.gaspi_model.specs.Transfers.{Found, Worked, taken_bytes, outcome_at, take_outcome, same_outcome}
-use Rattle.gaspi_model.specs.Step.{step, call_brought}
-use Rattle.gaspi_model.specs.Coherence.{counts_of, HasSlots, Tables, tables_of, all_tables, LiesIn, LiesInIfThere, HasOwn, FitsTarget, AreMade, AllFit, Knows, IsCoherent}
+use Rattle.gaspi_model.specs.Transfers.{EntryPosition, PostsAndMemory, source_bytes, outcome_at, take_outcome, same_outcome}
+use Rattle.gaspi_model.specs.Step.{step, call_message}
+use Rattle.gaspi_model.specs.Coherence.{counts_of, HasSlots, Tables, tables_of, all_tables, LiesIn, LiesInIfThere, HasOwn, IsWithinTarget, AreMade, AreWithinSegments, Knows, AgreesOnSegments}
 use Rattle.gaspi_types.specs.Segments.{extents_of, is_generation}
 use Rattle.gaspi_model.specs.Sound.{IsSound}
 use Rattle.gaspi_types.specs.declared.entries.Queue.{Queue}
@@ -33,13 +33,13 @@ use Rattle.gaspi_model.specs.declared.states.State.{State}
 use Rattle.gaspi_types.proofs.Chains.{both}
 use Rattle.gaspi_model.proofs.Same.{same_reply-same}
 use Rattle.gaspi_model.proofs.Made.{IsTake, IsPut}
-use Rattle.gaspi_model.proofs.Worked.{memory_rank, sound-called, sound-take, sound-put}
+use Rattle.gaspi_model.proofs.OnPostsAndMemory.{memory_rank, sound-called, sound-take, sound-put}
 use Rattle.gaspi_types.proofs.Items.{slice_get-set, slice_get-set_same, slice_get-set_other, map-at, same-or-not}
-use Rattle.gaspi_model.proofs.Sound.Told.{told, told-from}
+use Rattle.gaspi_model.proofs.Sound.Registered.{registering, registered-from}
 use Rattle.gaspi_model.proofs.Sound.Layouts.{HaveSameLayout, same-layout, put-layout}
 use Rattle.gaspi_model.proofs.Sound.Successors.{Succeeds, Follow, made-stays, knows-follows, all-fit-follows}
 use Rattle.gaspi_model.proofs.Sound.FittingEntries.{MayPost, fits-lane, lane-phase, lane-remove, taken-whole, lies-there, failed-own}
-use Rattle.gaspi_model.proofs.Sound.CallTables.{KeepsFit, KeepsTables, fits-itself, fits-requeued, counted-fits, called-fits, called-tables, told-knows}
+use Rattle.gaspi_model.proofs.Sound.CallTables.{KeepsFit, KeepsTables, fits-itself, fits-requeued, counted-fits, called-fits, called-tables, registered-knows}
 use Rattle.gaspi_model.proofs.FoundEntries.{IsFound, with_phase, queue_with_failed, failed_with}
 
 -- what a state has of each rank was there before it, with tables that come after the old ones
@@ -62,7 +62,7 @@ follows s t from rank after h =
     let p = from.posts rank new.0 new.1 in
     (tables_of p.0, mine-there s.posts rank p.0 p.1, subst (λ (x : Tables). Succeeds (tables_of p.0) x) (sym new.2) p.2.succeeds)
 
-pub keeps-coherent : (s t : State) → IsCoherent s → ComesFrom s t → IsCoherent t
+pub keeps-coherent : (s t : State) → AgreesOnSegments s → ComesFrom s t → AgreesOnSegments t
 keeps-coherent s t coherent from =
     let follow = follows s t from in
     record {
@@ -92,23 +92,23 @@ posts-from notes table place old new at keeps all rank after here = go (slice_ge
     go (inr was) = (after, was, all rank after was)
 
 -- and one of them told a segment
-told-posts-from : (ranks notes : ℕ) (table : List Posts) (place : ℕ) (old new : Posts) (call : Call) (reply : Reply) → slice_get table place ≡ Some old → AreMade (tables_of old)
+registered-posts-from : (ranks notes : ℕ) (table : List Posts) (place : ℕ) (old new : Posts) (call : Call) (reply : Reply) → slice_get table place ≡ Some old → AreMade (tables_of old)
     → KeepsFit notes (all_tables table) place old new → ((rank : ℕ) (p : Posts) → slice_get table rank ≡ Some p → KeepsFit notes (all_tables table) rank p p)
-    → (rank : ℕ) (after : Posts) → slice_get (told ranks place old call reply (slice_set table place new)) rank ≡ Some after
+    → (rank : ℕ) (after : Posts) → slice_get (registering ranks place old call reply (slice_set table place new)) rank ≡ Some after
     → (before : Posts) × (slice_get table rank ≡ Some before) × KeepsFit notes (all_tables table) rank before after
-told-posts-from ranks notes table place old new call reply at made keeps all rank after here =
+registered-posts-from ranks notes table place old new call reply at made keeps all rank after here =
     let replaced = posts-from notes table place old new at keeps all in
-    let from = told-from ranks place old call reply (slice_set table place new) rank after here in
+    let from = registered-from ranks place old call reply (slice_set table place new) rank after here in
     let before = replaced rank from.0 from.2 in
     let known : Knows (all_tables table) after.segments.known =
-    told-knows (all_tables table) ranks place old call reply (slice_set table place new) (mine-there table place old at) made (λ r x h. (replaced r x h).2.known) rank after here in
+    registered-knows (all_tables table) ranks place old call reply (slice_set table place new) (mine-there table place old at) made (λ r x h. (replaced r x h).2.known) rank after here in
     (before.0, before.1, told-fits before.0 from.0 from.1 from.3 before.2 known)
   where
     told-fits : (before x : Posts) (known : List (List (Option Extent))) → after ≡ record x { segments = record x.segments { known = known } } → KeepsFit notes (all_tables table) rank before x → Knows (all_tables table) after.segments.known
         → KeepsFit notes (all_tables table) rank before after
     told-fits before x known is fits knows = record { succeeds = rw is fits.succeeds; known = knows; entries = rw is fits.entries; owns = rw is fits.owns }
 
-pub keeps-itself : (s : State) → IsCoherent s → (rank : ℕ) (p : Posts) → slice_get s.posts rank ≡ Some p → KeepsFit s.limits.notes (all_tables s.posts) rank p p
+pub keeps-itself : (s : State) → AgreesOnSegments s → (rank : ℕ) (p : Posts) → slice_get s.posts rank ≡ Some p → KeepsFit s.limits.notes (all_tables s.posts) rank p p
 keeps-itself s coherent rank p at = fits-itself s.limits.notes (all_tables s.posts) rank p (coherent.known rank p at) (coherent.entries rank p at)
 
 -- The own tables and the memories.
@@ -149,9 +149,9 @@ changed-own all memories notes me worked posts posts' memory memory' agrees hp h
     agrees rank p m (sym (slice_get-set_other all me rank posts' apart) ∙ at_p)
     (sym (slice_get-set_other memories worked rank memory' (λ is. apart (sym both_change.0 ∙ is))) ∙ at_m))
 
-told-own : (ranks : ℕ) (all : List Posts) (memories : List Memory) (me : ℕ) (p : Posts) (call : Call) (reply : Reply) → OwnAgrees all memories → OwnAgrees (told ranks me p call reply all) memories
-told-own ranks all memories me p call reply agrees rank posts memory hp hm =
-    let from = told-from ranks me p call reply all rank posts hp in
+registered-own : (ranks : ℕ) (all : List Posts) (memories : List Memory) (me : ℕ) (p : Posts) (call : Call) (reply : Reply) → OwnAgrees all memories → OwnAgrees (registering ranks me p call reply all) memories
+registered-own ranks all memories me p call reply agrees rank posts memory hp hm =
+    let from = registered-from ranks me p call reply all rank posts hp in
     ap (λ (x : Posts). x.segments.own) from.3 ∙ agrees rank from.0 memory from.2 hm
 
 pub changed-slots : (memories : List Memory) (notes worked : ℕ) (memory' : Memory) → ((rank : ℕ) (m : Memory) → slice_get memories rank ≡ Some m → HasSlots notes m) → HasSlots notes memory'
@@ -172,28 +172,28 @@ tables-slots notes me worked posts posts' memory memory' (inr both_change) all =
 -- Transfers.
 
 -- one that failed
-failed-keeps : (notes : ℕ) (tables : List Tables) (posts : Posts) (origin queue target number : ℕ) (at : Found) → IsFound posts queue target number at
-    → Knows tables posts.segments.known → AllFit notes tables origin posts.queues → KeepsFit notes tables origin posts (counted (failed_with posts queue target at))
+failed-keeps : (notes : ℕ) (tables : List Tables) (posts : Posts) (origin queue target number : ℕ) (at : EntryPosition) → IsFound posts queue target number at
+    → Knows tables posts.segments.known → AreWithinSegments notes tables origin posts.queues → KeepsFit notes tables origin posts (counted (failed_with posts queue target at))
 failed-keeps notes tables posts origin queue target number at is knows all =
-    let lane = with_phase at.lane at.place at.entry phases.Failed in
+    let lane = with_phase at.lane at.position at.entry phases.Failed in
     let change = queue_with_failed target at in
     let fits = fits-lane notes tables origin posts.queues queue change at.queue target at.lane lane is.in_posts is.in_queue refl
-    (λ mine theirs hm ht old. lane-phase notes mine theirs at.lane at.place at.entry phases.Failed is.in_lane (λ owns. failed-own mine.own at.entry.kind) old) all in
+    (λ mine theirs hm ht old. lane-phase notes mine theirs at.lane at.position at.entry phases.Failed is.in_lane (λ owns. failed-own mine.own at.entry.kind) old) all in
     let keeps = fits-requeued notes tables origin posts (changed_at posts.queues queue change) knows fits in
     record { succeeds = keeps.succeeds; known = keeps.known; entries = keeps.entries; owns = keeps.owns }
 
-put-keeps : (notes : ℕ) (tables : List Tables) (posts : Posts) (memory : Memory) (origin queue target number : ℕ) (outcome : Outcome) (after : Worked) (at : Found)
-    → IsPut posts memory queue target number outcome after at → Knows tables posts.segments.known → AllFit notes tables origin posts.queues → KeepsFit notes tables origin posts after.posts
+put-keeps : (notes : ℕ) (tables : List Tables) (posts : Posts) (memory : Memory) (origin queue target number : ℕ) (outcome : Outcome) (after : PostsAndMemory) (at : EntryPosition)
+    → IsPut posts memory queue target number outcome after at → Knows tables posts.segments.known → AreWithinSegments notes tables origin posts.queues → KeepsFit notes tables origin posts after.posts
 put-keeps notes tables posts memory origin queue target number Applied after at h knows all =
-    let lane = remove at.lane at.place in
+    let lane = remove at.lane at.position in
     let change = λ (q : Queue). record q { lanes = slice_set q.lanes target lane } in
     let fits = fits-lane notes tables origin posts.queues queue change at.queue target at.lane lane h.is.in_posts h.is.in_queue refl
-    (λ mine theirs hm ht old. lane-remove notes mine theirs at.lane at.place old) all in
+    (λ mine theirs hm ht old. lane-remove notes mine theirs at.lane at.position old) all in
     let keeps = fits-requeued notes tables origin posts (changed_at posts.queues queue change) knows fits in
     rw h.leaves (counted-fits notes tables origin posts _ keeps)
 put-keeps notes tables posts memory origin queue target number Failed after at h knows all = rw h.leaves (failed-keeps notes tables posts origin queue target number at h.is knows all)
 
-put-tables : (notes origin target queue number worked : ℕ) (posts : Posts) (memory : Memory) (outcome : Outcome) (after : Worked) (at : Found)
+put-tables : (notes origin target queue number worked : ℕ) (posts : Posts) (memory : Memory) (outcome : Outcome) (after : PostsAndMemory) (at : EntryPosition)
     → IsPut posts memory queue target number outcome after at → KeepsTables notes origin worked posts after.posts memory after.memory
 put-tables notes origin target queue number worked posts memory Applied after at h = rw h.leaves (inl (refl, put-layout memory at.entry))
 put-tables notes origin target queue number worked posts memory Failed after at h = rw h.leaves (inl (refl, same-layout memory))
@@ -206,9 +206,9 @@ applied-there memory segment generation h = go (is_generation generation (segmen
     go true is = is
     go false is = absurd (let none = rw is at h in let no : ⊥ = cc in no)
 
-taken-own : (s : State) (origin target : ℕ) (posts theirs : Posts) (memory : Memory) (kind : Kind) → IsCoherent s → slice_get s.posts origin ≡ Some posts → slice_get s.posts target ≡ Some theirs
-    → slice_get s.memories (take_rank origin target kind) ≡ Some memory → same_outcome Applied (take_outcome memory kind) ≡ true → FitsTarget s.limits.notes (tables_of theirs) kind
-    → HasOwn posts.segments.own kind phases.Posted → HasOwn posts.segments.own kind (phases.Carried (taken_bytes memory kind))
+taken-own : (s : State) (origin target : ℕ) (posts theirs : Posts) (memory : Memory) (kind : Kind) → AgreesOnSegments s → slice_get s.posts origin ≡ Some posts → slice_get s.posts target ≡ Some theirs
+    → slice_get s.memories (take_rank origin target kind) ≡ Some memory → same_outcome Applied (take_outcome memory kind) ≡ true → IsWithinTarget s.limits.notes (tables_of theirs) kind
+    → HasOwn posts.segments.own kind phases.Posted → HasOwn posts.segments.own kind (phases.Carried (source_bytes memory kind))
 taken-own s origin target posts theirs memory (Write own to) coherent hp ht hm applied fits lies =
     taken-whole memory own (subst (λ (table : List (Option Extent)). LiesIn table own) (coherent.own origin posts memory hp hm) lies)
 taken-own s origin target posts theirs memory (Read own to) coherent hp ht hm applied fits lies =
@@ -224,30 +224,30 @@ posted-is (phases.Carried bytes) h = absurd (let no : ⊥ = cc in no)
 posted-is phases.Failed h = absurd (let no : ⊥ = cc in no)
 
 -- a take
-take-keeps : (s : State) (origin queue target number : ℕ) (outcome : Outcome) (posts after : Posts) (memory : Memory) (at : Found) → IsCoherent s → slice_get s.posts origin ≡ Some posts
+take-keeps : (s : State) (origin queue target number : ℕ) (outcome : Outcome) (posts after : Posts) (memory : Memory) (at : EntryPosition) → AgreesOnSegments s → slice_get s.posts origin ≡ Some posts
     → slice_get s.memories (take_rank origin target at.entry.kind) ≡ Some memory → IsTake s.limits posts memory queue target number outcome after at
     → KeepsFit s.limits.notes (all_tables s.posts) origin posts after
 take-keeps s origin queue target number Applied posts after memory at coherent hp hm h =
     let tables = all_tables s.posts in
-    let phase = phases.Carried (taken_bytes memory at.entry.kind) in
-    let lane = with_phase at.lane at.place at.entry phase in
+    let phase = phases.Carried (source_bytes memory at.entry.kind) in
+    let lane = with_phase at.lane at.position at.entry phase in
     let change = λ (q : Queue). record q { lanes = slice_set q.lanes target lane } in
     let entries = coherent.entries origin posts hp in
     let fits = fits-lane s.limits.notes tables origin posts.queues queue change at.queue target at.lane lane h.is.in_posts h.is.in_queue refl
     (λ mine theirs hmine htheirs old.
     let same = same-tables s.posts origin posts mine hp hmine in
     let far = map-at tables_of s.posts target theirs htheirs in
-    let fit = entries queue at.queue h.is.in_posts target at.lane h.is.in_queue at.place at.entry h.is.in_lane mine theirs hmine htheirs in
+    let fit = entries queue at.queue h.is.in_posts target at.lane h.is.in_queue at.position at.entry h.is.in_lane mine theirs hmine htheirs in
     let posted = posted-is at.entry.phase (both (is_posted at.entry) _ h.permitted).0 in
-    lane-phase s.limits.notes mine theirs at.lane at.place at.entry phase h.is.in_lane
+    lane-phase s.limits.notes mine theirs at.lane at.position at.entry phase h.is.in_lane
     (λ owns. subst (λ (t : Tables). HasOwn t.own at.entry.kind phase) (sym same)
-    (taken-own s origin target posts far.0 memory at.entry.kind coherent hp far.1 hm h.fits (subst (λ (t : Tables). FitsTarget s.limits.notes t at.entry.kind) far.2 fit.0)
+    (taken-own s origin target posts far.0 memory at.entry.kind coherent hp far.1 hm h.fits (subst (λ (t : Tables). IsWithinTarget s.limits.notes t at.entry.kind) far.2 fit.0)
     (subst (λ (p : Phase). HasOwn posts.segments.own at.entry.kind p) posted (subst (λ (t : Tables). HasOwn t.own at.entry.kind at.entry.phase) same owns)))) old) entries in
     rw h.leaves (counted-fits s.limits.notes tables origin posts _ (fits-requeued s.limits.notes tables origin posts (changed_at posts.queues queue change) (coherent.known origin posts hp) fits))
 take-keeps s origin queue target number Failed posts after memory at coherent hp hm h =
     rw h.leaves (failed-keeps s.limits.notes (all_tables s.posts) posts origin queue target number at h.is (coherent.known origin posts hp) (coherent.entries origin posts hp))
 
-take-own-kept : (limits : Limits) (posts after : Posts) (memory : Memory) (queue target number : ℕ) (outcome : Outcome) (at : Found) → IsTake limits posts memory queue target number outcome after at
+take-own-kept : (limits : Limits) (posts after : Posts) (memory : Memory) (queue target number : ℕ) (outcome : Outcome) (at : EntryPosition) → IsTake limits posts memory queue target number outcome after at
     → after.segments.own ≡ posts.segments.own
 take-own-kept limits posts after memory queue target number Applied at h = rw h.leaves refl
 take-own-kept limits posts after memory queue target number Failed at h = rw h.leaves refl
@@ -267,13 +267,13 @@ called-from s t c call reply plain sound h =
     } in
     let keeps : KeepsFit s.limits.notes tables c.rank made.0 made.2.posts =
     rw m.is.leaves (called-fits s.limits tables c.rank made.0 made.1 c.thread call reply may (sound.posts c.rank made.0 m.posts_there).numbered (coherent.entries c.rank made.0 m.posts_there) (same_reply-same _ _ m.is.answered)) in
-    let kept : KeepsTables s.limits.notes c.rank worked made.0 made.2.posts made.1 made.2.memory = rw m.is.leaves (called-tables s.limits c.rank made.0 (call_brought s c.rank call) made.1 c.thread call reply) in
+    let kept : KeepsTables s.limits.notes c.rank worked made.0 made.2.posts made.1 made.2.memory = rw m.is.leaves (called-tables s.limits c.rank made.0 (call_message s c.rank call) made.1 c.thread call reply) in
     let all = slice_set s.posts c.rank made.2.posts in
     let memories = slice_set s.memories worked made.2.memory in
     rw m.leaves (record {
       limits = refl;
-      posts = told-posts-from s.limits.ranks s.limits.notes s.posts c.rank made.0 made.2.posts call reply m.posts_there may.made keeps (keeps-itself s coherent);
-      own = told-own s.limits.ranks all memories c.rank made.0 call reply (changed-own s.posts s.memories s.limits.notes c.rank worked made.0 made.2.posts made.1 made.2.memory coherent.own m.posts_there m.memory_there kept);
+      posts = registered-posts-from s.limits.ranks s.limits.notes s.posts c.rank made.0 made.2.posts call reply m.posts_there may.made keeps (keeps-itself s coherent);
+      own = registered-own s.limits.ranks all memories c.rank made.0 call reply (changed-own s.posts s.memories s.limits.notes c.rank worked made.0 made.2.posts made.1 made.2.memory coherent.own m.posts_there m.memory_there kept);
       slots = changed-slots s.memories s.limits.notes worked made.2.memory coherent.slots
           (tables-slots s.limits.notes c.rank worked made.0 made.2.posts made.1 made.2.memory kept (coherent.slots worked made.1 m.memory_there));
     })

@@ -1,11 +1,11 @@
 -- What ranks have given to groups stays sound.
 use Rattle.std.proofs.Common.{◌≡◌, ℕ, zero, suc, ◌<◌, ◌≤◌, true, List, [], ◌∷◌, length, Option, None, Some, refl, sym, ap, ◌∙◌, subst, arith, ◌⊎◌, inl, inr}
 use Rattle.std.specs.List.{slice_get, slice_set}
-use Rattle.gaspi_types.specs.Collectives.{part_of, given_in}
+use Rattle.gaspi_types.specs.Collectives.{contributions_of, contribution_in}
 use Rattle.gaspi_types.specs.Groups.{handle_at}
 use Rattle.gaspi_types.specs.Masks.{is_member}
 use Rattle.gaspi_types.specs.SegmentTables.{extent_in, next_generation}
-use Rattle.gaspi_types.specs.Tables.{entry_at, changed_at}
+use Rattle.gaspi_types.specs.Tables.{item_at, changed_at}
 use Rattle.gaspi_types.specs.declared.collectives.Coll.TheVariants.{Create, Commit}
 use Rattle.gaspi_types.specs.declared.collectives.Stage.TheVariants.{Building, Committed}
 use Rattle.gaspi_types.specs.declared.calls.Call.{Call}
@@ -15,12 +15,12 @@ use Rattle.gaspi_types.specs.declared.groups.Contribution.{Contribution}
 use Rattle.gaspi_types.specs.declared.groups.Group.{Group}
 use Rattle.gaspi_types.specs.declared.groups.Handle.{Handle}
 use Rattle.gaspi_types.specs.declared.groups.Handles.{Handles}
-use Rattle.gaspi_types.specs.declared.groups.Part.{Part}
-use Rattle.gaspi_types.specs.declared.groups.Pending.{Pending}
+use Rattle.gaspi_types.specs.declared.groups.RankContributions.{RankContributions}
+use Rattle.gaspi_types.specs.declared.groups.PendingCollective.{PendingCollective}
 use Rattle.gaspi_types.specs.declared.segments.Extent.{Extent}
 use Rattle.gaspi_model.specs.Coherence.{Tables, WasMade, tables_of}
 use Rattle.gaspi_model.specs.CollectiveCalls.{staged_at, joining_call}
-use Rattle.gaspi_model.specs.Contributions.{IsSoundPart, HasBegun, IsResumable, IsSoundGroup, WasMadeSo, AreSoundCollectives}
+use Rattle.gaspi_model.specs.Contributions.{AreSoundContributions, HasBegun, IsResumable, IsSoundGroup, WasMadeSo, AreSoundCollectives}
 use Rattle.gaspi_model.specs.declared.states.Posts.{Posts}
 use Rattle.gaspi_model.specs.declared.states.State.{State}
 use Rattle.gaspi_types.proofs.Items.{slice_get-set_same, slice_get-set_other, same-or-not, changed_at-found}
@@ -39,18 +39,18 @@ made-so-stays old new seg generation size h was =
 pub record StaysPosts (before after : Posts) : Type 0 where
   pub pending : after.pending ≡ before.pending
   pub events : before.events ≤ after.events
-  pub made : before.groups.made ≤ after.groups.made
+  pub made : before.groups.last_id ≤ after.groups.last_id
   pub building : (id : ℕ) (h : Handle) → handle_at after.groups id ≡ Some h → h.stage ≡ Building
-      → ((k : Handle) × (handle_at before.groups id ≡ Some k) × (k.stage ≡ Building)) ⊎ (before.groups.made < id)
+      → ((k : Handle) × (handle_at before.groups id ≡ Some k) × (k.stage ≡ Building)) ⊎ (before.groups.last_id < id)
   pub committed : (id : ℕ) (h : Handle) → handle_at after.groups id ≡ Some h → h.stage ≡ Committed → handle_at before.groups id ≡ Some h
-  pub held : (id : ℕ) (h : Handle) (p : Pending) → entry_at before.pending id ≡ Some p → id ≤ before.groups.made → handle_at before.groups id ≡ Some h → handle_at after.groups id ≡ Some h
+  pub held : (id : ℕ) (h : Handle) (p : PendingCollective) → item_at before.pending id ≡ Some p → id ≤ before.groups.last_id → handle_at before.groups id ≡ Some h → handle_at after.groups id ≡ Some h
   pub succeeds : Succeeds (tables_of before) (tables_of after)
 
 pub staged-same : (a b : Handles) (me id : ℕ) (call : Call) → handle_at a id ≡ handle_at b id → staged_at a me id call ≡ staged_at b me id call
 staged-same a b me id (calls.Commit x) same = rw same refl
 staged-same a b me id call same = rw same refl
 
-pub resumable-stays : (a b : Handles) (me id : ℕ) (args : Args) → a.made ≤ b.made → IsResumable a me id args → ((h : Handle) → handle_at a id ≡ Some h → handle_at b id ≡ Some h) → IsResumable b me id args
+pub resumable-stays : (a b : Handles) (me id : ℕ) (args : Args) → a.last_id ≤ b.last_id → IsResumable a me id args → ((h : Handle) → handle_at a id ≡ Some h → handle_at b id ≡ Some h) → IsResumable b me id args
 resumable-stays a b me id args more may kept =
     let now = kept may.handle may.there in
     record {
@@ -62,7 +62,7 @@ resumable-stays a b me id args more may kept =
       own = may.own;
     }
 
-more-events : (e f : ℕ) (p : Option Pending) (part : Part) → e ≤ f → IsSoundPart e p part → IsSoundPart f p part
+more-events : (e f : ℕ) (p : Option PendingCollective) (part : RankContributions) → e ≤ f → AreSoundContributions e p part → AreSoundContributions f p part
 more-events e f p part less sound = record { count = sound.count; last = sound.last; few = (let few = sound.few in omega arith) }
 
 begun-stays : (before after : Posts) (id completed : ℕ) → StaysPosts before after → HasBegun before id completed → HasBegun after id completed
@@ -72,7 +72,7 @@ begun-stays before after id completed stays begun = record {
   committed = λ h at stage other. begun.committed h (stays.committed id h at stage) stage other;
 }
   where
-    from : ((k : Handle) × (handle_at before.groups id ≡ Some k) × (k.stage ≡ Building)) ⊎ (before.groups.made < id) → completed ≡ 0
+    from : ((k : Handle) × (handle_at before.groups id ≡ Some k) × (k.stage ≡ Building)) ⊎ (before.groups.last_id < id) → completed ≡ 0
     from (inl was) = begun.building was.0 was.1 was.2
     from (inr new) = begun.unmade new
 
@@ -83,12 +83,12 @@ collectives-stay s t sound limits same from = record {
   groups = λ id g at. rw limits (sound.groups id g (there id g at));
   parts = λ id g rank posts at hp.
       let b = from rank posts hp in
-      subst (λ (p : List (Option Pending)). IsSoundPart posts.events (entry_at p id) (part_of g rank)) (sym b.2.pending)
-      (more-events b.0.events posts.events (entry_at b.0.pending id) (part_of g rank) b.2.events (sound.parts id g rank b.0 (there id g at) b.1));
-  begun = λ id g rank posts at hp. let b = from rank posts hp in begun-stays b.0 posts id (part_of g rank).completed b.2 (sound.begun id g rank b.0 (there id g at) b.1);
+      subst (λ (p : List (Option PendingCollective)). AreSoundContributions posts.events (item_at p id) (contributions_of g rank)) (sym b.2.pending)
+      (more-events b.0.events posts.events (item_at b.0.pending id) (contributions_of g rank) b.2.events (sound.parts id g rank b.0 (there id g at) b.1));
+  begun = λ id g rank posts at hp. let b = from rank posts hp in begun-stays b.0 posts id (contributions_of g rank).completed b.2 (sound.begun id g rank b.0 (there id g at) b.1);
   resumable = λ id rank posts p hp pends.
       let b = from rank posts hp in
-      let was : entry_at b.0.pending id ≡ Some p = ap (λ (ps : List (Option Pending)). entry_at ps id) (sym b.2.pending) ∙ pends in
+      let was : item_at b.0.pending id ≡ Some p = ap (λ (ps : List (Option PendingCollective)). item_at ps id) (sym b.2.pending) ∙ pends in
       let may = sound.resumable id rank b.0 p b.1 was in
       resumable-stays b.0.groups posts.groups rank id p.args b.2.made may (λ h there. b.2.held id h p was may.made there);
   first = λ id g rank c at other given. sound.first id g rank c (there id g at) other given;
@@ -108,20 +108,20 @@ pub record Meets (s t : State) (me id : ℕ) (posts after : Posts) (g g' : Group
   pub group_there : slice_get s.groups id ≡ Some g
   pub posts_is : t.posts ≡ slice_set s.posts me after
   pub groups_is : t.groups ≡ slice_set s.groups id g'
-  pub others : (k : ℕ) → (id ≡ k → ⊥) → entry_at after.pending k ≡ entry_at posts.pending k
+  pub others : (k : ℕ) → (id ≡ k → ⊥) → item_at after.pending k ≡ item_at posts.pending k
   pub events : posts.events ≤ after.events
-  pub made_groups : after.groups.made ≡ posts.groups.made
+  pub made_groups : after.groups.last_id ≡ posts.groups.last_id
   pub handles : (k : ℕ) → (id ≡ k → ⊥) → handle_at after.groups k ≡ handle_at posts.groups k
   pub succeeds : Succeeds (tables_of posts) (tables_of after)
-  pub parts : (rank : ℕ) → (me ≡ rank → ⊥) → part_of g' rank ≡ part_of g rank
+  pub parts : (rank : ℕ) → (me ≡ rank → ⊥) → contributions_of g' rank ≡ contributions_of g rank
   pub fixed : (mask : ℕ) → g.members ≡ Some mask → g'.members ≡ Some mask
-  pub mine : IsSoundPart after.events (entry_at after.pending id) (part_of g' me)
-  pub begun : HasBegun after id (part_of g' me).completed
-  pub resumable : (p : Pending) → entry_at after.pending id ≡ Some p → IsResumable after.groups me id p.args
+  pub mine : AreSoundContributions after.events (item_at after.pending id) (contributions_of g' me)
+  pub begun : HasBegun after id (contributions_of g' me).completed
+  pub resumable : (p : PendingCollective) → item_at after.pending id ≡ Some p → IsResumable after.groups me id p.args
   pub group : IsSoundGroup s.limits.ranks g'
-  pub first : (rank : ℕ) (c : Contribution) → (id ≡ 0 → ⊥) → given_in g' 0 rank ≡ Some c → (mask : ℕ) × (c.args.coll ≡ Commit mask)
+  pub first : (rank : ℕ) (c : Contribution) → (id ≡ 0 → ⊥) → contribution_in g' 0 rank ≡ Some c → (mask : ℕ) × (c.args.coll ≡ Commit mask)
   pub committed : (h : Handle) → handle_at after.groups id ≡ Some h → h.stage ≡ Committed → (g'.members ≡ Some h.members) × (is_member h.members me ≡ true)
-  pub made : (turn : ℕ) (c : Contribution) (seg size : ℕ) → given_in g' turn me ≡ Some c → c.args.coll ≡ Create seg size → WasMadeSo (tables_of after) seg c.generation size
+  pub made : (turn : ℕ) (c : Contribution) (seg size : ℕ) → contribution_in g' turn me ≡ Some c → c.args.coll ≡ Create seg size → WasMadeSo (tables_of after) seg c.generation size
 
 -- an item of a table of which one was set
 pub at-set : {A P : Type 0} (table : List A) (place : ℕ) (old new : A) (k : ℕ) (x : A) → slice_get table place ≡ Some old → slice_get (slice_set table place new) k ≡ Some x
@@ -137,32 +137,32 @@ collectives-meet s t me id posts after g g' sound m = record {
   eight = ap length m.groups_is ∙ length-kept s.groups id g' ∙ sound.eight;
   groups = λ k x at. of-group k x at {P = IsSoundGroup t.limits.ranks x} (λ same is. rw (is, m.limits) m.group) (λ apart was. rw m.limits (sound.groups k x was));
   parts = λ k x rank p at hp.
-      of-both k x rank p at hp {P = IsSoundPart p.events (entry_at p.pending k) (part_of x rank)}
-      (λ same mine is is_p. subst (λ (n : ℕ). IsSoundPart p.events (entry_at p.pending n) (part_of x rank)) same (subst (λ (r : ℕ). IsSoundPart p.events (entry_at p.pending id) (part_of x r)) mine (rw (is, is_p) m.mine)))
+      of-both k x rank p at hp {P = AreSoundContributions p.events (item_at p.pending k) (contributions_of x rank)}
+      (λ same mine is is_p. subst (λ (n : ℕ). AreSoundContributions p.events (item_at p.pending n) (contributions_of x rank)) same (subst (λ (r : ℕ). AreSoundContributions p.events (item_at p.pending id) (contributions_of x r)) mine (rw (is, is_p) m.mine)))
       (λ same apart is was_p.
-      subst (λ (n : ℕ). IsSoundPart p.events (entry_at p.pending n) (part_of x rank)) same
+      subst (λ (n : ℕ). AreSoundContributions p.events (item_at p.pending n) (contributions_of x rank)) same
       (rw (is, m.parts rank apart) (sound.parts id g rank p m.group_there was_p)))
       (λ apart mine was is_p.
-      subst (λ (r : ℕ). IsSoundPart p.events (entry_at p.pending k) (part_of x r)) mine
-      (rw (is_p, m.others k apart) (more-events posts.events after.events (entry_at posts.pending k) (part_of x me) m.events (sound.parts k x me posts was m.there))))
+      subst (λ (r : ℕ). AreSoundContributions p.events (item_at p.pending k) (contributions_of x r)) mine
+      (rw (is_p, m.others k apart) (more-events posts.events after.events (item_at posts.pending k) (contributions_of x me) m.events (sound.parts k x me posts was m.there))))
       (λ was was_p. sound.parts k x rank p was was_p);
   begun = λ k x rank p at hp.
-      of-both k x rank p at hp {P = HasBegun p k (part_of x rank).completed}
-      (λ same mine is is_p. subst (λ (n : ℕ). HasBegun p n (part_of x rank).completed) same (subst (λ (r : ℕ). HasBegun p id (part_of x r).completed) mine (rw (is, is_p) m.begun)))
-      (λ same apart is was_p. subst (λ (n : ℕ). HasBegun p n (part_of x rank).completed) same (rw (is, m.parts rank apart) (sound.begun id g rank p m.group_there was_p)))
+      of-both k x rank p at hp {P = HasBegun p k (contributions_of x rank).completed}
+      (λ same mine is is_p. subst (λ (n : ℕ). HasBegun p n (contributions_of x rank).completed) same (subst (λ (r : ℕ). HasBegun p id (contributions_of x r).completed) mine (rw (is, is_p) m.begun)))
+      (λ same apart is was_p. subst (λ (n : ℕ). HasBegun p n (contributions_of x rank).completed) same (rw (is, m.parts rank apart) (sound.begun id g rank p m.group_there was_p)))
       (λ apart mine was is_p.
-      subst (λ (r : ℕ). HasBegun p k (part_of x r).completed) mine
-      (rw is_p (begun-other k (part_of x me).completed apart (sound.begun k x me posts was m.there))))
+      subst (λ (r : ℕ). HasBegun p k (contributions_of x r).completed) mine
+      (rw is_p (begun-other k (contributions_of x me).completed apart (sound.begun k x me posts was m.there))))
       (λ was was_p. sound.begun k x rank p was was_p);
   resumable = λ k rank p q hp pends.
       of-posts rank p hp {P = IsResumable p.groups rank k q.args}
       (λ mine is_p.
       same-or-not id k
       (λ same.
-      let here : entry_at after.pending id ≡ Some q = subst (λ (n : ℕ). entry_at after.pending n ≡ Some q) (sym same) (rw (sym is_p) pends) in
+      let here : item_at after.pending id ≡ Some q = subst (λ (n : ℕ). item_at after.pending n ≡ Some q) (sym same) (rw (sym is_p) pends) in
       subst (λ (n : ℕ). IsResumable p.groups rank n q.args) same (subst (λ (r : ℕ). IsResumable p.groups r id q.args) mine (rw is_p (m.resumable q here))))
       (λ apart.
-      let was : entry_at posts.pending k ≡ Some q = sym (m.others k apart) ∙ rw (sym is_p) pends in
+      let was : item_at posts.pending k ≡ Some q = sym (m.others k apart) ∙ rw (sym is_p) pends in
       let may = sound.resumable k me posts q m.there was in
       subst (λ (r : ℕ). IsResumable p.groups r k q.args) mine
       (rw is_p (resumable-stays posts.groups after.groups me k q.args (let same = m.made_groups in omega arith) may (λ h there. m.handles k apart ∙ there)))))
@@ -186,12 +186,12 @@ collectives-meet s t me id posts after g g' sound m = record {
       (λ was was_p. sound.committed k x rank p h was was_p hh stage);
   made = λ k x rank p at hp turn c seg size given coll.
       of-both k x rank p at hp {P = WasMadeSo (tables_of p) seg c.generation size}
-      (λ same mine is is_p. rw is_p (m.made turn c seg size (subst (λ (r : ℕ). given_in g' turn r ≡ Some c) (sym mine) (rw (sym is) given)) coll))
+      (λ same mine is is_p. rw is_p (m.made turn c seg size (subst (λ (r : ℕ). contribution_in g' turn r ≡ Some c) (sym mine) (rw (sym is) given)) coll))
       (λ same apart is was_p.
-      sound.made id g rank p m.group_there was_p turn c seg size (ap (λ (part : Part). slice_get part.contributions turn) (sym (m.parts rank apart)) ∙ rw (sym is) given) coll)
+      sound.made id g rank p m.group_there was_p turn c seg size (ap (λ (part : RankContributions). slice_get part.contributions turn) (sym (m.parts rank apart)) ∙ rw (sym is) given) coll)
       (λ apart mine was is_p.
       rw is_p (made-so-stays (tables_of posts) (tables_of after) seg c.generation size m.succeeds
-      (sound.made k x me posts was m.there turn c seg size (subst (λ (r : ℕ). given_in x turn r ≡ Some c) (sym mine) given) coll)))
+      (sound.made k x me posts was m.there turn c seg size (subst (λ (r : ℕ). contribution_in x turn r ≡ Some c) (sym mine) given) coll)))
       (λ was was_p. sound.made k x rank p was was_p turn c seg size given coll);
 }
   where
@@ -222,29 +222,29 @@ collectives-meet s t me id posts after g g' sound m = record {
     }
 
 -- The part of a rank after a join and after a completion, and those of the others.
-pub part-changed : (g : Group) (me : ℕ) (part : Part) (change : Part → Part) (members : Option ℕ) → slice_get g.parts me ≡ Some part
-    → part_of (record { members = members; parts = changed_at g.parts me change }) me ≡ change part
-part-changed g me part change members at =
-    let set = changed_at-found g.parts me part change at in
-    let now : slice_get (changed_at g.parts me change) me ≡ Some (change part) = ap (λ (all : List Part). slice_get all me) set ∙ slice_get-set_same g.parts me part (change part) at in
+pub contributions-changed : (g : Group) (me : ℕ) (part : RankContributions) (change : RankContributions → RankContributions) (members : Option ℕ) → slice_get g.contributions me ≡ Some part
+    → contributions_of (record { members = members; contributions = changed_at g.contributions me change }) me ≡ change part
+contributions-changed g me part change members at =
+    let set = changed_at-found g.contributions me part change at in
+    let now : slice_get (changed_at g.contributions me change) me ≡ Some (change part) = ap (λ (all : List RankContributions). slice_get all me) set ∙ slice_get-set_same g.contributions me part (change part) at in
     rw now refl
 
-pub part-there : (g : Group) (me : ℕ) (part : Part) → slice_get g.parts me ≡ Some part → part_of g me ≡ part
-part-there g me part at = rw at refl
+pub contributions-there : (g : Group) (me : ℕ) (part : RankContributions) → slice_get g.contributions me ≡ Some part → contributions_of g me ≡ part
+contributions-there g me part at = rw at refl
 
-pub part-other : (g : Group) (me rank : ℕ) (change : Part → Part) (members : Option ℕ) → (me ≡ rank → ⊥) → part_of (record { members = members; parts = changed_at g.parts me change }) rank ≡ part_of g rank
-part-other g me rank change members apart = go (slice_get g.parts me) refl
+pub contributions-other : (g : Group) (me rank : ℕ) (change : RankContributions → RankContributions) (members : Option ℕ) → (me ≡ rank → ⊥) → contributions_of (record { members = members; contributions = changed_at g.contributions me change }) rank ≡ contributions_of g rank
+contributions-other g me rank change members apart = go (slice_get g.contributions me) refl
   where
-    other : slice_get (changed_at g.parts me change) rank ≡ slice_get g.parts rank
-    other = by-place (slice_get g.parts me) refl
+    other : slice_get (changed_at g.contributions me change) rank ≡ slice_get g.contributions rank
+    other = by-place (slice_get g.contributions me) refl
       where
-        by-place : (o : Option Part) → slice_get g.parts me ≡ o → slice_get (changed_at g.parts me change) rank ≡ slice_get g.parts rank
+        by-place : (o : Option RankContributions) → slice_get g.contributions me ≡ o → slice_get (changed_at g.contributions me change) rank ≡ slice_get g.contributions rank
         by-place None at = rw at refl
-        by-place (Some x) at = rw at (slice_get-set_other g.parts me rank (change x) apart)
+        by-place (Some x) at = rw at (slice_get-set_other g.contributions me rank (change x) apart)
 
-    go : (o : Option Part) → slice_get g.parts me ≡ o → part_of (record { members = members; parts = changed_at g.parts me change }) rank ≡ part_of g rank
-    go o at = by-rank (slice_get g.parts rank) refl
+    go : (o : Option RankContributions) → slice_get g.contributions me ≡ o → contributions_of (record { members = members; contributions = changed_at g.contributions me change }) rank ≡ contributions_of g rank
+    go o at = by-rank (slice_get g.contributions rank) refl
       where
-        by-rank : (q : Option Part) → slice_get g.parts rank ≡ q → part_of (record { members = members; parts = changed_at g.parts me change }) rank ≡ part_of g rank
+        by-rank : (q : Option RankContributions) → slice_get g.contributions rank ≡ q → contributions_of (record { members = members; contributions = changed_at g.contributions me change }) rank ≡ contributions_of g rank
         by-rank None there = let new = other ∙ there in rw (new, there) refl
         by-rank (Some x) there = let new = other ∙ there in rw (new, there) refl

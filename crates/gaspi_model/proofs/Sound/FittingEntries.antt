@@ -20,10 +20,10 @@ use Rattle.gaspi_types.specs.declared.calls.Call.{Call}
 use Rattle.gaspi_types.specs.declared.calls.posts.Item.{Item}
 use Rattle.gaspi_types.specs.declared.entries.Direction.{Direction}
 use Rattle.gaspi_types.specs.declared.entries.Direction.TheVariants.{Outward, Inward}
-use Rattle.gaspi_types.specs.declared.entries.Ends.{Ends}
+use Rattle.gaspi_types.specs.declared.entries.Endpoints.{Endpoints}
 use Rattle.gaspi_types.specs.declared.shapes.Limits.{Limits}
 use Rattle.gaspi_types.specs.declared.replies.Refusal.{Refusal}
-use Rattle.gaspi_model.specs.Calls.{call_asks}
+use Rattle.gaspi_model.specs.Calls.{requested_kinds}
 use Rattle.gaspi_model.specs.Memories.{bytes_of}
 use Rattle.gaspi_types.specs.Segments.{bytes_in, extents_of, extent_of, is_generation}
 use Rattle.gaspi_model.specs.State.{segment_at}
@@ -32,7 +32,7 @@ use Rattle.gaspi_types.specs.Tables.{changed_at}
 use Rattle.gaspi_types.specs.Queues.{with_entries}
 use Rattle.gaspi_model.specs.QueueCalls.{emptied}
 use Rattle.gaspi_model.specs.Transfers.{bytes_from}
-use Rattle.gaspi_model.specs.Coherence.{Tables, WasMade, AreMade, LiesIn, LiesInIfThere, HasOwn, HasTarget, Fits, AllFit, Knows}
+use Rattle.gaspi_model.specs.Coherence.{Tables, WasMade, AreMade, LiesIn, LiesInIfThere, HasOwn, HasTarget, IsWithinSegments, AreWithinSegments, Knows}
 use Rattle.gaspi_types.specs.declared.entries.Queue.{Queue}
 use Rattle.gaspi_model.proofs.Sound.OpenCounts.{emptied-lane}
 use Rattle.gaspi_model.specs.declared.states.Posts.{Posts}
@@ -45,13 +45,13 @@ use Rattle.gaspi_model.proofs.FoundEntries.{with_phase}
 
 -- the entries of one lane fit
 abbrev pub LaneFits : ℕ → Tables → Tables → List Entry → Type 0
-LaneFits notes mine theirs lane = (place : ℕ) (e : Entry) → slice_get lane place ≡ Some e → Fits notes mine theirs e
+LaneFits notes mine theirs lane = (place : ℕ) (e : Entry) → slice_get lane place ≡ Some e → IsWithinSegments notes mine theirs e
 
 -- A lane that is changed.
 
 -- an entry in another phase, which has to do with its own segment still
 phase-fits : (notes : ℕ) (mine theirs : Tables) (e : Entry) (phase : Phase) → (HasOwn mine.own e.kind e.phase → HasOwn mine.own e.kind phase)
-    → Fits notes mine theirs e → Fits notes mine theirs (record e { phase = phase })
+    → IsWithinSegments notes mine theirs e → IsWithinSegments notes mine theirs (record e { phase = phase })
 phase-fits notes mine theirs e phase owns fits = (fits.0, owns fits.1)
 
 pub lane-phase : (notes : ℕ) (mine theirs : Tables) (lane : List Entry) (place : ℕ) (e : Entry) (phase : Phase) → slice_get lane place ≡ Some e
@@ -59,7 +59,7 @@ pub lane-phase : (notes : ℕ) (mine theirs : Tables) (lane : List Entry) (place
     → LaneFits notes mine theirs lane → LaneFits notes mine theirs (with_phase lane place e phase)
 lane-phase notes mine theirs lane place e phase at owns all k x here = go (slice_get-set lane place k (record e { phase = phase }) x here)
   where
-    go : ((k ≡ place) × (x ≡ record e { phase = phase })) ⊎ (slice_get lane k ≡ Some x) → Fits notes mine theirs x
+    go : ((k ≡ place) × (x ≡ record e { phase = phase })) ⊎ (slice_get lane k ≡ Some x) → IsWithinSegments notes mine theirs x
     go (inl is) = rw is.1 (phase-fits notes mine theirs e phase owns (all place e at))
     go (inr there) = all k x there
 
@@ -70,18 +70,18 @@ lane-remove notes mine theirs lane place all k x here = let was = remove-part la
 pub fits-lane : (notes : ℕ) (tables : List Tables) (origin : ℕ) (queues : List Queue) (changed : ℕ) (change : Queue → Queue) (q0 : Queue) (replaced : ℕ) (lane lane' : List Entry)
     → slice_get queues changed ≡ Some q0 → slice_get q0.lanes replaced ≡ Some lane → (change q0).lanes ≡ slice_set q0.lanes replaced lane'
     → ((mine theirs : Tables) → slice_get tables origin ≡ Some mine → slice_get tables replaced ≡ Some theirs → LaneFits notes mine theirs lane → LaneFits notes mine theirs lane')
-    → AllFit notes tables origin queues → AllFit notes tables origin (changed_at queues changed change)
+    → AreWithinSegments notes tables origin queues → AreWithinSegments notes tables origin (changed_at queues changed change)
 fits-lane notes tables origin queues changed change q0 replaced lane lane' at in_queue lanes keeps all queue q h target l here place e there mine theirs hm ht =
     parts (slice_get-set queues changed queue (change q0) q (rw at at h))
   where
-    in-lane : (t : ℕ) → slice_get tables t ≡ Some theirs → ((t ≡ replaced) × (l ≡ lane')) ⊎ (slice_get q0.lanes t ≡ Some l) → Fits notes mine theirs e
+    in-lane : (t : ℕ) → slice_get tables t ≡ Some theirs → ((t ≡ replaced) × (l ≡ lane')) ⊎ (slice_get q0.lanes t ≡ Some l) → IsWithinSegments notes mine theirs e
     in-lane t ht (inl is) =
         keeps mine theirs hm (subst (λ (k : ℕ). slice_get tables k ≡ Some theirs) is.0 ht)
         (λ p x at_x. all changed q0 at replaced lane in_queue p x at_x mine theirs hm (subst (λ (k : ℕ). slice_get tables k ≡ Some theirs) is.0 ht))
         place e (subst (λ (x : List Entry). slice_get x place ≡ Some e) is.1 there)
     in-lane t ht (inr was) = all changed q0 at t l was place e there mine theirs hm ht
 
-    parts : ((queue ≡ changed) × (q ≡ change q0)) ⊎ (slice_get queues queue ≡ Some q) → Fits notes mine theirs e
+    parts : ((queue ≡ changed) × (q ≡ change q0)) ⊎ (slice_get queues queue ≡ Some q) → IsWithinSegments notes mine theirs e
     parts (inl is) =
         let new : slice_get (slice_set q0.lanes replaced lane') target ≡ Some l = rw (sym lanes) (subst (λ (x : Queue). slice_get x.lanes target ≡ Some l) is.1 here) in
         in-lane target ht (slice_get-set q0.lanes replaced target lane' l new)
@@ -89,38 +89,38 @@ fits-lane notes tables origin queues changed change q0 replaced lane lane' at in
 
 -- a queue changed, but not its lanes
 pub fits-queue : (notes : ℕ) (tables : List Tables) (origin : ℕ) (queues : List Queue) (changed : ℕ) (change : Queue → Queue) → ((q : Queue) → (change q).lanes ≡ q.lanes)
-    → AllFit notes tables origin queues → AllFit notes tables origin (changed_at queues changed change)
+    → AreWithinSegments notes tables origin queues → AreWithinSegments notes tables origin (changed_at queues changed change)
 fits-queue notes tables origin queues changed change lanes all queue q h target l here place e there mine theirs hm ht = go (slice_get queues changed) refl
   where
-    parts : (x : Queue) → slice_get queues changed ≡ Some x → ((queue ≡ changed) × (q ≡ change x)) ⊎ (slice_get queues queue ≡ Some q) → Fits notes mine theirs e
+    parts : (x : Queue) → slice_get queues changed ≡ Some x → ((queue ≡ changed) × (q ≡ change x)) ⊎ (slice_get queues queue ≡ Some q) → IsWithinSegments notes mine theirs e
     parts x at (inl is) = all changed x at target l (rw (sym (lanes x)) (subst (λ (y : Queue). slice_get y.lanes target ≡ Some l) is.1 here)) place e there mine theirs hm ht
     parts x at (inr was) = all queue q was target l here place e there mine theirs hm ht
 
-    go : (o : Option Queue) → slice_get queues changed ≡ o → Fits notes mine theirs e
+    go : (o : Option Queue) → slice_get queues changed ≡ o → IsWithinSegments notes mine theirs e
     go None at = all queue q (rw at at h) target l here place e there mine theirs hm ht
     go (Some x) at = parts x at (slice_get-set queues changed queue (change x) q (rw at at h))
 
 -- a queue with no entry left
-pub fits-emptied : (notes : ℕ) (tables : List Tables) (origin : ℕ) (queues : List Queue) (changed : ℕ) → AllFit notes tables origin queues
-    → AllFit notes tables origin (changed_at queues changed emptied)
+pub fits-emptied : (notes : ℕ) (tables : List Tables) (origin : ℕ) (queues : List Queue) (changed : ℕ) → AreWithinSegments notes tables origin queues
+    → AreWithinSegments notes tables origin (changed_at queues changed emptied)
 fits-emptied notes tables origin queues changed all queue q h target l here place e there mine theirs hm ht = go (slice_get queues changed) refl
   where
-    parts : (x : Queue) → ((queue ≡ changed) × (q ≡ emptied x)) ⊎ (slice_get queues queue ≡ Some q) → Fits notes mine theirs e
+    parts : (x : Queue) → ((queue ≡ changed) × (q ≡ emptied x)) ⊎ (slice_get queues queue ≡ Some q) → IsWithinSegments notes mine theirs e
     parts x (inl is) =
         let none : l ≡ [] = emptied-lane x.lanes target l (subst (λ (y : Queue). slice_get y.lanes target ≡ Some l) is.1 here) in
         absurd (let never : ◌≡◌ {A = Option Entry} None (Some e) = subst (λ (y : List Entry). slice_get y place ≡ Some e) none there in let no : ⊥ = cc in no)
     parts x (inr was) = all queue q was target l here place e there mine theirs hm ht
 
-    go : (o : Option Queue) → slice_get queues changed ≡ o → Fits notes mine theirs e
+    go : (o : Option Queue) → slice_get queues changed ≡ o → IsWithinSegments notes mine theirs e
     go None at = all queue q (rw at at h) target l here place e there mine theirs hm ht
     go (Some x) at = parts x (slice_get-set queues changed queue (emptied x) q (rw at at h))
 
 -- the queue at a place changed, but not its lanes
 pub fits-alike : (notes : ℕ) (tables : List Tables) (origin : ℕ) (queues : List Queue) (changed : ℕ) (change : Queue → Queue) (q0 : Queue) → slice_get queues changed ≡ Some q0
-    → (change q0).lanes ≡ q0.lanes → AllFit notes tables origin queues → AllFit notes tables origin (changed_at queues changed change)
+    → (change q0).lanes ≡ q0.lanes → AreWithinSegments notes tables origin queues → AreWithinSegments notes tables origin (changed_at queues changed change)
 fits-alike notes tables origin queues changed change q0 at lanes all queue q h target l here place e there mine theirs hm ht = parts (slice_get-set queues changed queue (change q0) q (rw at at h))
   where
-    parts : ((queue ≡ changed) × (q ≡ change q0)) ⊎ (slice_get queues queue ≡ Some q) → Fits notes mine theirs e
+    parts : ((queue ≡ changed) × (q ≡ change q0)) ⊎ (slice_get queues queue ≡ Some q) → IsWithinSegments notes mine theirs e
     parts (inl is) = all changed q0 at target l (rw (sym lanes) (subst (λ (y : Queue). slice_get y.lanes target ≡ Some l) is.1 here)) place e there mine theirs hm ht
     parts (inr was) = all queue q was target l here place e there mine theirs hm ht
 
@@ -189,10 +189,10 @@ known-target me mine known tables rank segment offset size x theirs may h within
 -- the kinds of a post fit, as they are posted
 abbrev pub KindsFit : ℕ → Tables → Tables → List Kind → Type 0
 KindsFit notes mine theirs [] = Unit {0}
-KindsFit notes mine theirs (kind ∷ kinds) = ((n : ℕ) → Fits notes mine theirs (record { number = n; kind = kind; phase = phases.Posted })) × KindsFit notes mine theirs kinds
+KindsFit notes mine theirs (kind ∷ kinds) = ((n : ℕ) → IsWithinSegments notes mine theirs (record { number = n; kind = kind; phase = phases.Posted })) × KindsFit notes mine theirs kinds
 
 posted-fit : (notes : ℕ) (mine theirs : Tables) (kinds : List Kind) (number place : ℕ) (e : Entry) → KindsFit notes mine theirs kinds
-    → slice_get (posted_entries number kinds) place ≡ Some e → Fits notes mine theirs e
+    → slice_get (posted_entries number kinds) place ≡ Some e → IsWithinSegments notes mine theirs e
 posted-fit notes mine theirs [] number place e fit at = absurd (let no : ⊥ = cc in no)
 posted-fit notes mine theirs (kind ∷ kinds) number zero e fit at =
     let same : ◌≡◌ {A = Entry} (record { number = number; kind = kind; phase = phases.Posted }) e =
@@ -201,7 +201,7 @@ posted-fit notes mine theirs (kind ∷ kinds) number zero e fit at =
 posted-fit notes mine theirs (kind ∷ kinds) number (suc place) e fit at = posted-fit notes mine theirs kinds (number + 1) place e fit.1 at
 
 -- the ends of a transfer, as they were checked
-ends-fit : (me : ℕ) (own : Tables) (known : List (List (Option Extent))) (tables : List Tables) (rank : ℕ) (item : Item) (ends : Ends) (theirs : Tables)
+ends-fit : (me : ℕ) (own : Tables) (known : List (List (Option Extent))) (tables : List Tables) (rank : ℕ) (item : Item) (ends : Endpoints) (theirs : Tables)
     → MayPost tables me own known → slice_get tables rank ≡ Some theirs → AreEnds (near_in (table_with own known)) (far_in me (table_with own known) rank) item ends
     → HasTarget theirs ends.own ends.target × LiesIn own.own ends.own
 ends-fit me own known tables rank item ends theirs may ht h = rw h.are (
@@ -212,13 +212,13 @@ ends-fit me own known tables rank item ends theirs may ht h = rw h.are (
 -- a slot of a segment that its rank knows
 slot-fits : (notes me : ℕ) (own : Tables) (known : List (List (Option Extent))) (tables : List Tables) (rank segment note value : ℕ) (far : Extent) (theirs : Tables)
     → MayPost tables me own known → slice_get tables rank ≡ Some theirs → known_extent me (table_with own known) rank segment ≡ Some far → nat_lt note notes ≡ true
-    → (n : ℕ) → Fits notes own theirs (record { number = n; kind = kinds_of.Notify (slot_in far segment note) value; phase = phases.Posted })
+    → (n : ℕ) → IsWithinSegments notes own theirs (record { number = n; kind = kinds_of.Notify (slot_in far segment note) value; phase = phases.Posted })
 slot-fits notes me own known tables rank segment note value far theirs may ht hfar noted n = ((ltb-true note notes noted, known-made me own known tables rank segment far theirs may hfar ht), tt)
 
 -- a transfer, and those of a post
 transfer-fits : (direction : Direction) (notes me : ℕ) (own : Tables) (known : List (List (Option Extent))) (tables : List Tables) (rank : ℕ) (item : Item) (kind : Kind) (theirs : Tables)
     → MayPost tables me own known → slice_get tables rank ≡ Some theirs → IsTransfer direction (near_in (table_with own known)) (far_in me (table_with own known) rank) item kind
-    → (n : ℕ) → Fits notes own theirs (record { number = n; kind = kind; phase = phases.Posted })
+    → (n : ℕ) → IsWithinSegments notes own theirs (record { number = n; kind = kind; phase = phases.Posted })
 transfer-fits Outward notes me own known tables rank item kind theirs may ht t n = rw t.is (ends-fit me own known tables rank item t.ends theirs may ht t.are)
 transfer-fits Inward notes me own known tables rank item kind theirs may ht t n = rw t.is (ends-fit me own known tables rank item t.ends theirs may ht t.are)
 
@@ -249,7 +249,7 @@ asked-fit notes me own known tables rank kinds theirs may ht (NotedReads items s
 
 -- so do those that a call asks for
 pub asks-fit : (limits : Limits) (me : ℕ) (posts : Posts) (tables : List Tables) (own : Tables) (call : Call) (to : Posting) (kinds : List Kind) (theirs : Tables) → own.own ≡ posts.segments.own
-    → MayPost tables me own posts.segments.known → (row_of call).posting ≡ Some to → slice_get tables to.rank ≡ Some theirs → call_asks limits me posts call ≡ Ok kinds → KindsFit limits.notes own theirs kinds
+    → MayPost tables me own posts.segments.known → (row_of call).posting ≡ Some to → slice_get tables to.rank ≡ Some theirs → requested_kinds limits me posts call ≡ Ok kinds → KindsFit limits.notes own theirs kinds
 asks-fit limits me posts tables own call to kinds theirs same may is ht h =
     let by = asked-by limits.notes me posts.segments call to kinds is h in
     asked-fit limits.notes me own posts.segments.known tables to.rank kinds theirs may ht
@@ -259,17 +259,17 @@ asks-fit limits me posts tables own call to kinds theirs same may is ht h =
 -- a lane with the entries of a post added
 pub fits-post : (notes : ℕ) (tables : List Tables) (me : ℕ) (posts : Posts) (queue rank : ℕ) (own : Tables) (asked : Result (List Kind) Refusal)
     → slice_get tables me ≡ Some own → ((kinds : List Kind) (theirs : Tables) → asked ≡ Ok kinds → slice_get tables rank ≡ Some theirs → KindsFit notes own theirs kinds)
-    → AllFit notes tables me posts.queues → AllFit notes tables me (with_post posts queue rank asked).queues
+    → AreWithinSegments notes tables me posts.queues → AreWithinSegments notes tables me (with_post posts queue rank asked).queues
 fits-post notes tables me posts queue rank own (Err refusal) hm fit all = all
 fits-post notes tables me posts queue rank own (Ok kinds) hm fit all = with-queue (slice_get posts.queues queue) refl
   where
     either : (mine theirs : Tables) (lane : List Entry) (e : Entry) → KindsFit notes mine theirs kinds → LaneFits notes mine theirs lane
-        → ((j : ℕ) × (slice_get lane j ≡ Some e)) ⊎ ((j : ℕ) × (slice_get (posted_entries posts.next kinds) j ≡ Some e)) → Fits notes mine theirs e
+        → ((j : ℕ) × (slice_get lane j ≡ Some e)) ⊎ ((j : ℕ) × (slice_get (posted_entries posts.next kinds) j ≡ Some e)) → IsWithinSegments notes mine theirs e
     either mine theirs lane e new old (inl was) = old was.0 e was.1
     either mine theirs lane e new old (inr now) = posted-fit notes mine theirs kinds posts.next now.0 e new now.1
 
     with-lane : (q : Queue) → slice_get posts.queues queue ≡ Some q → (o : Option (List Entry)) → slice_get q.lanes rank ≡ o
-        → AllFit notes tables me (changed_at posts.queues queue (with_entries rank (posted_entries posts.next kinds)))
+        → AreWithinSegments notes tables me (changed_at posts.queues queue (with_entries rank (posted_entries posts.next kinds)))
     with-lane q at None none = fits-alike notes tables me posts.queues queue (with_entries rank (posted_entries posts.next kinds)) q at (rw none refl) all
     with-lane q at (Some lane) some =
         fits-lane notes tables me posts.queues queue (with_entries rank (posted_entries posts.next kinds)) q rank lane (lane ++ posted_entries posts.next kinds) at some (rw some refl)
@@ -277,7 +277,7 @@ fits-post notes tables me posts queue rank own (Ok kinds) hm fit all = with-queu
         let same : own ≡ mine = (let both : ◌≡◌ {A = Option Tables} (Some own) (Some mine) = sym hm ∙ hmine in cc) in
         either mine theirs lane e (rw (sym same) (fit kinds theirs refl ht)) old (append-parts lane (posted_entries posts.next kinds) place e there)) all
 
-    with-queue : (o : Option Queue) → slice_get posts.queues queue ≡ o → AllFit notes tables me (changed_at posts.queues queue (with_entries rank (posted_entries posts.next kinds)))
+    with-queue : (o : Option Queue) → slice_get posts.queues queue ≡ o → AreWithinSegments notes tables me (changed_at posts.queues queue (with_entries rank (posted_entries posts.next kinds)))
     with-queue None none = rw none all
     with-queue (Some q) at = with-lane q at (slice_get q.lanes rank) refl
 

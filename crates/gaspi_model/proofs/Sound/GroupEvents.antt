@@ -20,7 +20,7 @@ use Rattle.gaspi_types.specs.declared.shapes.CallerId.{CallerId}
 use Rattle.gaspi_types.specs.declared.shapes.Limits.{Limits}
 use Rattle.gaspi_types.specs.NumberTypes.{TypedNumbers}
 use Rattle.gaspi_model.specs.Changes.{IsOnlyCounted}
-use Rattle.gaspi_model.specs.Coherence.{Tables, tables_of, all_tables, AllFit, IsCoherent}
+use Rattle.gaspi_model.specs.Coherence.{Tables, tables_of, all_tables, AreWithinSegments, AgreesOnSegments}
 use Rattle.gaspi_model.specs.CollectiveCalls.{segment_checks, joining_call, made_posts, made_memory, contribution_of, joined_posts, completed_posts}
 use Rattle.gaspi_model.specs.Posting.{counted}
 use Rattle.gaspi_model.specs.Contributions.{AreSoundCollectives}
@@ -35,13 +35,13 @@ use Rattle.gaspi_types.proofs.Items.{slice_get-set, slice_get-set_same, sum_by-c
 use Rattle.gaspi_model.proofs.GroupEffects.{done-step, join-step}
 use Rattle.gaspi_model.proofs.GroupSteps.{step-completed}
 use Rattle.gaspi_model.proofs.IdleSteps.{only-counted}
-use Rattle.gaspi_model.proofs.MetPosts.{IsMet, joined-leaves, completed-leaves, counted-keeps}
+use Rattle.gaspi_model.proofs.CollectivePosts.{IsMet, joined-leaves, completed-leaves, counted-keeps}
 use Rattle.gaspi_model.proofs.Sound.CallTables.{KeepsFit, KeepsTables, fits-itself, plain-fits, plain-tables}
 use Rattle.gaspi_model.proofs.Sound.CoherentSteps.{keeps-coherent, posts-from, keeps-itself, own-from, changed-own, changed-slots, tables-slots, mine-there, idle-from}
 use Rattle.gaspi_model.proofs.Sound.Completions.{makes-known, done-groups, completion-meets}
 use Rattle.gaspi_model.proofs.Sound.Contributions.{collectives-meet}
 use Rattle.gaspi_model.proofs.Sound.FittingEntries.{MayPost}
-use Rattle.gaspi_model.proofs.Sound.GroupPosts.{met-sound, completed-tables, completed-own, completed-fits, joined-tables, joined-numbered, joined-generations, joined-groups}
+use Rattle.gaspi_model.proofs.Sound.GroupPosts.{on_group-sound, completed-tables, completed-own, completed-fits, joined-tables, joined-numbered, joined-generations, joined-groups}
 use Rattle.gaspi_model.proofs.Sound.Inboxes.{inboxes-set}
 use Rattle.gaspi_model.proofs.Sound.Joins.{join-meets}
 use Rattle.gaspi_model.proofs.Sound.KeptGroups.{idle-collectives}
@@ -61,7 +61,7 @@ posts-sound limits table rank after sound all r p h = parts (slice_get-set table
 -- A refusal or a timeout.
 idle-posts : (limits : Limits) (posts : Posts) → IsSoundPosts limits posts → nat_le (posts.events + owed posts + 1) limits.events ≡ true → IsSoundPosts limits (counted posts)
 idle-posts limits posts sound room =
-    met-sound limits posts (counted posts) sound (record { queues = refl; corrupt = refl; threads = refl; events = refl; next = refl }) room (counted-tables limits posts sound.tables) sound.numbered
+    on_group-sound limits posts (counted posts) sound (record { queues = refl; corrupt = refl; threads = refl; events = refl; next = refl }) room (counted-tables limits posts sound.tables) sound.numbered
     (λ segment n at. (let few = sound.generations segment n at in omega arith)) sound.groups
 
 idle-sound : (s t : State) (rank : ℕ) → IsSound s → (only : IsOnlyCounted s t rank) → nat_le (only.posts.events + owed only.posts + 1) s.limits.events ≡ true → IsSound t
@@ -74,7 +74,7 @@ idle-sound s t rank sound only room =
       memories = sound.memories;
       posts = posts-sound s.limits s.posts rank (counted only.posts) (idle-posts s.limits only.posts (sound.posts rank only.posts only.there) room) sound.posts;
       inboxes = sound.inboxes;
-      coherent = subst IsCoherent only.after coherent;
+      coherent = subst AgreesOnSegments only.after coherent;
       collectives = subst AreSoundCollectives only.after collectives;
     })
 
@@ -93,7 +93,7 @@ done-sound s t c id call reply named awake sound h =
     let own = completed-own posts g c.rank id call in
     let fits = completed-fits s.limits.notes (all_tables s.posts) c.rank posts g id call (makes-known s posts g made.2 c.rank c.thread id call reply made.3 made.4 sound m.posts_there is done)
     (sound.coherent.known c.rank posts m.posts_there) (sound.coherent.entries c.rank posts m.posts_there) keeps.queues in
-    let new_posts = met-sound s.limits posts after mine keeps m.room (completed-tables s.limits posts g c.rank id call mine.tables)
+    let new_posts = on_group-sound s.limits posts after mine keeps m.room (completed-tables s.limits posts g c.rank id call mine.tables)
     (ap (λ (x : Tables). length x.next) own ∙ mine.numbered)
     (λ segment n at. (let few = mine.generations segment n (ap (λ (x : Tables). slice_get x.next segment) (sym own) ∙ at) in omega arith)) (done-groups s.limits.ranks posts g c.rank id call made.3 done.staged mine.groups) in
     subst IsSound (sym m.leaves) (record {
@@ -145,7 +145,7 @@ join-inbox limits posts memory (colls.Commit mask) = refl
 join-inbox limits posts memory (colls.Create seg size) = refl
 
 join-fits : (limits : Limits) (tables : List Tables) (me : ℕ) (posts : Posts) (memory : Memory) (id : ℕ) (coll : Coll) (values : TypedNumbers) → MayPost tables me (tables_of posts) posts.segments.known
-    → length posts.segments.next_generations ≡ 32 → AllFit limits.notes tables me posts.queues → segment_checks posts (joining_call id (record { coll = coll; values = values })) ≡ Ok tt
+    → length posts.segments.next_generations ≡ 32 → AreWithinSegments limits.notes tables me posts.queues → segment_checks posts (joining_call id (record { coll = coll; values = values })) ≡ Ok tt
     → KeepsFit limits.notes tables me posts (made_posts posts coll)
 join-fits limits tables me posts memory id colls.Barrier values may many all free = fits-itself limits.notes tables me posts may.knows all
 join-fits limits tables me posts memory id (colls.Allreduce op t n) values may many all free = fits-itself limits.notes tables me posts may.knows all
@@ -179,7 +179,7 @@ steps-joined s t c id args sound h =
     let fits = pending-fits s.limits.notes (all_tables s.posts) c.rank c.thread id posts args
     (join-fits s.limits (all_tables s.posts) c.rank posts memory id args.coll args.values post_may mine.numbered (coherent.entries c.rank posts m.posts_there) may.free) in
     let kept = join-tables s.limits c.rank posts memory args.coll in
-    let new_posts = met-sound s.limits posts after mine keeps m.room (joined-tables s.limits posts c.thread id args mine.tables)
+    let new_posts = on_group-sound s.limits posts after mine keeps m.room (joined-tables s.limits posts c.thread id args mine.tables)
     (joined-numbered posts args.coll ∙ mine.numbered) (joined-generations posts args.coll mine.generations)
     (subst (AreSoundGroups s.limits.ranks) (sym (joined-groups posts args.coll)) mine.groups) in
     let inbox = sound.inboxes c.rank memory m.memory_there in
@@ -206,8 +206,8 @@ left-set limits table rank posts after at more within =
     let sum = sum_by-changed (λ (p : Posts). limits.events - p.events) table rank posts after at in
     omega arith
 
-pub counts-met : (s t : State) (me : ℕ) (posts after : Posts) → IsSound s → IsSound t → IsMet s t me posts after → events_left t + 1 ≡ events_left s
-counts-met s t me posts after sound sound' met =
+pub counts-on_group : (s t : State) (me : ℕ) (posts after : Posts) → IsSound s → IsSound t → IsMet s t me posts after → events_left t + 1 ≡ events_left s
+counts-on_group s t me posts after sound sound' met =
     let new = sound'.posts me after (ap (λ (all : List Posts). slice_get all me) met.leaves ∙ slice_get-set_same s.posts me posts after met.there) in
     let events : t.limits.events ≡ s.limits.events = ap (λ (l : Limits). l.events) met.limits in
     let left = left-set s.limits s.posts me posts after met.there met.keeps.events (let room = new.room in omega arith) in

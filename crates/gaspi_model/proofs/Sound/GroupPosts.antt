@@ -4,7 +4,7 @@ use Rattle.std.specs.List.{slice_get, slice_set, sum_by}
 use Rattle.std.specs.Option.{option_map}
 use Rattle.std.proofs.lemmas.Bool.{leb-true, eqb-true}
 use Rattle.std.proofs.lemmas.List.{length-set}
-use Rattle.gaspi_types.specs.Collectives.{turn_made}
+use Rattle.gaspi_types.specs.Collectives.{round_segments}
 use Rattle.gaspi_types.specs.Groups.{with_committed}
 use Rattle.gaspi_types.specs.Queues.{queue_owed}
 use Rattle.gaspi_types.specs.SegmentTables.{extent_in, next_generation}
@@ -17,12 +17,12 @@ use Rattle.gaspi_types.specs.declared.entries.Entry.{Entry}
 use Rattle.gaspi_types.specs.declared.entries.Queue.{Queue}
 use Rattle.gaspi_types.specs.declared.groups.Args.{Args}
 use Rattle.gaspi_types.specs.declared.groups.Group.{Group}
-use Rattle.gaspi_types.specs.declared.groups.Made.{Made}
-use Rattle.gaspi_types.specs.declared.groups.Pending.{Pending}
+use Rattle.gaspi_types.specs.declared.groups.MemberSegment.{MemberSegment}
+use Rattle.gaspi_types.specs.declared.groups.PendingCollective.{PendingCollective}
 use Rattle.gaspi_types.specs.declared.segments.Extent.{Extent}
 use Rattle.gaspi_types.specs.declared.shapes.Limits.{Limits}
-use Rattle.gaspi_model.specs.Coherence.{Tables, AllFit, Knows, tables_of}
-use Rattle.gaspi_model.specs.CollectiveCalls.{with_made_known, told_posts, completed_posts, made_posts, joined_posts, with_pending}
+use Rattle.gaspi_model.specs.Coherence.{Tables, AreWithinSegments, Knows, tables_of}
+use Rattle.gaspi_model.specs.CollectiveCalls.{with_made_known, posts_at_completion, completed_posts, made_posts, joined_posts, with_pending}
 use Rattle.gaspi_model.specs.Contributions.{WasMadeSo}
 use Rattle.gaspi_model.specs.Posting.{counted}
 use Rattle.gaspi_model.specs.SegmentCalls.{with_own}
@@ -33,11 +33,11 @@ use Rattle.gaspi_model.specs.declared.states.ThreadState.{ThreadState}
 use Rattle.gaspi_model.specs.State.{is_running}
 use Rattle.gaspi_types.proofs.Extents.{extent-set, generation-within}
 use Rattle.gaspi_types.proofs.Items.{slice_get-set}
-use Rattle.gaspi_model.proofs.MetPosts.{KeepsRank, made-known}
+use Rattle.gaspi_model.proofs.CollectivePosts.{KeepsRank, made-known}
 use Rattle.gaspi_model.proofs.Sound.CallTables.{KeepsFit}
 use Rattle.gaspi_model.proofs.Sound.Successors.{Succeeds, succeeds-itself}
 use Rattle.gaspi_model.proofs.Sound.TableLengths.{known-tables, regrouped-tables, counted-tables}
-use Rattle.gaspi_model.proofs.Sound.Told.{changed_at-get}
+use Rattle.gaspi_model.proofs.Sound.Registered.{changed_at-get}
 
 -- what is owed depends on the queues and the threads alone
 pub owed-same : (posts after : Posts) → after.queues ≡ posts.queues → after.threads ≡ posts.threads → owed after ≡ owed posts
@@ -46,10 +46,10 @@ owed-same posts after queues threads =
     ∙ ap (λ (ts : List ThreadState). sum_by queue_owed posts.queues + count_by is_running ts) threads
 
 -- the posts after an event on a group
-pub met-sound : (limits : Limits) (posts after : Posts) → IsSoundPosts limits posts → KeepsRank posts after → nat_le (posts.events + owed posts + 1) limits.events ≡ true → HasTables limits after
+pub on_group-sound : (limits : Limits) (posts after : Posts) → IsSoundPosts limits posts → KeepsRank posts after → nat_le (posts.events + owed posts + 1) limits.events ≡ true → HasTables limits after
     → length after.segments.next_generations ≡ 32 → ((segment n : ℕ) → slice_get after.segments.next_generations segment ≡ Some n → n ≤ posts.events + 2)
     → AreSoundGroups limits.ranks after.groups → IsSoundPosts limits after
-met-sound limits posts after sound keeps room tables numbered generations groups = record {
+on_group-sound limits posts after sound keeps room tables numbered generations groups = record {
   tables = tables;
   lanes = subst (λ (qs : List Queue). (queue : ℕ) (q : Queue) → slice_get qs queue ≡ Some q → length q.lanes ≡ limits.ranks) (sym keeps.queues) sound.lanes;
   room = (let less = leb-true (posts.events + owed posts + 1) limits.events room in let owes = owed-same posts after keeps.queues keeps.threads in let events = keeps.events in omega arith);
@@ -63,7 +63,7 @@ met-sound limits posts after sound keeps room tables numbered generations groups
 }
 
 -- the tables with another pending
-pending-tables : (limits : Limits) (posts : Posts) (id : ℕ) (pending : Option Pending) → HasTables limits posts → HasTables limits (with_pending id pending posts)
+pending-tables : (limits : Limits) (posts : Posts) (id : ℕ) (pending : Option PendingCollective) → HasTables limits posts → HasTables limits (with_pending id pending posts)
 pending-tables limits posts id pending has = record {
   queues = has.queues;
   corrupt = has.corrupt;
@@ -74,27 +74,27 @@ pending-tables limits posts id pending has = record {
   pending = length-set posts.pending id pending ∙ has.pending;
 }
 
-made-tables : (limits : Limits) (seg size : ℕ) (made : List Made) (posts : Posts) → HasTables limits posts → HasTables limits (with_made_known seg size made posts)
+made-tables : (limits : Limits) (seg size : ℕ) (made : List MemberSegment) (posts : Posts) → HasTables limits posts → HasTables limits (with_made_known seg size made posts)
 made-tables limits seg size [] posts has = has
 made-tables limits seg size (m ∷ made) posts has =
     made-tables limits seg size made _ (known-tables limits m.rank seg (Some (record { generation = m.generation; size = size })) posts has)
 
-told-tables : (limits : Limits) (group : Group) (me id : ℕ) (call : Call) (posts : Posts) → HasTables limits posts → HasTables limits (told_posts group me id call posts)
-told-tables limits group me id (calls.Commit call) posts has = regrouped-tables limits posts (with_committed posts.groups id) has
-told-tables limits group me id (calls.Create call) posts has = made-tables limits call.seg call.size (turn_made group me) posts has
-told-tables limits group me id other posts has = has
+at_completion-tables : (limits : Limits) (group : Group) (me id : ℕ) (call : Call) (posts : Posts) → HasTables limits posts → HasTables limits (posts_at_completion group me id call posts)
+at_completion-tables limits group me id (calls.Commit call) posts has = regrouped-tables limits posts (with_committed posts.groups id) has
+at_completion-tables limits group me id (calls.Create call) posts has = made-tables limits call.seg call.size (round_segments group me) posts has
+at_completion-tables limits group me id other posts has = has
 
 pub completed-tables : (limits : Limits) (posts : Posts) (group : Group) (me id : ℕ) (call : Call) → HasTables limits posts → HasTables limits (counted (completed_posts posts group me id call))
 completed-tables limits posts group me id call has =
-    counted-tables limits _ (pending-tables limits (told_posts group me id call posts) id None (told-tables limits group me id call posts has))
+    counted-tables limits _ (pending-tables limits (posts_at_completion group me id call posts) id None (at_completion-tables limits group me id call posts has))
 
 -- a completion leaves the own segments and the generations
-told-own : (group : Group) (me id : ℕ) (call : Call) (posts : Posts) → tables_of (told_posts group me id call posts) ≡ tables_of posts
-told-own group me id (calls.Create call) posts = ap tables_of (made-known call.seg call.size (turn_made group me) posts).1
-told-own group me id other posts = refl
+at_completion-own : (group : Group) (me id : ℕ) (call : Call) (posts : Posts) → tables_of (posts_at_completion group me id call posts) ≡ tables_of posts
+at_completion-own group me id (calls.Create call) posts = ap tables_of (made-known call.seg call.size (round_segments group me) posts).1
+at_completion-own group me id other posts = refl
 
 pub completed-own : (posts : Posts) (group : Group) (me id : ℕ) (call : Call) → tables_of (completed_posts posts group me id call) ≡ tables_of posts
-completed-own posts group me id call = told-own group me id call posts
+completed-own posts group me id call = at_completion-own group me id call posts
 
 -- a segment made
 own-tables : (limits : Limits) (posts : Posts) (seg size : ℕ) → HasTables limits posts → HasTables limits (with_own posts seg size)
@@ -167,33 +167,33 @@ known-set tables known owner seg x so knows rank table theirs hk ht segment y at
         in-table t kt (eqb-true owner rank is) (extent-set t seg (Some x) segment y (rw new at))
 
 -- each of them was made so
-abbrev pub AreMadeSo : List Tables → ℕ → ℕ → List Made → Type 0
+abbrev pub AreMadeSo : List Tables → ℕ → ℕ → List MemberSegment → Type 0
 AreMadeSo tables seg size [] = Unit {0}
 AreMadeSo tables seg size (m ∷ made) = ((theirs : Tables) → slice_get tables m.rank ≡ Some theirs → WasMadeSo theirs seg m.generation size) × AreMadeSo tables seg size made
 
-pub made-knows : (tables : List Tables) (seg size : ℕ) (made : List Made) (posts : Posts) → AreMadeSo tables seg size made → Knows tables posts.segments.known → Knows tables (with_made_known seg size made posts).segments.known
+pub made-knows : (tables : List Tables) (seg size : ℕ) (made : List MemberSegment) (posts : Posts) → AreMadeSo tables seg size made → Knows tables posts.segments.known → Knows tables (with_made_known seg size made posts).segments.known
 made-knows tables seg size [] posts so knows = knows
 made-knows tables seg size (m ∷ made) posts so knows =
     made-knows tables seg size made _ so.1 (known-set tables posts.segments.known m.rank seg (record { generation = m.generation; size = size }) so.0 knows)
 
 -- what a collective makes known
 abbrev pub MakesKnown : List Tables → Group → ℕ → Call → Type 0
-MakesKnown tables group me (calls.Create call) = AreMadeSo tables call.seg call.size (turn_made group me)
+MakesKnown tables group me (calls.Create call) = AreMadeSo tables call.seg call.size (round_segments group me)
 MakesKnown tables group me call = Unit {0}
 
-told-knows : (tables : List Tables) (group : Group) (me id : ℕ) (call : Call) (posts : Posts) → MakesKnown tables group me call → Knows tables posts.segments.known → Knows tables (told_posts group me id call posts).segments.known
-told-knows tables group me id (calls.Create call) posts so knows = made-knows tables call.seg call.size (turn_made group me) posts so knows
-told-knows tables group me id (calls.Commit call) posts so knows = knows
-told-knows tables group me id other posts so knows = knows
+at_completion-knows : (tables : List Tables) (group : Group) (me id : ℕ) (call : Call) (posts : Posts) → MakesKnown tables group me call → Knows tables posts.segments.known → Knows tables (posts_at_completion group me id call posts).segments.known
+at_completion-knows tables group me id (calls.Create call) posts so knows = made-knows tables call.seg call.size (round_segments group me) posts so knows
+at_completion-knows tables group me id (calls.Commit call) posts so knows = knows
+at_completion-knows tables group me id other posts so knows = knows
 
 -- the entries fit as before
-pub completed-fits : (notes : ℕ) (tables : List Tables) (me : ℕ) (posts : Posts) (group : Group) (id : ℕ) (call : Call) → MakesKnown tables group me call → Knows tables posts.segments.known → AllFit notes tables me posts.queues
+pub completed-fits : (notes : ℕ) (tables : List Tables) (me : ℕ) (posts : Posts) (group : Group) (id : ℕ) (call : Call) → MakesKnown tables group me call → Knows tables posts.segments.known → AreWithinSegments notes tables me posts.queues
     → (completed_posts posts group me id call).queues ≡ posts.queues → KeepsFit notes tables me posts (counted (completed_posts posts group me id call))
 completed-fits notes tables me posts group id call so knows all queues =
     let own = completed-own posts group me id call in
     record {
       succeeds = subst (λ (t : Tables). Succeeds (tables_of posts) t) (sym own) (succeeds-itself (tables_of posts));
-      known = told-knows tables group me id call posts so knows;
-      entries = subst (AllFit notes tables me) (sym queues) all;
+      known = at_completion-knows tables group me id call posts so knows;
+      entries = subst (AreWithinSegments notes tables me) (sym queues) all;
       owns = λ queue q hq target lane hl place e he owns. rw (ap (λ (t : Tables). t.own) own) owns;
     }

@@ -11,7 +11,7 @@ use Rattle.gaspi_types.specs.CallRows.{row_of}
 use Rattle.gaspi_types.specs.Groups.{is_building, new_handle, handle_of_all, opening_handles, handle_at, with_group, with_added, without_group}
 use Rattle.gaspi_types.specs.Masks.{is_member, with_member, all_below}
 use Rattle.gaspi_types.specs.Replies.{is_idle}
-use Rattle.gaspi_types.specs.Tables.{entry_at}
+use Rattle.gaspi_types.specs.Tables.{item_at}
 use Rattle.gaspi_types.specs.declared.call_rows.Posting.{Posting}
 use Rattle.gaspi_types.specs.declared.calls.Call.{Call}
 use Rattle.gaspi_types.specs.declared.calls.Call.TheVariants.{GroupCreate, GroupAdd, GroupDelete}
@@ -22,7 +22,7 @@ use Rattle.gaspi_types.specs.declared.shapes.Limits.{Limits}
 use Rattle.gaspi_types.specs.declared.replies.Refusal.{Refusal}
 use Rattle.gaspi_types.specs.declared.replies.Reply.{Reply}
 use Rattle.gaspi_types.proofs.Items.{slice_get-set, slice_get-set_same, slice_get-set_other, there-within, joined}
-use Rattle.gaspi_model.specs.Calls.{plain_finds, plain_done, posts_done, posts_after, call_finds, call_asks, answer, recorded_reply}
+use Rattle.gaspi_model.specs.Calls.{plain_result, plain_effect, posts_effect, posts_after, call_result, requested_kinds, answer, recorded_reply}
 use Rattle.gaspi_model.specs.Posting.{with_post}
 use Rattle.gaspi_model.specs.Sound.{AreSoundGroups}
 use Rattle.gaspi_model.specs.declared.states.Posts.{Posts}
@@ -31,17 +31,17 @@ use Rattle.gaspi_model.proofs.FoundReplies.{found-reply}
 use Rattle.gaspi_model.proofs.GroupFinds.{create-found, add-found, drop-found}
 
 -- What stands in a table of things that may be missing, with one of them set.
-pub entry-set : {A : Type 0} (table : List (Option A)) (i k : ℕ) (x : Option A) (y : A) → entry_at (slice_set table i x) k ≡ Some y → ((k ≡ i) × (x ≡ Some y)) ⊎ (entry_at table k ≡ Some y)
+pub entry-set : {A : Type 0} (table : List (Option A)) (i k : ℕ) (x : Option A) (y : A) → item_at (slice_set table i x) k ≡ Some y → ((k ≡ i) × (x ≡ Some y)) ⊎ (item_at table k ≡ Some y)
 entry-set {A} table i k x y h = parts (slice_get-set table i k x (Some y) (joined (slice_set table i x) k y h))
   where
-    parts : ((k ≡ i) × (◌≡◌ {A = Option A} (Some y) x)) ⊎ (slice_get table k ≡ Some (Some y)) → ((k ≡ i) × (x ≡ Some y)) ⊎ (entry_at table k ≡ Some y)
+    parts : ((k ≡ i) × (◌≡◌ {A = Option A} (Some y) x)) ⊎ (slice_get table k ≡ Some (Some y)) → ((k ≡ i) × (x ≡ Some y)) ⊎ (item_at table k ≡ Some y)
     parts (inl here) = inl (here.0, sym here.1)
     parts (inr there) = inr (ap (option_and_then (λ (o : Option A). o)) there)
 
-pub entry-set_other : {A : Type 0} (table : List (Option A)) (i k : ℕ) (x : Option A) → (i ≡ k → ⊥) → entry_at (slice_set table i x) k ≡ entry_at table k
+pub entry-set_other : {A : Type 0} (table : List (Option A)) (i k : ℕ) (x : Option A) → (i ≡ k → ⊥) → item_at (slice_set table i x) k ≡ item_at table k
 entry-set_other {A} table i k x apart = ap (option_and_then (λ (o : Option A). o)) (slice_get-set_other table i k x apart)
 
-pub entry-set_same : {A : Type 0} (table : List (Option A)) (i : ℕ) (x : Option A) → i < length table → entry_at (slice_set table i x) i ≡ x
+pub entry-set_same : {A : Type 0} (table : List (Option A)) (i : ℕ) (x : Option A) → i < length table → item_at (slice_set table i x) i ≡ x
 entry-set_same {A} table i x within =
     let there = there-within table i within in
     ap (option_and_then (λ (o : Option A). o)) (slice_get-set_same table i there.0 x there.1)
@@ -103,25 +103,25 @@ opening-groups ranks = record {
     members (suc id) h at rank is = absurd (let none = unmade (suc id) (omega arith) in let no : ⊥ = cc in no)
 
 -- a new group
-with_group-sound : (ranks : ℕ) (groups : Handles) → nat_lt groups.made 7 ≡ true → AreSoundGroups ranks groups → AreSoundGroups ranks (with_group groups)
+with_group-sound : (ranks : ℕ) (groups : Handles) → nat_lt groups.last_id 7 ≡ true → AreSoundGroups ranks groups → AreSoundGroups ranks (with_group groups)
 with_group-sound ranks groups room sound =
-    let less = ltb-true groups.made 7 room in
+    let less = ltb-true groups.last_id 7 room in
     record {
-      table = length-set groups.table (groups.made + 1) (Some new_handle) ∙ sound.table;
+      table = length-set groups.table (groups.last_id + 1) (Some new_handle) ∙ sound.table;
       made = omega arith;
-      all = entry-set_other groups.table (groups.made + 1) 0 (Some new_handle) (λ same. (let no : ⊥ = omega arith in no)) ∙ sound.all;
-      unmade = λ id above. entry-set_other groups.table (groups.made + 1) id (Some new_handle) (λ same. (let no : ⊥ = omega arith in no)) ∙ sound.unmade id (omega arith);
-      members = λ id h at rank is. parts id h rank is (entry-set groups.table (groups.made + 1) id (Some new_handle) h at);
+      all = entry-set_other groups.table (groups.last_id + 1) 0 (Some new_handle) (λ same. (let no : ⊥ = omega arith in no)) ∙ sound.all;
+      unmade = λ id above. entry-set_other groups.table (groups.last_id + 1) id (Some new_handle) (λ same. (let no : ⊥ = omega arith in no)) ∙ sound.unmade id (omega arith);
+      members = λ id h at rank is. parts id h rank is (entry-set groups.table (groups.last_id + 1) id (Some new_handle) h at);
     }
   where
-    parts : (id : ℕ) (h : Handle) (rank : ℕ) → is_member h.members rank ≡ true → ((id ≡ groups.made + 1) × (Some new_handle ≡ Some h)) ⊎ (handle_at groups id ≡ Some h) → rank < ranks
+    parts : (id : ℕ) (h : Handle) (rank : ℕ) → is_member h.members rank ≡ true → ((id ≡ groups.last_id + 1) × (Some new_handle ≡ Some h)) ⊎ (handle_at groups id ≡ Some h) → rank < ranks
     parts id h rank is (inl here) =
         let same : new_handle ≡ h = (let some = here.1 in cc) in
         absurd (none-member rank (subst (λ (x : Handle). is_member x.members rank ≡ true) (sym same) is))
     parts id h rank is (inr there) = sound.members id h there rank is
 
 -- the handle of a group that is there and not group 0 replaced, or taken away
-pub set-sound : (ranks : ℕ) (groups : Handles) (id : ℕ) (x : Option Handle) → (id ≡ 0 → ⊥) → id ≤ groups.made
+pub set-sound : (ranks : ℕ) (groups : Handles) (id : ℕ) (x : Option Handle) → (id ≡ 0 → ⊥) → id ≤ groups.last_id
     → ((h : Handle) → x ≡ Some h → (rank : ℕ) → is_member h.members rank ≡ true → rank < ranks) → AreSoundGroups ranks groups
     → AreSoundGroups ranks (record groups { table = slice_set groups.table id x })
 set-sound ranks groups id x other known within sound = record {
@@ -137,12 +137,12 @@ set-sound ranks groups id x other known within sound = record {
     parts k h rank is (inr there) = sound.members k h there rank is
 
 -- a group that is there was made
-pub made-there : (ranks : ℕ) (groups : Handles) (id : ℕ) (h : Handle) → AreSoundGroups ranks groups → handle_at groups id ≡ Some h → id ≤ groups.made
-made-there ranks groups id h sound at = go (nat_lt groups.made id) refl
+pub made-there : (ranks : ℕ) (groups : Handles) (id : ℕ) (h : Handle) → AreSoundGroups ranks groups → handle_at groups id ≡ Some h → id ≤ groups.last_id
+made-there ranks groups id h sound at = go (nat_lt groups.last_id id) refl
   where
-    go : (b : Bool) → nat_lt groups.made id ≡ b → id ≤ groups.made
-    go true is = absurd (let none = sound.unmade id (ltb-true groups.made id is) in let no : ⊥ = cc in no)
-    go false is = (let below = ltb-false groups.made id is in omega arith)
+    go : (b : Bool) → nat_lt groups.last_id id ≡ b → id ≤ groups.last_id
+    go true is = absurd (let none = sound.unmade id (ltb-true groups.last_id id is) in let no : ⊥ = cc in no)
+    go false is = (let below = ltb-false groups.last_id id is in omega arith)
 
 -- a group that is built yet is not group 0
 pub building-other : (ranks : ℕ) (groups : Handles) (id : ℕ) (h : Handle) → AreSoundGroups ranks groups → handle_at groups id ≡ Some h → is_building h.stage ≡ true → id ≡ 0 → ⊥
@@ -173,8 +173,8 @@ without_group-sound ranks groups id h at other sound =
     set-sound ranks groups id None (λ same. (let is = eq-eqb id 0 same in let no : false ≡ true = rw is at other in let never : ⊥ = cc in never))
     (made-there ranks groups id h sound at) (λ x is. absurd (let no : ⊥ = cc in no)) sound
 
-plain-groups : (limits : Limits) (me : ℕ) (posts : Posts) (memory : Memory) (thread : ℕ) (call : Call) (reply : Reply) → plain_finds limits me posts memory call ≡ Ok (Some reply)
-    → AreSoundGroups limits.ranks posts.groups → AreSoundGroups limits.ranks (plain_done posts thread call).groups
+plain-groups : (limits : Limits) (me : ℕ) (posts : Posts) (memory : Memory) (thread : ℕ) (call : Call) (reply : Reply) → plain_result limits me posts memory call ≡ Ok (Some reply)
+    → AreSoundGroups limits.ranks posts.groups → AreSoundGroups limits.ranks (plain_effect posts thread call).groups
 plain-groups limits me posts memory thread GroupCreate reply h sound = with_group-sound limits.ranks posts.groups (create-found posts reply h).room sound
 plain-groups limits me posts memory thread (GroupAdd call) reply h sound =
     let found = add-found limits posts call reply h in
@@ -188,13 +188,13 @@ pub with_post-groups : (posts : Posts) (queue target : ℕ) (asked : Result (Lis
 with_post-groups posts queue target (Ok kinds) = refl
 with_post-groups posts queue target (Err refusal) = refl
 
-done-groups : (limits : Limits) (me : ℕ) (posts : Posts) (memory : Memory) (thread : ℕ) (call : Call) (reply : Reply) → call_finds limits me posts memory call ≡ Ok (Some reply)
-    → AreSoundGroups limits.ranks posts.groups → AreSoundGroups limits.ranks (posts_done limits me posts thread call).groups
+done-groups : (limits : Limits) (me : ℕ) (posts : Posts) (memory : Memory) (thread : ℕ) (call : Call) (reply : Reply) → call_result limits me posts memory call ≡ Ok (Some reply)
+    → AreSoundGroups limits.ranks posts.groups → AreSoundGroups limits.ranks (posts_effect limits me posts thread call).groups
 done-groups limits me posts memory thread call reply h sound = go (row_of call).posting refl
   where
-    go : (o : Option Posting) → (row_of call).posting ≡ o → AreSoundGroups limits.ranks (posts_done limits me posts thread call).groups
+    go : (o : Option Posting) → (row_of call).posting ≡ o → AreSoundGroups limits.ranks (posts_effect limits me posts thread call).groups
     go None none = rw none (plain-groups limits me posts memory thread call reply (rw none at h) sound)
-    go (Some to) post = rw post (subst (AreSoundGroups limits.ranks) (sym (with_post-groups posts to.queue to.rank (call_asks limits me posts call))) sound)
+    go (Some to) post = rw post (subst (AreSoundGroups limits.ranks) (sym (with_post-groups posts to.queue to.rank (requested_kinds limits me posts call))) sound)
 
 -- the groups after a call that is recorded with the reply that it has
 pub called-groups : (limits : Limits) (me : ℕ) (posts : Posts) (memory : Memory) (thread : ℕ) (call : Call) (reply : Reply)

@@ -23,12 +23,12 @@ use Rattle.gaspi_types.specs.declared.shapes.Limits.{Limits}
 use Rattle.gaspi_types.specs.declared.replies.Reply.{Reply}
 use Rattle.gaspi_types.proofs.Items.{slice_get-set, there-within, append-parts}
 use Rattle.gaspi_types.proofs.Written.{segment-behind, range_of-length}
-use Rattle.gaspi_model.specs.Calls.{call_finds, memory_done, memory_after}
+use Rattle.gaspi_model.specs.Calls.{call_result, memory_effect, memory_after}
 use Rattle.gaspi_model.specs.Memories.{bytes_of}
-use Rattle.gaspi_model.specs.PassiveCalls.{message_of, send_leaves}
+use Rattle.gaspi_model.specs.PassiveCalls.{message_of, send_effect}
 use Rattle.gaspi_model.specs.Sound.{IsSound, IsSoundInbox}
-use Rattle.gaspi_model.specs.Step.{call_brought}
-use Rattle.gaspi_model.specs.Transfers.{Found, Worked, memory_with_put, carried_bytes}
+use Rattle.gaspi_model.specs.Step.{call_message}
+use Rattle.gaspi_model.specs.Transfers.{EntryPosition, PostsAndMemory, memory_with_put, carried_bytes}
 use Rattle.gaspi_model.specs.declared.states.Posts.{Posts}
 use Rattle.gaspi_model.specs.declared.states.Memory.{Memory}
 use Rattle.gaspi_model.specs.declared.states.State.{State}
@@ -36,7 +36,7 @@ use Rattle.gaspi_model.proofs.FoundReplies.{found-reply}
 use Rattle.gaspi_model.proofs.Made.{IsPut}
 use Rattle.gaspi_model.proofs.PassiveFinds.{IsPassiveRange, send-found, receive-found}
 use Rattle.gaspi_model.proofs.Same.{same_reply-same}
-use Rattle.gaspi_model.proofs.Worked.{memory_rank, IsCalledThere}
+use Rattle.gaspi_model.proofs.OnPostsAndMemory.{memory_rank, IsCalledThere}
 
 pub empty-inbox : (limits : Limits) → IsSoundInbox limits []
 empty-inbox limits = record {
@@ -80,10 +80,10 @@ own-there s me posts sound at =
 
 -- a send that names a rank brings its message from the own memory
 pub send-brought : (s : State) (me : ℕ) (call : send.PassiveSend) (own : Memory) → nat_lt call.rank s.limits.ranks ≡ true → slice_get s.memories me ≡ Some own
-    → call_brought s me (PassiveSend call) ≡ Some (message_of me own call)
+    → call_message s me (PassiveSend call) ≡ Some (message_of me own call)
 send-brought s me call own ranked at = go (call.rank == me) refl
   where
-    go : (b : Bool) → (call.rank == me) ≡ b → call_brought s me (PassiveSend call) ≡ Some (message_of me own call)
+    go : (b : Bool) → (call.rank == me) ≡ b → call_message s me (PassiveSend call) ≡ Some (message_of me own call)
     go true is = rw (is, at) refl
     go false is = rw (is, ranked, at) refl
 
@@ -99,8 +99,8 @@ passive-bytes posts own segment offset size agrees range =
 
 -- the inbox of the memory that a call works on, after it
 plain-inbox : (s : State) (me : ℕ) (posts : Posts) (memory : Memory) (call : Call) (reply : Reply) → IsSound s → slice_get s.posts me ≡ Some posts
-    → call_finds s.limits me posts memory call ≡ Ok (Some reply) → IsSoundInbox s.limits memory.inbox
-    → IsSoundInbox s.limits (memory_done s.limits posts (call_brought s me call) memory call).inbox
+    → call_result s.limits me posts memory call ≡ Ok (Some reply) → IsSoundInbox s.limits memory.inbox
+    → IsSoundInbox s.limits (memory_effect s.limits posts (call_message s me call) memory call).inbox
 plain-inbox s me posts memory (Alloc call) reply sound at h inbox = inbox
 plain-inbox s me posts memory (Delete call) reply sound at h inbox = inbox
 plain-inbox s me posts memory (Store call) reply sound at h inbox = inbox
@@ -112,7 +112,7 @@ plain-inbox s me posts memory (PassiveSend call) reply sound at h inbox =
     let within = slice_get_within s.posts me posts at in
     let sized : is_passive_size (length (message_of me own.0 call).bytes) ≡ true =
     ap is_passive_size (passive-bytes posts own.0 call.seg call.offset call.size (sound.coherent.own me posts own.0 at own.1) found.range) ∙ found.range.sized in
-    subst (λ (b : Option Message). IsSoundInbox s.limits (send_leaves b memory).inbox) (sym brought)
+    subst (λ (b : Option Message). IsSoundInbox s.limits (send_effect b memory).inbox) (sym brought)
     (deposited-sound s.limits memory.inbox (message_of me own.0 call) found.room (let ranks = sound.ranks in omega arith) sized inbox)
 plain-inbox s me posts memory (PassiveReceive call) reply sound at h inbox =
     let found = receive-found posts memory call reply h in
@@ -121,13 +121,13 @@ plain-inbox s me posts memory (FetchAdd call) reply sound at h inbox = inbox
 plain-inbox s me posts memory (CompareSwap call) reply sound at h inbox = inbox
 plain-inbox s me posts memory other reply sound at h inbox = inbox
 
-pub called-inbox : (s t : State) (c : CallerId) (call : Call) (reply : Reply) (posts : Posts) (memory : Memory) (after : Worked) → IsSound s → IsCalledThere s t c call reply posts memory after
+pub called-inbox : (s t : State) (c : CallerId) (call : Call) (reply : Reply) (posts : Posts) (memory : Memory) (after : PostsAndMemory) → IsSound s → IsCalledThere s t c call reply posts memory after
     → IsSoundInbox s.limits after.memory.inbox
 called-inbox s t c call reply posts memory after sound m =
     let inbox = sound.inboxes (memory_rank s.limits c.rank call) memory m.memory_there in
     rw m.is.leaves (go inbox (is_idle reply) refl)
   where
-    go : IsSoundInbox s.limits memory.inbox → (b : Bool) → is_idle reply ≡ b → IsSoundInbox s.limits (memory_after s.limits posts (call_brought s c.rank call) memory call reply).inbox
+    go : IsSoundInbox s.limits memory.inbox → (b : Bool) → is_idle reply ≡ b → IsSoundInbox s.limits (memory_after s.limits posts (call_message s c.rank call) memory call reply).inbox
     go inbox true idle = rw idle inbox
     go inbox false awake =
         rw awake (plain-inbox s c.rank posts memory call reply sound m.posts_there
@@ -138,7 +138,7 @@ pub put-same-inbox : (memory : Memory) (destination : Destination) (bytes : List
 put-same-inbox memory (Range range) bytes = refl
 put-same-inbox memory (Slot slot value) bytes = refl
 
-pub put-inbox : (limits : Limits) (posts : Posts) (memory : Memory) (queue target number : ℕ) (outcome : Outcome) (after : Worked) (at : Found) → IsPut posts memory queue target number outcome after at
+pub put-inbox : (limits : Limits) (posts : Posts) (memory : Memory) (queue target number : ℕ) (outcome : Outcome) (after : PostsAndMemory) (at : EntryPosition) → IsPut posts memory queue target number outcome after at
     → IsSoundInbox limits memory.inbox → IsSoundInbox limits after.memory.inbox
 put-inbox limits posts memory queue target number Applied after at h inbox =
     rw h.leaves (subst (IsSoundInbox limits) (sym (put-same-inbox memory (destination_of at.entry.kind) (carried_bytes at.entry.phase))) inbox)

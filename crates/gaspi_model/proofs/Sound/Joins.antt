@@ -2,11 +2,11 @@
 use Rattle.std.proofs.Common.{◌≡◌, ℕ, ◌+◌, ◌<◌, ◌≤◌, Bool, true, false, ◌==◌, ◌&&◌, if◌then◌else◌, nat_lt, List, [], ◌∷◌, ◌++◌, length, Option, None, Some, Ok, refl, sym, ap, ◌∙◌, subst, arith, ◌⊎◌, inl, inr}
 use Rattle.std.specs.List.{slice_get, slice_set}
 use Rattle.std.proofs.lemmas.Bool.{ltb-true, eqb-true}
-use Rattle.gaspi_types.specs.Collectives.{no_values, AreValuesOf, AreWhole, part_of, given_in, turn_of, turn_checks, fixed_by, with_joined}
+use Rattle.gaspi_types.specs.Collectives.{no_values, AreValuesOf, HaveOwnValues, contributions_of, contribution_in, round_of, round_checks, fixed_by, with_joined}
 use Rattle.gaspi_types.specs.Groups.{handle_at, handle_of_all, fix_checks}
 use Rattle.gaspi_types.specs.SegmentTables.{extent_in, alloc_checks, next_generation}
 use Rattle.gaspi_types.specs.NumberTypes.{TypedNumbers}
-use Rattle.gaspi_types.specs.Tables.{entry_at}
+use Rattle.gaspi_types.specs.Tables.{item_at}
 use Rattle.gaspi_types.specs.declared.calls.Call.TheVariants as calls
 use Rattle.gaspi_types.specs.declared.collectives.Coll.{Coll}
 use Rattle.gaspi_types.specs.declared.collectives.Coll.TheVariants as colls
@@ -16,13 +16,13 @@ use Rattle.gaspi_types.specs.declared.groups.Contribution.{Contribution}
 use Rattle.gaspi_types.specs.declared.groups.Group.{Group}
 use Rattle.gaspi_types.specs.declared.groups.Handle.{Handle}
 use Rattle.gaspi_types.specs.declared.groups.Handles.{Handles}
-use Rattle.gaspi_types.specs.declared.groups.Part.{Part}
-use Rattle.gaspi_types.specs.declared.groups.Pending.{Pending}
+use Rattle.gaspi_types.specs.declared.groups.RankContributions.{RankContributions}
+use Rattle.gaspi_types.specs.declared.groups.PendingCollective.{PendingCollective}
 use Rattle.gaspi_types.specs.declared.replies.Refusal.TheVariants.{GroupMismatch}
 use Rattle.gaspi_types.specs.declared.segments.Extent.{Extent}
 use Rattle.gaspi_model.specs.Coherence.{tables_of}
-use Rattle.gaspi_model.specs.CollectiveCalls.{staged_at, plain_args, args_of, segment_checks, meeting_checks, joining_call, made_posts, contribution_of, made_generation, joined_posts}
-use Rattle.gaspi_model.specs.Contributions.{IsOneOf, IsSoundPart, HasBegun, IsResumable, IsSoundGroup, WasMadeSo}
+use Rattle.gaspi_model.specs.CollectiveCalls.{staged_at, plain_args, args_of, segment_checks, agreement_checks, joining_call, made_posts, contribution_of, made_generation, joined_posts}
+use Rattle.gaspi_model.specs.Contributions.{IsOneOf, AreSoundContributions, HasBegun, IsResumable, IsSoundGroup, WasMadeSo}
 use Rattle.gaspi_model.specs.Posting.{counted}
 use Rattle.gaspi_model.specs.SegmentCalls.{with_own}
 use Rattle.gaspi_model.specs.Sound.{IsSound}
@@ -31,13 +31,13 @@ use Rattle.gaspi_model.specs.declared.states.State.{State}
 use Rattle.gaspi_types.proofs.Chains.{check_then, check_holds, absent_then}
 use Rattle.gaspi_types.proofs.Extents.{extent-set, generation-set}
 use Rattle.gaspi_model.proofs.CollectiveFinds.{MayJoin}
-use Rattle.gaspi_model.proofs.MetPosts.{KeepsRank}
+use Rattle.gaspi_model.proofs.CollectivePosts.{KeepsRank}
 use Rattle.gaspi_model.proofs.Sound.Completions.{IsBuilt, built-there, committed-there, staged-there, stage-apart, IsThere}
-use Rattle.gaspi_model.proofs.Sound.Contributions.{Meets, made-so-stays, part-changed, part-there, part-other}
+use Rattle.gaspi_model.proofs.Sound.Contributions.{Meets, made-so-stays, contributions-changed, contributions-there, contributions-other}
 use Rattle.gaspi_model.proofs.Sound.GroupPosts.{joined-groups}
 use Rattle.gaspi_model.proofs.Sound.GroupTables.{entry-set_other, entry-set_same, made-there}
 use Rattle.gaspi_model.proofs.Sound.Successors.{Succeeds, succeeds-itself, alloc-succeeds}
-use Rattle.gaspi_model.proofs.Sound.Turns.{Brings, turn-fits, giver-ranked, given-joined, joined-group, joined-part, fixed-stays}
+use Rattle.gaspi_model.proofs.Sound.Rounds.{Brings, round-fits, giver-ranked, contributed-joined, joined-group, joined-contributions, fixed-stays}
 
 -- the segment of a collective that makes one is free
 pub record IsFree (posts : Posts) (seg : ℕ) : Type 0 where
@@ -90,7 +90,7 @@ is_commit (colls.Commit mask) = true
 commit-mask : (members id mask : ℕ) (values : TypedNumbers) (args : Args) → args_of members (joining_call id (record { coll = colls.Commit mask; values = values })) ≡ Some args → args.coll ≡ colls.Commit members
 commit-mask members id mask values args is = (let same : plain_args (colls.Commit members) ≡ args = cc in ap (λ (a : Args). a.coll) (sym same))
 
-pub join-whole : (members id : ℕ) (args : Args) → args_of members (joining_call id args) ≡ Some args → AreWhole args
+pub join-whole : (members id : ℕ) (args : Args) → args_of members (joining_call id args) ≡ Some args → HaveOwnValues args
 join-whole members id args is = go args.coll args.values is
   where
     values-of : (coll other : Coll) (values : TypedNumbers) → plain_args other ≡ record { coll = coll; values = values } → values ≡ no_values
@@ -117,28 +117,28 @@ pub record JoinsBuilt (posts : Posts) (g : Group) (me id : ℕ) (h : Handle) : T
 pub record JoinsCommitted (posts : Posts) (g : Group) (me id : ℕ) (coll : Coll) (h : Handle) : Type 0 where
   pub there : handle_at posts.groups id ≡ Some h
   pub committed : h.stage ≡ Committed
-  pub fits : turn_checks g me coll ≡ Ok tt
+  pub fits : round_checks g me coll ≡ Ok tt
 
 pub join-cases : {P : Type 0} (posts : Posts) (g : Group) (me thread id : ℕ) (args : Args) (h : Handle) → MayJoin posts g me thread id (joining_call id args) args h
     → (args.coll ≡ colls.Commit h.members → JoinsBuilt posts g me id h → P) → (is_commit args.coll ≡ false → JoinsCommitted posts g me id args.coll h → P) → P
 join-cases {P} posts g me thread id args h may first other = go args.coll refl may.staged may.args_is may.meets
   where
-    plain : (coll : Coll) → args.coll ≡ coll → is_commit coll ≡ false → (handle_at posts.groups id ≡ Some h) × (h.stage ≡ Committed) → turn_checks g me coll ≡ Ok tt → P
+    plain : (coll : Coll) → args.coll ≡ coll → is_commit coll ≡ false → (handle_at posts.groups id ≡ Some h) × (h.stage ≡ Committed) → round_checks g me coll ≡ Ok tt → P
     plain coll is other_kind there fits =
         other (subst (λ (c : Coll). is_commit c ≡ false) (sym is) other_kind) (subst (λ (c : Coll). JoinsCommitted posts g me id c h) (sym is) (record { there = there.0; committed = there.1; fits = fits }))
 
     go : (coll : Coll) → args.coll ≡ coll → staged_at posts.groups me id (joining_call id (record { coll = coll; values = args.values })) ≡ Ok h
-        → args_of h.members (joining_call id (record { coll = coll; values = args.values })) ≡ Some args → meeting_checks g me args.coll ≡ Ok tt → P
+        → args_of h.members (joining_call id (record { coll = coll; values = args.values })) ≡ Some args → agreement_checks g me args.coll ≡ Ok tt → P
     go (colls.Commit mask) is staged args_is meets =
         let coll = commit-mask h.members id mask args.values args args_is in
-        first coll (record { built = built-there posts.groups me id h staged; fixes = subst (λ (c : Coll). meeting_checks g me c ≡ Ok tt) coll meets })
-    go colls.Barrier is staged args_is meets = plain colls.Barrier is refl (committed-there posts.groups id h staged) (subst (λ (c : Coll). meeting_checks g me c ≡ Ok tt) is meets)
-    go (colls.Allreduce op t n) is staged args_is meets = plain (colls.Allreduce op t n) is refl (committed-there posts.groups id h staged) (subst (λ (c : Coll). meeting_checks g me c ≡ Ok tt) is meets)
-    go (colls.Create seg size) is staged args_is meets = plain (colls.Create seg size) is refl (committed-there posts.groups id h staged) (subst (λ (c : Coll). meeting_checks g me c ≡ Ok tt) is meets)
+        first coll (record { built = built-there posts.groups me id h staged; fixes = subst (λ (c : Coll). agreement_checks g me c ≡ Ok tt) coll meets })
+    go colls.Barrier is staged args_is meets = plain colls.Barrier is refl (committed-there posts.groups id h staged) (subst (λ (c : Coll). agreement_checks g me c ≡ Ok tt) is meets)
+    go (colls.Allreduce op t n) is staged args_is meets = plain (colls.Allreduce op t n) is refl (committed-there posts.groups id h staged) (subst (λ (c : Coll). agreement_checks g me c ≡ Ok tt) is meets)
+    go (colls.Create seg size) is staged args_is meets = plain (colls.Create seg size) is refl (committed-there posts.groups id h staged) (subst (λ (c : Coll). agreement_checks g me c ≡ Ok tt) is meets)
 
 -- what it brings fits the group
-pub join-brings : (s : State) (posts : Posts) (g : Group) (part : Part) (me thread id : ℕ) (args : Args) (h : Handle) → s.limits.ranks ≤ 16 → IsSound s → slice_get s.posts me ≡ Some posts → IsThere s me id g part
-    → MayJoin posts g me thread id (joining_call id args) args h → IsSoundPart posts.events None part → Brings g me part (contribution_of posts args)
+pub join-brings : (s : State) (posts : Posts) (g : Group) (part : RankContributions) (me thread id : ℕ) (args : Args) (h : Handle) → s.limits.ranks ≤ 16 → IsSound s → slice_get s.posts me ≡ Some posts → IsThere s me id g part
+    → MayJoin posts g me thread id (joining_call id args) args h → AreSoundContributions posts.events None part → Brings g me part (contribution_of posts args)
 join-brings s posts g part me thread id args h few sound hp there may mine = record {
   agrees = λ rank d given. agrees rank d given;
   whole = join-whole h.members id args may.args_is;
@@ -158,23 +158,23 @@ join-brings s posts g part me thread id args h few sound hp there may mine = rec
     group : IsSoundGroup s.limits.ranks g
     group = sound.collectives.groups id g there.there
 
-    turn : turn_of g me ≡ length part.contributions
-    turn = ap (λ (q : Part). q.completed) (part-there g me part there.part_there) ∙ (let count = mine.count in omega arith)
+    turn : round_of g me ≡ length part.contributions
+    turn = ap (λ (q : RankContributions). q.completed) (contributions-there g me part there.part_there) ∙ (let count = mine.count in omega arith)
 
-    agrees : (rank : ℕ) (d : Contribution) → given_in g (length part.contributions) rank ≡ Some d → d.args.coll ≡ args.coll
+    agrees : (rank : ℕ) (d : Contribution) → contribution_in g (length part.contributions) rank ≡ Some d → d.args.coll ≡ args.coll
     agrees rank d given = join-cases {P = d.args.coll ≡ args.coll} posts g me thread id args h may
         (λ coll built.
         let begun = sound.collectives.begun id g me posts there.there hp in
-        let none : part.completed ≡ 0 = sym (ap (λ (q : Part). q.completed) (part-there g me part there.part_there)) ∙ begun.building h built.built.there built.built.building in
+        let none : part.completed ≡ 0 = sym (ap (λ (q : RankContributions). q.completed) (contributions-there g me part there.part_there)) ∙ begun.building h built.built.there built.built.building in
         let zero_turn : length part.contributions ≡ 0 = (let count = mine.count in omega arith) in
-        let first_given : given_in g 0 rank ≡ Some d = subst (λ (k : ℕ). given_in g k rank ≡ Some d) zero_turn given in
+        let first_given : contribution_in g 0 rank ≡ Some d = subst (λ (k : ℕ). contribution_in g k rank ≡ Some d) zero_turn given in
         let first = sound.collectives.first id g rank d there.there (not-all id h built.built) first_given in
         let theirs = group.commits 0 rank d first.0 first_given first.1 in
         let masks : first.0 ≡ h.members = same-mask g.members first.0 h.members theirs built.fixes in
         first.1 ∙ ap (λ (n : ℕ). colls.Commit n) masks ∙ sym coll)
         (λ kind committed.
-        let at_turn : given_in g (turn_of g me) rank ≡ Some d = subst (λ (k : ℕ). given_in g k rank ≡ Some d) (sym turn) given in
-        turn-fits s.limits.ranks g me rank args.coll d few (giver-ranked s.limits.ranks g (turn_of g me) rank d group at_turn) group committed.fits at_turn)
+        let at_turn : contribution_in g (round_of g me) rank ≡ Some d = subst (λ (k : ℕ). contribution_in g k rank ≡ Some d) (sym turn) given in
+        round-fits s.limits.ranks g me rank args.coll d few (giver-ranked s.limits.ranks g (round_of g me) rank d group at_turn) group committed.fits at_turn)
       where
         not-all : (k : ℕ) (x : Handle) → IsBuilt posts.groups me k x → k ≡ 0 → ⊥
         not-all k x built is =
@@ -190,7 +190,7 @@ join-brings s posts g part me thread id args h few sound hp there may mine = rec
         same-mask (Some kept) a b is fixes = (let same : kept ≡ a = cc in sym same ∙ eqb-true kept b (check_holds (kept == b) (GroupMismatch kept) tt fixes))
 
 -- The group and the posts that a join leaves.
-pub join-meets : (s t : State) (posts : Posts) (g : Group) (part : Part) (me thread id : ℕ) (args : Args) (h : Handle) → s.limits.ranks ≤ 16 → IsSound s → slice_get s.posts me ≡ Some posts → IsThere s me id g part
+pub join-meets : (s t : State) (posts : Posts) (g : Group) (part : RankContributions) (me thread id : ℕ) (args : Args) (h : Handle) → s.limits.ranks ≤ 16 → IsSound s → slice_get s.posts me ≡ Some posts → IsThere s me id g part
     → MayJoin posts g me thread id (joining_call id args) args h → t.limits ≡ s.limits → t.posts ≡ slice_set s.posts me (counted (joined_posts posts thread id args))
     → t.groups ≡ slice_set s.groups id (with_joined g me (contribution_of posts args)) → KeepsRank posts (counted (joined_posts posts thread id args))
     → Meets s t me id posts (counted (joined_posts posts thread id args)) g (with_joined g me (contribution_of posts args))
@@ -200,18 +200,18 @@ join-meets s t posts g part me thread id args h few sound hp there may limits po
   group_there = there.there;
   posts_is = posts_is;
   groups_is = groups_is;
-  others = λ k apart. entry-set_other (made_posts posts args.coll).pending id k _ apart ∙ ap (λ (ps : List (Option Pending)). entry_at ps k) (same-pending args.coll);
+  others = λ k apart. entry-set_other (made_posts posts args.coll).pending id k _ apart ∙ ap (λ (ps : List (Option PendingCollective)). item_at ps k) (same-pending args.coll);
   events = (let more = keeps.events in omega arith);
-  made_groups = ap (λ (gs : Handles). gs.made) (joined-groups posts args.coll);
+  made_groups = ap (λ (gs : Handles). gs.last_id) (joined-groups posts args.coll);
   handles = λ k apart. ap (λ (gs : Handles). handle_at gs k) (joined-groups posts args.coll);
   succeeds = succeeds;
-  parts = λ rank apart. part-other g me rank _ (fixed_by g.members args.coll) apart;
+  parts = λ rank apart. contributions-other g me rank _ (fixed_by g.members args.coll) apart;
   fixed = λ mask is. fixed-stays g.members args.coll mask is;
-  mine = rw (entry-set_same (made_posts posts args.coll).pending id _ many, new_part) (joined-part posts.events (counted (joined_posts posts thread id args)).events thread (contribution_of posts args) part keeps.events mine);
-  begun = rw new_part (begun-same (subst (λ (q : Part). HasBegun posts id q.completed) (part-there g me part there.part_there) (sound.collectives.begun id g me posts there.there hp)));
+  mine = rw (entry-set_same (made_posts posts args.coll).pending id _ many, new_part) (joined-contributions posts.events (counted (joined_posts posts thread id args)).events thread (contribution_of posts args) part keeps.events mine);
+  begun = rw new_part (begun-same (subst (λ (q : RankContributions). HasBegun posts id q.completed) (contributions-there g me part there.part_there) (sound.collectives.begun id g me posts there.there hp)));
   resumable = λ p pends.
-      let some : ◌≡◌ {A = Option Pending} (Some (record { thread = thread; args = args })) (Some p) = sym (entry-set_same (made_posts posts args.coll).pending id (Some (record { thread = thread; args = args })) many) ∙ pends in
-      let same : args ≡ p.args = (let one : ◌≡◌ {A = Pending} (record { thread = thread; args = args }) p = cc in ap (λ (q : Pending). q.args) one) in
+      let some : ◌≡◌ {A = Option PendingCollective} (Some (record { thread = thread; args = args })) (Some p) = sym (entry-set_same (made_posts posts args.coll).pending id (Some (record { thread = thread; args = args })) many) ∙ pends in
+      let same : args ≡ p.args = (let one : ◌≡◌ {A = PendingCollective} (record { thread = thread; args = args }) p = cc in ap (λ (q : PendingCollective). q.args) one) in
       let groups = (sound.posts me posts hp).groups in
       let at = staged-there posts.groups me id (joining_call id args) h may.staged in
       let now : IsResumable posts.groups me id args = record {
@@ -225,14 +225,14 @@ join-meets s t posts g part me thread id args h few sound hp there may limits po
       subst (λ (a : Args). IsResumable (made_posts posts args.coll).groups me id a) same (subst (λ (gs : Handles). IsResumable gs me id args) (sym (joined-groups posts args.coll)) now);
   group = joined-group s.limits.ranks g me (contribution_of posts args) part there.part_there (join-brings s posts g part me thread id args h few sound hp there may mine) (sound.collectives.groups id g there.there);
   first = λ rank c other given.
-      given-joined {P = (mask : ℕ) × (c.args.coll ≡ colls.Commit mask)} g me 0 rank (contribution_of posts args) c part there.part_there given
+      contributed-joined {P = (mask : ℕ) × (c.args.coll ≡ colls.Commit mask)} g me 0 rank (contribution_of posts args) c part there.part_there given
       (λ same turn is.
       join-cases {P = (mask : ℕ) × (c.args.coll ≡ colls.Commit mask)} posts g me thread id args h may
       (λ coll built. (h.members, ap (λ (x : Contribution). x.args.coll) is ∙ coll))
       (λ kind committed.
       absurd (let begun = sound.collectives.begun id g me posts there.there hp in
       let one = begun.committed h committed.there committed.committed other in
-      let same_part = ap (λ (q : Part). q.completed) (part-there g me part there.part_there) in
+      let same_part = ap (λ (q : RankContributions). q.completed) (contributions-there g me part there.part_there) in
       let count = mine.count in
       let none : ⊥ = omega arith in none)))
       (λ was. sound.collectives.first id g rank c there.there other was);
@@ -241,7 +241,7 @@ join-meets s t posts g part me thread id args h few sound hp there may limits po
       let kept = sound.collectives.committed id g me posts k there.there hp old stage in
       (fixed-stays g.members args.coll k.members kept.0, kept.1);
   made = λ turn c seg size given coll.
-      given-joined {P = WasMadeSo (tables_of (made_posts posts args.coll)) seg c.generation size} g me turn me (contribution_of posts args) c part there.part_there given
+      contributed-joined {P = WasMadeSo (tables_of (made_posts posts args.coll)) seg c.generation size} g me turn me (contribution_of posts args) c part there.part_there given
       (λ same here is. new-made c seg size is coll)
       (λ was. made-so-stays (tables_of posts) (tables_of (made_posts posts args.coll)) seg c.generation size succeeds (sound.collectives.made id g me posts there.there hp turn c seg size was coll));
 }
@@ -261,16 +261,16 @@ join-meets s t posts g part me thread id args h few sound hp there may limits po
     many : id < length (made_posts posts args.coll).pending
     many = (let within = there.within in let same = ap length (same-pending args.coll) in let eight = (sound.posts me posts hp).tables.pending in omega arith)
 
-    new_part : part_of (with_joined g me (contribution_of posts args)) me ≡ record part { contributions = part.contributions ++ contribution_of posts args ∷ [] }
-    new_part = part-changed g me part (λ (q : Part). record q { contributions = q.contributions ++ contribution_of posts args ∷ [] }) (fixed_by g.members args.coll) there.part_there
+    new_part : contributions_of (with_joined g me (contribution_of posts args)) me ≡ record part { contributions = part.contributions ++ contribution_of posts args ∷ [] }
+    new_part = contributions-changed g me part (λ (q : RankContributions). record q { contributions = q.contributions ++ contribution_of posts args ∷ [] }) (fixed_by g.members args.coll) there.part_there
 
-    mine : IsSoundPart posts.events None part
-    mine = subst (λ (o : Option Pending). IsSoundPart posts.events o part) may.none
-        (subst (λ (q : Part). IsSoundPart posts.events (entry_at posts.pending id) q) (part-there g me part there.part_there) (sound.collectives.parts id g me posts there.there hp))
+    mine : AreSoundContributions posts.events None part
+    mine = subst (λ (o : Option PendingCollective). AreSoundContributions posts.events o part) may.none
+        (subst (λ (q : RankContributions). AreSoundContributions posts.events (item_at posts.pending id) q) (contributions-there g me part there.part_there) (sound.collectives.parts id g me posts there.there hp))
 
     begun-same : HasBegun posts id part.completed → HasBegun (counted (joined_posts posts thread id args)) id part.completed
     begun-same begun = record {
-      unmade = λ above. begun.unmade (let same = ap (λ (gs : Handles). gs.made) (joined-groups posts args.coll) in omega arith);
+      unmade = λ above. begun.unmade (let same = ap (λ (gs : Handles). gs.last_id) (joined-groups posts args.coll) in omega arith);
       building = λ k at stage. begun.building k (sym (ap (λ (gs : Handles). handle_at gs id) (joined-groups posts args.coll)) ∙ at) stage;
       committed = λ k at stage other. begun.committed k (sym (ap (λ (gs : Handles). handle_at gs id) (joined-groups posts args.coll)) ∙ at) stage other;
     }

@@ -12,7 +12,7 @@ use Rattle.gaspi_types.specs.declared.entries.Destination.TheVariants.{Range, Sl
 use Rattle.gaspi_types.proofs.Written.{with_range-length, extents_of-with_bytes, counts-with_slots}
 use Rattle.gaspi_model.specs.Memories.{bytes_of, slots_of, with_bytes, with_slots}
 use Rattle.gaspi_model.specs.Transfers.{memory_put, memory_with_put, carried_bytes}
-use Rattle.gaspi_model.specs.PassiveCalls.{send_leaves, receive_leaves}
+use Rattle.gaspi_model.specs.PassiveCalls.{send_effect, receive_effect}
 use Rattle.gaspi_types.specs.declared.inboxes.Message.{Message}
 use Rattle.gaspi_types.specs.declared.calls.passive.PassiveReceive as receive
 use Rattle.gaspi_model.specs.Coherence.{slot_counts}
@@ -47,14 +47,14 @@ put-layout m e = go (destination_of e.kind)
     go (Slot slot value) = slots-layout m slot.segment slot.note value
 
 -- messages come and go, and layouts stay
-pub send-layout : (brought : Option Message) (m : Memory) → HaveSameLayout m (send_leaves brought m)
+pub send-layout : (brought : Option Message) (m : Memory) → HaveSameLayout m (send_effect brought m)
 send-layout None m = same-layout m
 send-layout (Some message) m = record { extents = refl; counts = refl }
 
-pub receive-layout : (m : Memory) (call : receive.PassiveReceive) → HaveSameLayout m (receive_leaves m call)
+pub receive-layout : (m : Memory) (call : receive.PassiveReceive) → HaveSameLayout m (receive_effect m call)
 receive-layout m call = go m.inbox refl
   where
-    go : (inbox : List Message) → m.inbox ≡ inbox → HaveSameLayout m (receive_leaves m call)
+    go : (inbox : List Message) → m.inbox ≡ inbox → HaveSameLayout m (receive_effect m call)
     go [] is = rw is (record { extents = refl; counts = refl })
     go (message ∷ rest) is =
         let same = bytes-layout m call.seg call.offset message.bytes in

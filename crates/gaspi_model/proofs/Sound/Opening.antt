@@ -8,7 +8,7 @@ use Rattle.std.proofs.lemmas.List.FromFn.{length-map-range_with_len}
 use Rattle.std.proofs.lemmas.List.Folds.{sum_by-replicate}
 use Rattle.std.proofs.lemmas.List.Sums.{sum_by-cons}
 use Rattle.std.proofs.lemmas.Option.{slice_get-map}
-use Rattle.gaspi_types.specs.World.{World, IsWorld, is_caller}
+use Rattle.gaspi_types.specs.World.{ShapeValue, IsShape, is_caller}
 use Rattle.gaspi_types.specs.Lanes.{lane_owed}
 use Rattle.gaspi_types.specs.declared.shapes.CallerId.{CallerId}
 use Rattle.gaspi_model.specs.State.{opening, opening_memory, opening_posts, opening_queue, opening_extents, opening_thread, declared_size, generations_used, entries_owed, is_running}
@@ -73,7 +73,7 @@ running-declared true = refl
 running-declared false = refl
 
 -- how many threads run at the start
-threads-few : (w : World) (rank : ℕ) → count_by is_running (map (opening_thread w rank) (range_with_len 0 4)) ≤ count_by (λ c. c.rank == rank) w.callers
+threads-few : (w : ShapeValue) (rank : ℕ) → count_by is_running (map (opening_thread w rank) (range_with_len 0 4)) ≤ count_by (λ c. c.rank == rank) w.callers
 threads-few w rank =
     let few = four-few w.callers rank in
     let r0 = running-declared (list_any (is_caller rank 0) w.callers) in
@@ -83,7 +83,7 @@ threads-few w rank =
     rw (r0, r1, r2, r3) (omega arith)
 
 -- nothing is owed but the ends of the threads
-entries-none : (w : World) (rank : ℕ) → entries_owed (opening_posts w rank) ≡ 0
+entries-none : (w : ShapeValue) (rank : ℕ) → entries_owed (opening_posts w rank) ≡ 0
 entries-none w rank =
     let lanes = sum_by-replicate lane_owed w.limits.ranks [] in
     let queues = sum_by-replicate queue_owed w.limits.queues (opening_queue w.limits.ranks) in
@@ -107,7 +107,7 @@ one-used (Some size) = omega arith
 abbrev declared_extent : ℕ → Extent
 declared_extent size = record { generation = 0; size = size }
 
-opening-sound : (w : World) (rank : ℕ) → IsWorld w → IsSoundPosts w.limits (opening_posts w rank)
+opening-sound : (w : ShapeValue) (rank : ℕ) → IsShape w → IsSoundPosts w.limits (opening_posts w rank)
 opening-sound w rank world = record {
   tables = record {
     queues = length-replicate w.limits.queues (opening_queue w.limits.ranks);
@@ -142,7 +142,7 @@ opening-sound w rank world = record {
   groups = opening-groups w.limits.ranks;
 }
 
-pub opens : (w : World) → IsWorld w → IsSound (opening w)
+pub opens : (w : ShapeValue) → IsShape w → IsSound (opening w)
 opens w world = record {
   limits = world.limits;
   ranks = length-map-range_with_len (opening_posts w) 0 w.limits.ranks;

@@ -6,50 +6,50 @@ use Rattle.std.proofs.lemmas.List.{length-replicate}
 use Rattle.std.proofs.lemmas.List.FromFn.{length-map-range_with_len}
 use Rattle.std.proofs.lemmas.Nat.Bits.{bit_at_ones}
 use Rattle.std.proofs.lemmas.Option.{slice_get_within}
-use Rattle.gaspi_types.specs.Collectives.{part_of, given_in, no_part}
+use Rattle.gaspi_types.specs.Collectives.{contributions_of, contribution_in, no_contributions}
 use Rattle.gaspi_types.specs.Groups.{handle_at, handle_of_all, opening_handles}
 use Rattle.gaspi_types.specs.Masks.{is_member, all_below}
-use Rattle.gaspi_types.specs.Tables.{entry_at}
-use Rattle.gaspi_types.specs.World.{World}
+use Rattle.gaspi_types.specs.Tables.{item_at}
+use Rattle.gaspi_types.specs.World.{ShapeValue}
 use Rattle.gaspi_types.specs.declared.groups.Contribution.{Contribution}
 use Rattle.gaspi_types.specs.declared.groups.Group.{Group}
 use Rattle.gaspi_types.specs.declared.groups.Handle.{Handle}
-use Rattle.gaspi_types.specs.declared.groups.Part.{Part}
-use Rattle.gaspi_types.specs.declared.groups.Pending.{Pending}
+use Rattle.gaspi_types.specs.declared.groups.RankContributions.{RankContributions}
+use Rattle.gaspi_types.specs.declared.groups.PendingCollective.{PendingCollective}
 use Rattle.gaspi_model.specs.Contributions.{IsSoundGroup, AreSoundCollectives}
 use Rattle.gaspi_model.specs.State.{opening, opening_group, opening_part, opening_posts}
 use Rattle.gaspi_model.specs.declared.states.Posts.{Posts}
 use Rattle.gaspi_types.proofs.Items.{slice_get-replicate, map-at}
 use Rattle.gaspi_model.proofs.Sound.GroupTables.{opening-groups}
-use Rattle.gaspi_model.proofs.Sound.Turns.{in-range}
+use Rattle.gaspi_model.proofs.Sound.Rounds.{in-range}
 
-pub opening-part : (ranks k rank : ℕ) → part_of (opening_group ranks k) rank ≡ no_part
-opening-part ranks k rank = go (slice_get (replicate ranks opening_part) rank) refl
+pub opening-contributions : (ranks k rank : ℕ) → contributions_of (opening_group ranks k) rank ≡ no_contributions
+opening-contributions ranks k rank = go (slice_get (replicate ranks opening_part) rank) refl
   where
-    go : (o : Option Part) → slice_get (replicate ranks opening_part) rank ≡ o → part_of (opening_group ranks k) rank ≡ no_part
+    go : (o : Option RankContributions) → slice_get (replicate ranks opening_part) rank ≡ o → contributions_of (opening_group ranks k) rank ≡ no_contributions
     go None at = rw at refl
     go (Some part) at = rw at (slice_get-replicate ranks opening_part part rank at)
 
-none-given : (ranks k turn rank : ℕ) (c : Contribution) → given_in (opening_group ranks k) turn rank ≡ Some c → ⊥
-none-given ranks k turn rank c given =
-    let none : slice_get {X = Contribution} [] turn ≡ Some c = ap (λ (p : Part). slice_get p.contributions turn) (sym (opening-part ranks k rank)) ∙ given in
+none-contributed : (ranks k turn rank : ℕ) (c : Contribution) → contribution_in (opening_group ranks k) turn rank ≡ Some c → ⊥
+none-contributed ranks k turn rank c given =
+    let none : slice_get {X = Contribution} [] turn ≡ Some c = ap (λ (p : RankContributions). slice_get p.contributions turn) (sym (opening-contributions ranks k rank)) ∙ given in
     (let no : ⊥ = cc in no)
 
 opening-group : (ranks k : ℕ) → IsSoundGroup ranks (opening_group ranks k)
 opening-group ranks k = record {
   parts = length-replicate ranks opening_part;
-  agree = λ turn rank other c d given given'. absurd (none-given ranks k turn rank c given);
-  whole = λ turn rank c given. absurd (none-given ranks k turn rank c given);
-  members = λ turn rank c given. absurd (none-given ranks k turn rank c given);
-  commits = λ turn rank c mask given is. absurd (none-given ranks k turn rank c given);
+  agree = λ turn rank other c d given given'. absurd (none-contributed ranks k turn rank c given);
+  whole = λ turn rank c given. absurd (none-contributed ranks k turn rank c given);
+  members = λ turn rank c given. absurd (none-contributed ranks k turn rank c given);
+  commits = λ turn rank c mask given is. absurd (none-contributed ranks k turn rank c given);
 }
 
-none-pending : (id : ℕ) → entry_at (replicate {A = Option Pending} 8 None) id ≡ None
-none-pending id = go (slice_get (replicate {A = Option Pending} 8 None) id) refl
+none-pending : (id : ℕ) → item_at (replicate {A = Option PendingCollective} 8 None) id ≡ None
+none-pending id = go (slice_get (replicate {A = Option PendingCollective} 8 None) id) refl
   where
-    go : (o : Option (Option Pending)) → slice_get (replicate {A = Option Pending} 8 None) id ≡ o → entry_at (replicate {A = Option Pending} 8 None) id ≡ None
-    go None at = ap (option_and_then (λ (x : Option Pending). x)) at
-    go (Some x) at = ap (option_and_then (λ (y : Option Pending). y)) at ∙ slice_get-replicate 8 None x id at
+    go : (o : Option (Option PendingCollective)) → slice_get (replicate {A = Option PendingCollective} 8 None) id ≡ o → item_at (replicate {A = Option PendingCollective} 8 None) id ≡ None
+    go None at = ap (option_and_then (λ (x : Option PendingCollective). x)) at
+    go (Some x) at = ap (option_and_then (λ (y : Option PendingCollective). y)) at ∙ slice_get-replicate 8 None x id at
 
 -- the only group that is there is group 0
 only-all : (ranks id : ℕ) (h : Handle) → handle_at (opening_handles ranks) id ≡ Some h → id ≡ 0
@@ -61,26 +61,26 @@ all-handle ranks id h at =
     let here : handle_at (opening_handles ranks) 0 ≡ Some h = subst (λ (n : ℕ). handle_at (opening_handles ranks) n ≡ Some h) (only-all ranks id h at) at in
     (let some : ◌≡◌ {A = Option Handle} (Some h) (Some (handle_of_all ranks)) = sym here ∙ (opening-groups ranks).all in cc)
 
-pub opens-collectives : (w : World) → AreSoundCollectives (opening w)
+pub opens-collectives : (w : ShapeValue) → AreSoundCollectives (opening w)
 opens-collectives w = record {
   eight = length-map-range_with_len (opening_group w.limits.ranks) 0 8;
   groups = λ id g at. let is = group-is id g at in rw is (opening-group w.limits.ranks id);
   parts = λ id g rank posts at hp.
       let is = group-is id g at in
       let from = map-at (opening_posts w) (range_with_len 0 w.limits.ranks) rank posts hp in
-      rw (from.2, is, none-pending id, opening-part w.limits.ranks id rank) (record { count = refl; last = λ p none. absurd (let no : ⊥ = cc in no); few = omega arith });
+      rw (from.2, is, none-pending id, opening-contributions w.limits.ranks id rank) (record { count = refl; last = λ p none. absurd (let no : ⊥ = cc in no); few = omega arith });
   begun = λ id g rank posts at hp.
       let is = group-is id g at in
       let from = map-at (opening_posts w) (range_with_len 0 w.limits.ranks) rank posts hp in
-      rw (is, opening-part w.limits.ranks id rank) (record {
+      rw (is, opening-contributions w.limits.ranks id rank) (record {
         unmade = λ above. refl;
         building = λ h there stage. refl;
         committed = λ h there stage other. absurd (other (only-all w.limits.ranks id h (ap (λ (p : Posts). handle_at p.groups id) (sym from.2) ∙ there)));
       });
   resumable = λ id rank posts p hp pends.
       let from = map-at (opening_posts w) (range_with_len 0 w.limits.ranks) rank posts hp in
-      absurd (let none : ◌≡◌ {A = Option Pending} None (Some p) = sym (none-pending id) ∙ rw from.2 at pends in let no : ⊥ = cc in no);
-  first = λ id g rank c at other given. absurd (none-given w.limits.ranks id 0 rank c (ap (λ (x : Group). given_in x 0 rank) (sym (group-is id g at)) ∙ given));
+      absurd (let none : ◌≡◌ {A = Option PendingCollective} None (Some p) = sym (none-pending id) ∙ rw from.2 at pends in let no : ⊥ = cc in no);
+  first = λ id g rank c at other given. absurd (none-contributed w.limits.ranks id 0 rank c (ap (λ (x : Group). contribution_in x 0 rank) (sym (group-is id g at)) ∙ given));
   committed = λ id g rank posts h at hp there stage.
       let is = group-is id g at in
       let from = map-at (opening_posts w) (range_with_len 0 w.limits.ranks) rank posts hp in
@@ -93,7 +93,7 @@ opens-collectives w = record {
         subst (λ (x : Handle). is_member x.members rank ≡ true) (sym all) (ap (λ (n : ℕ). n == 1) (bit_at_ones w.limits.ranks rank (omega arith))),
       );
   made = λ id g rank posts at hp turn c seg size given coll.
-      absurd (none-given w.limits.ranks id turn rank c (ap (λ (x : Group). given_in x turn rank) (sym (group-is id g at)) ∙ given));
+      absurd (none-contributed w.limits.ranks id turn rank c (ap (λ (x : Group). contribution_in x turn rank) (sym (group-is id g at)) ∙ given));
 }
   where
     group-is : (id : ℕ) (g : Group) → slice_get (opening w).groups id ≡ Some g → g ≡ opening_group w.limits.ranks id

@@ -3,7 +3,7 @@ use Rattle.std.proofs.Common.{◌≡◌, ℕ, zero, suc, ◌+◌, ◌<◌, ◌�
 use Rattle.std.specs.List.{slice_get, prefix_len}
 use Rattle.std.proofs.lemmas.Bool.{eq-eqb, ne_eqb, lt-ltb}
 use Rattle.std.proofs.lemmas.Option.{slice_get_within}
-use Rattle.gaspi_types.specs.Lanes.{posted_entries, place_of}
+use Rattle.gaspi_types.specs.Lanes.{posted_entries, position_of}
 use Rattle.gaspi_types.specs.declared.entries.Entry.{Entry}
 use Rattle.gaspi_types.specs.declared.entries.Kind.{Kind}
 use Rattle.gaspi_types.specs.declared.entries.Phase.{Phase}
@@ -83,7 +83,7 @@ before-at next (x ∷ lane) (suc place) e rising at =
     rw apart (omega arith)
 
 -- an entry is found at its place by its number
-pub place_of-rising : (next : ℕ) (lane : List Entry) (place : ℕ) (e : Entry) → AreRising next lane → slice_get lane place ≡ Some e → place_of lane e.number ≡ Some place
+pub place_of-rising : (next : ℕ) (lane : List Entry) (place : ℕ) (e : Entry) → AreRising next lane → slice_get lane place ≡ Some e → position_of lane e.number ≡ Some place
 place_of-rising next lane place e rising at =
     let before = before-at next lane place e rising at in
     let within = lt-ltb place (length lane) (slice_get_within lane place e at) in

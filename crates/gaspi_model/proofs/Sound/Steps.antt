@@ -28,16 +28,16 @@ use Rattle.gaspi_model.specs.Posting.{with_post, counted}
 use Rattle.gaspi_types.specs.Tables.{changed_at}
 use Rattle.gaspi_types.specs.Queues.{with_entries}
 use Rattle.gaspi_model.specs.QueueCalls.{emptied, without_entries}
-use Rattle.gaspi_model.specs.PostCalls.{asked_finds}
-use Rattle.gaspi_model.specs.Calls.{posts_done, plain_done, call_asks, call_finds}
-use Rattle.gaspi_model.specs.Transfers.{Found, taken_bytes, Worked}
+use Rattle.gaspi_model.specs.PostCalls.{post_request_result}
+use Rattle.gaspi_model.specs.Calls.{posts_effect, plain_effect, requested_kinds, call_result}
+use Rattle.gaspi_model.specs.Transfers.{EntryPosition, source_bytes, PostsAndMemory}
 use Rattle.gaspi_types.specs.Groups.{with_group, with_added, without_group}
 use Rattle.gaspi_types.specs.declared.groups.Handles.{Handles}
 use Rattle.gaspi_types.specs.declared.inboxes.Message.{Message}
-use Rattle.gaspi_model.specs.Step.{step, call_brought}
+use Rattle.gaspi_model.specs.Step.{step, call_message}
 use Rattle.gaspi_model.proofs.Sound.GroupTables.{called-groups}
 use Rattle.gaspi_model.proofs.Sound.Inboxes.{inboxes-set, called-inbox, put-inbox}
-use Rattle.gaspi_model.specs.Coherence.{IsCoherent}
+use Rattle.gaspi_model.specs.Coherence.{AgreesOnSegments}
 use Rattle.gaspi_model.specs.Sound.{failures, HasTables, IsSoundPosts, IsSound, AreRising, events_left}
 use Rattle.gaspi_model.proofs.Sound.Rising.{AreRising-more, AreRising-phase, AreRising-remove, AreRising-post}
 use Rattle.gaspi_types.specs.declared.entries.Queue.{Queue}
@@ -45,9 +45,9 @@ use Rattle.gaspi_model.specs.declared.states.Posts.{Posts}
 use Rattle.gaspi_model.specs.declared.states.Memory.{Memory}
 use Rattle.gaspi_model.specs.declared.states.State.{State}
 use Rattle.gaspi_types.proofs.Items.{slice_get-set, length-changed_at}
-use Rattle.gaspi_model.proofs.Worked.{memory_rank, sound-called, sound-take, sound-put}
-use Rattle.gaspi_model.proofs.Sound.Told.{told, told-length, told-from, told-sum}
-use Rattle.gaspi_model.proofs.Sound.TableLengths.{after-tables, take-tables, put-tables, told-tables}
+use Rattle.gaspi_model.proofs.OnPostsAndMemory.{memory_rank, sound-called, sound-take, sound-put}
+use Rattle.gaspi_model.proofs.Sound.Registered.{registering, registered-length, registered-from, registered-sum}
+use Rattle.gaspi_model.proofs.Sound.TableLengths.{after-tables, take-tables, put-tables, registered-tables}
 use Rattle.gaspi_types.proofs.Extents.{generation-within}
 use Rattle.gaspi_model.proofs.Same.{same_reply-same}
 use Rattle.gaspi_model.proofs.Made.{IsTake, IsPut, IsCalled, step-called, step-take, step-put}
@@ -58,8 +58,8 @@ use Rattle.gaspi_types.proofs.Chains.{both, same_Ok}
 use Rattle.gaspi_model.proofs.Sound.OpenCounts.{emptied-lane, posted-unfailed, carried-unfailed, queue-phase, queue-remove, carried-more, carried-failed}
 use Rattle.gaspi_types.specs.declared.shapes.CallerId.{CallerId}
 use Rattle.gaspi_model.specs.Contributions.{AreSoundCollectives}
-use Rattle.gaspi_model.proofs.MetPosts.{met-called, met-joined}
-use Rattle.gaspi_model.proofs.Sound.GroupEvents.{posts-sound, left-set, steps-completed, steps-joined, counts-met}
+use Rattle.gaspi_model.proofs.CollectivePosts.{on_group-called, on_group-joined}
+use Rattle.gaspi_model.proofs.Sound.GroupEvents.{posts-sound, left-set, steps-completed, steps-joined, counts-on_group}
 use Rattle.gaspi_model.proofs.Sound.KeptGroups.{called-collectives, take-collectives, put-collectives}
 use Rattle.gaspi_model.proofs.Sound.CoherentSteps.{keeps-coherent, called-from, take-from, put-from}
 use Rattle.gaspi_model.proofs.Sound.CallQueues.{queues-changed, called-queues}
@@ -194,7 +194,7 @@ regrouped-keeps : (ranks : ℕ) (posts : Posts) (groups : Handles) → HasLanes 
 regrouped-keeps ranks posts groups all rise few = record { lanes = all; events = refl; numbers = omega arith; numbered = refl; generations = generations-more posts few; rising = rise }
 
 plain-keeps : (ranks : ℕ) (posts : Posts) (thread : ℕ) (call : Call) → HasLanes ranks posts → RiseBelow posts.next posts.queues → HasFewGenerations (posts.events + 1) posts
-    → Keeps ranks posts (plain_done posts thread call)
+    → Keeps ranks posts (plain_effect posts thread call)
 plain-keeps ranks posts thread (Alloc call) all rise few = record {
   lanes = all;
   events = refl;
@@ -228,13 +228,13 @@ plain-keeps ranks posts thread End all rise few = record { lanes = all; events =
 plain-keeps ranks posts thread other all rise few = same-keeps ranks posts all rise few
 
 done-keeps : (ranks : ℕ) (limits : Limits) (me : ℕ) (posts : Posts) (thread : ℕ) (call : Call) → HasLanes ranks posts → RiseBelow posts.next posts.queues → HasFewGenerations (posts.events + 1) posts
-    → ((to : Posting) (kinds : List Kind) → (row_of call).posting ≡ Some to → call_asks limits me posts call ≡ Ok kinds → length kinds ≤ 256)
-    → Keeps ranks posts (posts_done limits me posts thread call)
+    → ((to : Posting) (kinds : List Kind) → (row_of call).posting ≡ Some to → requested_kinds limits me posts call ≡ Ok kinds → length kinds ≤ 256)
+    → Keeps ranks posts (posts_effect limits me posts thread call)
 done-keeps ranks limits me posts thread call all rise few counts = go (row_of call).posting refl
   where
-    go : (o : Option Posting) → (row_of call).posting ≡ o → Keeps ranks posts (posts_done limits me posts thread call)
+    go : (o : Option Posting) → (row_of call).posting ≡ o → Keeps ranks posts (posts_effect limits me posts thread call)
     go None none = rw none (plain-keeps ranks posts thread call all rise few)
-    go (Some to) post = rw post (post-keeps ranks posts to.queue to.rank (call_asks limits me posts call) (λ kinds asks. counts to kinds post asks) all rise few)
+    go (Some to) post = rw post (post-keeps ranks posts to.queue to.rank (requested_kinds limits me posts call) (λ kinds asks. counts to kinds post asks) all rise few)
 
 -- a queue is not deeper than that
 pub depth-few : (limits : Limits) → are_limits limits ≡ true → limits.depth ≤ 256
@@ -244,10 +244,10 @@ depth-few limits h =
 
 -- a post that is done has as many entries as its queue has room for
 accepted-few : (limits : Limits) (me : ℕ) (posts : Posts) (memory : Memory) (call : Call) (reply : Reply) (to : Posting) (kinds : List Kind) → limits.depth ≤ 256
-    → call_finds limits me posts memory call ≡ Ok (Some reply) → (row_of call).posting ≡ Some to → call_asks limits me posts call ≡ Ok kinds → length kinds ≤ 256
+    → call_result limits me posts memory call ≡ Ok (Some reply) → (row_of call).posting ≡ Some to → requested_kinds limits me posts call ≡ Ok kinds → length kinds ≤ 256
 accepted-few limits me posts memory call reply to kinds depth found post asks =
-    let finds : asked_finds limits posts to.rank to.queue (call_asks limits me posts call) ≡ Ok (Some reply) = rw post at found in
-    let posted = post-ok limits posts to.rank to.queue (call_asks limits me posts call) (Some reply) finds in
+    let finds : post_request_result limits posts to.rank to.queue (requested_kinds limits me posts call) ≡ Ok (Some reply) = rw post at found in
+    let posted = post-ok limits posts to.rank to.queue (requested_kinds limits me posts call) (Some reply) finds in
     let same : posted.1 ≡ kinds = same_Ok _ _ (sym posted.2.asks ∙ asks) in
     let room = leb-true _ _ posted.2.room in
     let count = ap length same in
@@ -259,15 +259,15 @@ after-keeps : (ranks : ℕ) (b : Bool) (before done : Posts) → HasLanes ranks 
 after-keeps ranks true before done all rise few keeps = same-keeps ranks before all rise few
 after-keeps ranks false before done all rise few keeps = keeps refl
 
-call-keeps : (limits : Limits) (me : ℕ) (posts : Posts) (brought : Option Message) (memory : Memory) (thread : ℕ) (call : Call) (reply : Reply) (after : Worked) → limits.depth ≤ 256
-    → IsSoundPosts limits posts → IsCalled limits me posts brought memory thread call reply after → Keeps limits.ranks posts (if is_idle reply then posts else posts_done limits me posts thread call)
+call-keeps : (limits : Limits) (me : ℕ) (posts : Posts) (brought : Option Message) (memory : Memory) (thread : ℕ) (call : Call) (reply : Reply) (after : PostsAndMemory) → limits.depth ≤ 256
+    → IsSoundPosts limits posts → IsCalled limits me posts brought memory thread call reply after → Keeps limits.ranks posts (if is_idle reply then posts else posts_effect limits me posts thread call)
 call-keeps limits me posts brought memory thread call reply after depth sound h =
-    after-keeps limits.ranks (is_idle reply) posts (posts_done limits me posts thread call) sound.lanes sound.rising sound.generations
+    after-keeps limits.ranks (is_idle reply) posts (posts_effect limits me posts thread call) sound.lanes sound.rising sound.generations
     (λ busy. done-keeps limits.ranks limits me posts thread call sound.lanes sound.rising sound.generations
     (λ to kinds post asks. accepted-few limits me posts memory call reply to kinds depth
     (found-reply limits me posts memory thread call reply (same_reply-same _ _ h.answered) busy) post asks))
 
-called-sound : (limits : Limits) (me : ℕ) (posts : Posts) (brought : Option Message) (memory : Memory) (thread : ℕ) (call : Call) (reply : Reply) (after : Worked) → limits.depth ≤ 256
+called-sound : (limits : Limits) (me : ℕ) (posts : Posts) (brought : Option Message) (memory : Memory) (thread : ℕ) (call : Call) (reply : Reply) (after : PostsAndMemory) → limits.depth ≤ 256
     → IsSoundPosts limits posts → IsCalled limits me posts brought memory thread call reply after → IsSoundPosts limits after.posts
 called-sound limits me posts brought memory thread call reply after depth sound h =
     let keeps = call-keeps limits me posts brought memory thread call reply after depth sound h in
@@ -291,7 +291,7 @@ lanes-with_lane ranks posts queue target lane all =
     lanes-changed ranks posts.queues queue (λ (q : Queue). record q { lanes = slice_set q.lanes target lane }) (λ q. length-set q.lanes target lane) all
 
 -- the posts with a lane replaced by one that rises
-rise-with_lane : (posts : Posts) (queue target number : ℕ) (at : Found) (lane : List Entry) → IsFound posts queue target number at → AreRising posts.next lane
+rise-with_lane : (posts : Posts) (queue target number : ℕ) (at : EntryPosition) (lane : List Entry) → IsFound posts queue target number at → AreRising posts.next lane
     → RiseBelow posts.next posts.queues → RiseBelow posts.next (with_lane posts queue target lane).queues
 rise-with_lane posts queue target number at lane is rising all =
     rise-changed posts.next posts.queues queue (λ (q : Queue). record q { lanes = slice_set q.lanes target lane })
@@ -302,13 +302,13 @@ whole-unmarked None h = refl
 whole-unmarked (Some target) h = absurd (let no : ⊥ = cc in no)
 
 -- the posts of an origin after a transfer that failed
-failed-sound : (limits : Limits) (posts : Posts) (queue target number : ℕ) (at : Found) → IsSoundPosts limits posts → IsFound posts queue target number at → is_none at.queue.broken ≡ true
+failed-sound : (limits : Limits) (posts : Posts) (queue target number : ℕ) (at : EntryPosition) → IsSoundPosts limits posts → IsFound posts queue target number at → is_none at.queue.broken ≡ true
     → is_failed at.entry ≡ false → HasTables limits (counted (failed_with posts queue target at))
     → (counted (failed_with posts queue target at)).events + owed (counted (failed_with posts queue target at)) ≤ limits.events → IsSoundPosts limits (counted (failed_with posts queue target at))
 failed-sound limits posts queue target number at sound is whole stood tables room =
     let numbers = sound.numbers in
     let rises = sound.rising queue at.queue is.in_posts target at.lane is.in_queue in
-    let lane = with_phase at.lane at.place at.entry phases.Failed in
+    let lane = with_phase at.lane at.position at.entry phases.Failed in
     let change = queue_with_failed target at in
     record {
       tables = tables;
@@ -318,25 +318,25 @@ failed-sound limits posts queue target number at sound is whole stood tables roo
       numbered = sound.numbered;
       generations = λ segment n at. (let few = sound.generations segment n at in omega arith);
       rising = rise-changed posts.next posts.queues queue change
-          (λ q here. rise-lane posts.next q.lanes target lane (AreRising-phase posts.next at.lane at.place at.entry phases.Failed is.in_lane rises) (sound.rising queue q here)) sound.rising;
+          (λ q here. rise-lane posts.next q.lanes target lane (AreRising-phase posts.next at.lane at.position at.entry phases.Failed is.in_lane rises) (sound.rising queue q here)) sound.rising;
       queues = queues-changed limits.depth posts.queues queue change sound.queues
           (λ q here.
           let same : at.queue ≡ q = (let some : ◌≡◌ {A = Option Queue} (Some at.queue) (Some q) = sym is.in_posts ∙ here in cc) in
           let s0 = sound.queues queue at.queue is.in_posts in
-          rw (sym same) (queue-phase limits.depth at.queue (change at.queue) target at.lane at.place at.entry phases.Failed s0 is.in_queue is.in_lane refl refl refl
-          (carried-failed limits.depth at.lane at.place at.entry is.in_lane (s0.carried target at.lane is.in_queue))
+          rw (sym same) (queue-phase limits.depth at.queue (change at.queue) target at.lane at.position at.entry phases.Failed s0 is.in_queue is.in_lane refl refl refl
+          (carried-failed limits.depth at.lane at.position at.entry is.in_lane (s0.carried target at.lane is.in_queue))
           (rw (stood, whole-unmarked at.queue.broken whole) refl)));
       groups = sound.groups;
     }
 
-take-sound : (limits : Limits) (posts : Posts) (memory : Memory) (queue target number : ℕ) (outcome : Outcome) (after : Posts) (at : Found)
+take-sound : (limits : Limits) (posts : Posts) (memory : Memory) (queue target number : ℕ) (outcome : Outcome) (after : Posts) (at : EntryPosition)
     → IsSoundPosts limits posts → IsTake limits posts memory queue target number outcome after at → IsSoundPosts limits after
 take-sound limits posts memory queue target number Applied after at sound h =
     let owes = take-owed limits posts memory queue target number Applied after at h in
     let room = sound.room in
     let numbers = sound.numbers in
     let rises = sound.rising queue at.queue h.is.in_posts target at.lane h.is.in_queue in
-    let lane = with_phase at.lane at.place at.entry (phases.Carried (taken_bytes memory at.entry.kind)) in
+    let lane = with_phase at.lane at.position at.entry (phases.Carried (source_bytes memory at.entry.kind)) in
     let made : IsSoundPosts limits (counted (with_lane posts queue target lane)) = record {
       tables = subst (HasTables limits) h.leaves (take-tables limits posts memory queue target number Applied after at h sound.tables);
       lanes = lanes-with_lane limits.ranks posts queue target lane sound.lanes;
@@ -344,13 +344,13 @@ take-sound limits posts memory queue target number Applied after at sound h =
       numbers = omega arith;
       numbered = sound.numbered;
       generations = λ segment n at. (let few = sound.generations segment n at in omega arith);
-      rising = rise-with_lane posts queue target number at lane h.is (AreRising-phase posts.next at.lane at.place at.entry (phases.Carried (taken_bytes memory at.entry.kind)) h.is.in_lane rises) sound.rising;
+      rising = rise-with_lane posts queue target number at lane h.is (AreRising-phase posts.next at.lane at.position at.entry (phases.Carried (source_bytes memory at.entry.kind)) h.is.in_lane rises) sound.rising;
       queues = queues-changed limits.depth posts.queues queue (λ (q : Queue). record q { lanes = slice_set q.lanes target lane }) sound.queues
           (λ q here.
           let same : at.queue ≡ q = (let some : ◌≡◌ {A = Option Queue} (Some at.queue) (Some q) = sym h.is.in_posts ∙ here in cc) in
-          rw (sym same) (queue-phase limits.depth at.queue (record at.queue { lanes = slice_set at.queue.lanes target lane }) target at.lane at.place at.entry
-          (phases.Carried (taken_bytes memory at.entry.kind)) (sound.queues queue at.queue h.is.in_posts) h.is.in_queue h.is.in_lane refl refl refl
-          (carried-more limits.depth at.lane at.place at.entry (phases.Carried (taken_bytes memory at.entry.kind)) h.is.in_lane (both (is_posted at.entry) _ h.permitted).1)
+          rw (sym same) (queue-phase limits.depth at.queue (record at.queue { lanes = slice_set at.queue.lanes target lane }) target at.lane at.position at.entry
+          (phases.Carried (source_bytes memory at.entry.kind)) (sound.queues queue at.queue h.is.in_posts) h.is.in_queue h.is.in_lane refl refl refl
+          (carried-more limits.depth at.lane at.position at.entry (phases.Carried (source_bytes memory at.entry.kind)) h.is.in_lane (both (is_posted at.entry) _ h.permitted).1)
           (rw (posted-unfailed at.entry.phase (both (is_posted at.entry) _ h.permitted).0) refl)));
       groups = sound.groups;
     } in
@@ -363,26 +363,26 @@ take-sound limits posts memory queue target number Failed after at sound h =
     (let same = ap (λ (p : Posts). p.events + owed p) h.leaves in omega arith) in
     rw h.leaves (failed-sound limits posts queue target number at sound h.is h.whole (posted-unfailed at.entry.phase (both (is_posted at.entry) _ h.permitted).0) tables spared)
 
-put-sound : (limits : Limits) (posts : Posts) (memory : Memory) (queue target number : ℕ) (outcome : Outcome) (after : Worked) (at : Found)
+put-sound : (limits : Limits) (posts : Posts) (memory : Memory) (queue target number : ℕ) (outcome : Outcome) (after : PostsAndMemory) (at : EntryPosition)
     → IsSoundPosts limits posts → IsPut posts memory queue target number outcome after at → IsSoundPosts limits after.posts
 put-sound limits posts memory queue target number Applied after at sound h =
     let owes = put-owed posts memory queue target number Applied after at h in
     let room = sound.room in
     let numbers = sound.numbers in
     let rises = sound.rising queue at.queue h.is.in_posts target at.lane h.is.in_queue in
-    let lane = remove at.lane at.place in
+    let lane = remove at.lane at.position in
     let made : IsSoundPosts limits (counted (with_lane posts queue target lane)) = record {
-      tables = subst (λ (w : Worked). HasTables limits w.posts) h.leaves (put-tables limits posts memory queue target number Applied after at h sound.tables);
+      tables = subst (λ (w : PostsAndMemory). HasTables limits w.posts) h.leaves (put-tables limits posts memory queue target number Applied after at h sound.tables);
       lanes = lanes-with_lane limits.ranks posts queue target lane sound.lanes;
-      room = (let same = ap (λ (p : Worked). p.posts.events + owed p.posts) h.leaves in omega arith);
+      room = (let same = ap (λ (p : PostsAndMemory). p.posts.events + owed p.posts) h.leaves in omega arith);
       numbers = omega arith;
       numbered = sound.numbered;
       generations = λ segment n at. (let few = sound.generations segment n at in omega arith);
-      rising = rise-with_lane posts queue target number at lane h.is (AreRising-remove posts.next at.lane at.place rises) sound.rising;
+      rising = rise-with_lane posts queue target number at lane h.is (AreRising-remove posts.next at.lane at.position rises) sound.rising;
       queues = queues-changed limits.depth posts.queues queue (λ (q : Queue). record q { lanes = slice_set q.lanes target lane }) sound.queues
           (λ q here.
           let same : at.queue ≡ q = (let some : ◌≡◌ {A = Option Queue} (Some at.queue) (Some q) = sym h.is.in_posts ∙ here in cc) in
-          rw (sym same) (queue-remove limits.depth at.queue (record at.queue { lanes = slice_set at.queue.lanes target lane }) target at.lane at.place at.entry
+          rw (sym same) (queue-remove limits.depth at.queue (record at.queue { lanes = slice_set at.queue.lanes target lane }) target at.lane at.position at.entry
           (sound.queues queue at.queue h.is.in_posts) h.is.in_queue h.is.in_lane refl refl refl (carried-unfailed at.entry.phase (both (is_carried at.entry) _ h.permitted).0)));
       groups = sound.groups;
     } in
@@ -390,17 +390,17 @@ put-sound limits posts memory queue target number Applied after at sound h =
 put-sound limits posts memory queue target number Failed after at sound h =
     let owes = put-owed posts memory queue target number Failed after at h in
     let room = sound.room in
-    let tables = subst (λ (w : Worked). HasTables limits w.posts) h.leaves (put-tables limits posts memory queue target number Failed after at h sound.tables) in
+    let tables = subst (λ (w : PostsAndMemory). HasTables limits w.posts) h.leaves (put-tables limits posts memory queue target number Failed after at h sound.tables) in
     let spared : (counted (failed_with posts queue target at)).events + owed (counted (failed_with posts queue target at)) ≤ limits.events =
-    (let same = ap (λ (p : Worked). p.posts.events + owed p.posts) h.leaves in omega arith) in
+    (let same = ap (λ (p : PostsAndMemory). p.posts.events + owed p.posts) h.leaves in omega arith) in
     rw h.leaves (failed-sound limits posts queue target number at sound h.is h.whole (carried-unfailed at.entry.phase (both (is_carried at.entry) _ h.permitted).0) tables spared)
 
 -- posts that are told a segment
-told-sound : (limits : Limits) (ranks me : ℕ) (p : Posts) (call : Call) (reply : Reply) (all : List Posts) → ((r : ℕ) (x : Posts) → slice_get all r ≡ Some x → IsSoundPosts limits x)
-    → (r : ℕ) (x : Posts) → slice_get (told ranks me p call reply all) r ≡ Some x → IsSoundPosts limits x
-told-sound limits ranks me p call reply all sound r x h =
-    let from = told-from ranks me p call reply all r x h in
-    let tables = told-tables limits ranks me p call reply all (λ k y at. (sound k y at).tables) r x h in
+at_completion-sound : (limits : Limits) (ranks me : ℕ) (p : Posts) (call : Call) (reply : Reply) (all : List Posts) → ((r : ℕ) (x : Posts) → slice_get all r ≡ Some x → IsSoundPosts limits x)
+    → (r : ℕ) (x : Posts) → slice_get (registering ranks me p call reply all) r ≡ Some x → IsSoundPosts limits x
+at_completion-sound limits ranks me p call reply all sound r x h =
+    let from = registered-from ranks me p call reply all r x h in
+    let tables = registered-tables limits ranks me p call reply all (λ k y at. (sound k y at).tables) r x h in
     rw from.3 (known-sound from.0 from.1 (subst (HasTables limits) from.3 tables) (sound r from.0 from.2))
   where
     known-sound : (before : Posts) (known : List (List (Option Extent))) → HasTables limits (record before { segments = record before.segments { known = known } }) → IsSoundPosts limits before → IsSoundPosts limits (record before { segments = record before.segments { known = known } })
@@ -420,16 +420,16 @@ steps-called : (s t : State) (c : CallerId) (call : Call) (reply : Reply) → (r
 steps-called s t c call reply plain sound h =
     let made = sound-called s t c call reply plain sound h in
     let m = made.3 in
-    let after = called-sound s.limits c.rank made.0 (call_brought s c.rank call) made.1 c.thread call reply made.2 (depth-few s.limits sound.limits) (sound.posts c.rank made.0 m.posts_there) m.is in
+    let after = called-sound s.limits c.rank made.0 (call_message s c.rank call) made.1 c.thread call reply made.2 (depth-few s.limits sound.limits) (sound.posts c.rank made.0 m.posts_there) m.is in
     let coherent = keeps-coherent s t sound.coherent (called-from s t c call reply plain sound h) in
     let collectives = called-collectives s t c call reply plain sound h in
     rw m.leaves (record {
       limits = sound.limits;
-      ranks = told-length s.limits.ranks c.rank made.0 call reply (slice_set s.posts c.rank made.2.posts) ∙ length-set s.posts c.rank made.2.posts ∙ sound.ranks;
+      ranks = registered-length s.limits.ranks c.rank made.0 call reply (slice_set s.posts c.rank made.2.posts) ∙ length-set s.posts c.rank made.2.posts ∙ sound.ranks;
       memories = length-set s.memories (memory_rank s.limits c.rank call) made.2.memory ∙ sound.memories;
-      posts = told-sound s.limits s.limits.ranks c.rank made.0 call reply (slice_set s.posts c.rank made.2.posts) (posts-sound s.limits s.posts c.rank made.2.posts after sound.posts);
+      posts = at_completion-sound s.limits s.limits.ranks c.rank made.0 call reply (slice_set s.posts c.rank made.2.posts) (posts-sound s.limits s.posts c.rank made.2.posts after sound.posts);
       inboxes = inboxes-set s.limits s.memories (memory_rank s.limits c.rank call) made.2.memory sound.inboxes (called-inbox s t c call reply made.0 made.1 made.2 sound m);
-      coherent = subst IsCoherent m.leaves coherent;
+      coherent = subst AgreesOnSegments m.leaves coherent;
       collectives = subst AreSoundCollectives m.leaves collectives;
     })
 
@@ -452,7 +452,7 @@ steps s t (Take origin queue target number outcome) sound h =
       memories = sound.memories;
       posts = posts-sound s.limits s.posts origin made.2 after sound.posts;
       inboxes = sound.inboxes;
-      coherent = subst IsCoherent m.leaves coherent;
+      coherent = subst AgreesOnSegments m.leaves coherent;
       collectives = subst AreSoundCollectives m.leaves collectives;
     })
 steps s t (Put origin queue target number outcome) sound h =
@@ -468,24 +468,24 @@ steps s t (Put origin queue target number outcome) sound h =
       posts = posts-sound s.limits s.posts origin made.2.posts after sound.posts;
       inboxes = inboxes-set s.limits s.memories (put_rank origin target made.3.entry.kind) made.2.memory sound.inboxes
           (put-inbox s.limits made.0 made.1 queue target number outcome made.2 made.3 m.is (sound.inboxes (put_rank origin target made.3.entry.kind) made.1 m.memory_there));
-      coherent = subst IsCoherent m.leaves coherent;
+      coherent = subst AgreesOnSegments m.leaves coherent;
       collectives = subst AreSoundCollectives m.leaves collectives;
     })
 
 -- each event adds one to the events of its owner
 
-pub called-events : (limits : Limits) (me : ℕ) (posts : Posts) (brought : Option Message) (memory : Memory) (thread : ℕ) (call : Call) (reply : Reply) (after : Worked) → limits.depth ≤ 256
+pub called-events : (limits : Limits) (me : ℕ) (posts : Posts) (brought : Option Message) (memory : Memory) (thread : ℕ) (call : Call) (reply : Reply) (after : PostsAndMemory) → limits.depth ≤ 256
     → IsSoundPosts limits posts → IsCalled limits me posts brought memory thread call reply after → after.posts.events ≡ posts.events + 1
 called-events limits me posts brought memory thread call reply after depth sound h =
     let keeps = call-keeps limits me posts brought memory thread call reply after depth sound h in
     rw h.leaves (ap (λ (n : ℕ). n + 1) keeps.events)
 
-pub take-events : (limits : Limits) (posts : Posts) (memory : Memory) (queue target number : ℕ) (outcome : Outcome) (after : Posts) (at : Found)
+pub take-events : (limits : Limits) (posts : Posts) (memory : Memory) (queue target number : ℕ) (outcome : Outcome) (after : Posts) (at : EntryPosition)
     → IsTake limits posts memory queue target number outcome after at → after.events ≡ posts.events + 1
 take-events limits posts memory queue target number Applied after at h = rw h.leaves refl
 take-events limits posts memory queue target number Failed after at h = rw h.leaves refl
 
-pub put-events : (posts : Posts) (memory : Memory) (queue target number : ℕ) (outcome : Outcome) (after : Worked) (at : Found)
+pub put-events : (posts : Posts) (memory : Memory) (queue target number : ℕ) (outcome : Outcome) (after : PostsAndMemory) (at : EntryPosition)
     → IsPut posts memory queue target number outcome after at → after.posts.events ≡ posts.events + 1
 put-events posts memory queue target number Applied after at h = rw h.leaves refl
 put-events posts memory queue target number Failed after at h = rw h.leaves refl
@@ -495,18 +495,18 @@ counts-called s t c call reply plain sound h =
     let made = sound-called s t c call reply plain sound h in
     let m = made.3 in
     let before = sound.posts c.rank made.0 m.posts_there in
-    let after = called-sound s.limits c.rank made.0 (call_brought s c.rank call) made.1 c.thread call reply made.2 (depth-few s.limits sound.limits) before m.is in
-    let more = called-events s.limits c.rank made.0 (call_brought s c.rank call) made.1 c.thread call reply made.2 (depth-few s.limits sound.limits) before m.is in
+    let after = called-sound s.limits c.rank made.0 (call_message s c.rank call) made.1 c.thread call reply made.2 (depth-few s.limits sound.limits) before m.is in
+    let more = called-events s.limits c.rank made.0 (call_message s c.rank call) made.1 c.thread call reply made.2 (depth-few s.limits sound.limits) before m.is in
     let left = left-set s.limits s.posts c.rank made.0 made.2.posts m.posts_there more (let room = after.room in omega arith) in
-    let told_left = told-sum (λ (p : Posts). s.limits.events - p.events) (λ x known. refl) s.limits.ranks c.rank made.0 call reply (slice_set s.posts c.rank made.2.posts) in
+    let told_left = registered-sum (λ (p : Posts). s.limits.events - p.events) (λ x known. refl) s.limits.ranks c.rank made.0 call reply (slice_set s.posts c.rank made.2.posts) in
     rw m.leaves (ap (λ (n : ℕ). n + 1) told_left ∙ left)
 
 pub counts : (s t : State) (e : Event) → IsSound s → step s e ≡ Ok t → events_left t + 1 ≡ events_left s
-counts s t (Joined c id args) sound h = let met = met-joined s t c id args h in counts-met s t c.rank met.0 met.1 sound (steps-joined s t c id args sound h) met.2
+counts s t (Joined c id args) sound h = let met = on_group-joined s t c id args h in counts-on_group s t c.rank met.0 met.1 sound (steps-joined s t c id args sound h) met.2
 counts s t (Called c call reply) sound h = by-group (row_of call).group refl
   where
     by-group : (o : Option ℕ) → (row_of call).group ≡ o → events_left t + 1 ≡ events_left s
-    by-group (Some id) named = let met = met-called s t c id call reply named h in counts-met s t c.rank met.0 met.1 sound (steps-completed s t c id call reply named sound h) met.2
+    by-group (Some id) named = let met = on_group-called s t c id call reply named h in counts-on_group s t c.rank met.0 met.1 sound (steps-completed s t c id call reply named sound h) met.2
     by-group None plain = counts-called s t c call reply plain sound h
 counts s t (Take origin queue target number outcome) sound h =
     let made = sound-take s t origin queue target number outcome sound h in
@@ -524,11 +524,11 @@ counts s t (Put origin queue target number outcome) sound h =
     rw m.leaves (left-set s.limits s.posts origin made.0 made.2.posts m.posts_there more (let room = after.room in omega arith))
 
 pub limits-stay : (s t : State) (e : Event) → step s e ≡ Ok t → t.limits ≡ s.limits
-limits-stay s t (Joined c id args) h = (met-joined s t c id args h).2.limits
+limits-stay s t (Joined c id args) h = (on_group-joined s t c id args h).2.limits
 limits-stay s t (Called c call reply) h = by-group (row_of call).group refl
   where
     by-group : (o : Option ℕ) → (row_of call).group ≡ o → t.limits ≡ s.limits
-    by-group (Some id) named = (met-called s t c id call reply named h).2.limits
+    by-group (Some id) named = (on_group-called s t c id call reply named h).2.limits
     by-group None plain = ap (λ (x : State). x.limits) (step-called s t c call reply plain h).3.leaves
 limits-stay s t (Take origin queue target number outcome) h = ap (λ (x : State). x.limits) (step-take s t origin queue target number outcome h).4.leaves
 limits-stay s t (Put origin queue target number outcome) h = ap (λ (x : State). x.limits) (step-put s t origin queue target number outcome h).4.leaves

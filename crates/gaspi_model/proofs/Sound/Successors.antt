@@ -13,7 +13,7 @@ use Rattle.gaspi_types.specs.declared.entries.Kind.{Kind}
 use Rattle.gaspi_types.specs.declared.entries.Kind.TheVariants.{Write, Read, Notify, ReadNote}
 use Rattle.gaspi_types.specs.declared.entries.Phase.{Phase}
 use Rattle.gaspi_types.specs.declared.entries.Phase.TheVariants.{Posted, Carried, Failed}
-use Rattle.gaspi_model.specs.Coherence.{Tables, WasMade, AreMade, LiesIn, LiesInIfThere, IsIn, HasOwn, HasTarget, FitsTarget, AllFit, Knows}
+use Rattle.gaspi_model.specs.Coherence.{Tables, WasMade, AreMade, LiesIn, LiesInIfThere, IsIn, HasOwn, HasTarget, IsWithinTarget, AreWithinSegments, Knows}
 use Rattle.gaspi_types.specs.declared.entries.Queue.{Queue}
 use Rattle.gaspi_types.proofs.Items.{slice_get-set_other}
 use Rattle.gaspi_types.proofs.Extents.{generation-grows, generation-set, extent-set}
@@ -76,7 +76,7 @@ target-stays old new own target h f =
     let made : WasMade new target.segment target.generation = (let was = f.2 in omega arith) in
     (f.0, f.1, made, lies-stays old new target h f.2 f.3)
 
-fits-target-stays : (notes : ℕ) (old new : Tables) (kind : Kind) → Succeeds old new → FitsTarget notes old kind → FitsTarget notes new kind
+fits-target-stays : (notes : ℕ) (old new : Tables) (kind : Kind) → Succeeds old new → IsWithinTarget notes old kind → IsWithinTarget notes new kind
 fits-target-stays notes old new (Write own target) h f = target-stays old new own target h f
 fits-target-stays notes old new (Read own target) h f = target-stays old new own target h f
 fits-target-stays notes old new (Notify target value) h f =
@@ -143,7 +143,7 @@ free-unused table segment (ReadNote own) Failed free none = refl
 -- all entries of an origin fit still
 pub all-fit-follows : (notes : ℕ) (old new : List Tables) (origin : ℕ) (queues : List Queue) → Follow old new
     → ((mine mine' : Tables) → slice_get old origin ≡ Some mine → slice_get new origin ≡ Some mine' → OwnsStay mine.own mine'.own queues)
-    → AllFit notes old origin queues → AllFit notes new origin queues
+    → AreWithinSegments notes old origin queues → AreWithinSegments notes new origin queues
 all-fit-follows notes old new origin queues follow owns all queue q hq target lane hl place e he mine' theirs' hm ht =
     let m = follow origin mine' hm in
     let f = follow target theirs' ht in

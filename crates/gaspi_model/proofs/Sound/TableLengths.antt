@@ -21,8 +21,8 @@ use Rattle.gaspi_types.specs.declared.replies.Refusal.{Refusal}
 use Rattle.gaspi_types.specs.declared.shapes.Limits.{Limits}
 use Rattle.gaspi_model.specs.Posting.{with_post, counted}
 use Rattle.gaspi_model.specs.SegmentCalls.{with_known}
-use Rattle.gaspi_model.specs.Calls.{plain_done, posts_done, call_asks}
-use Rattle.gaspi_model.specs.Transfers.{Found, Worked}
+use Rattle.gaspi_model.specs.Calls.{plain_effect, posts_effect, requested_kinds}
+use Rattle.gaspi_model.specs.Transfers.{EntryPosition, PostsAndMemory}
 use Rattle.gaspi_types.specs.Segments.{extent_of, extents_of}
 use Rattle.gaspi_model.specs.Sound.{HasTables, IsSound}
 use Rattle.gaspi_model.specs.declared.states.State.{State}
@@ -31,7 +31,7 @@ use Rattle.gaspi_model.specs.declared.states.Posts.{Posts}
 use Rattle.gaspi_model.specs.declared.states.Memory.{Memory}
 use Rattle.gaspi_model.proofs.Made.{IsTake, IsPut}
 use Rattle.gaspi_types.proofs.Items.{length-changed_at, there-within}
-use Rattle.gaspi_model.proofs.Sound.Told.{changed_at-get, told, told-cases}
+use Rattle.gaspi_model.proofs.Sound.Registered.{changed_at-get, registering, registered-cases}
 use Rattle.gaspi_model.proofs.FoundEntries.{with_lane, failed_with}
 
 -- the same tables with the queues, or with the known segments, replaced
@@ -62,7 +62,7 @@ post-tables : (limits : Limits) (posts : Posts) (queue target : ℕ) (asked : Re
 post-tables limits posts queue target (Err refusal) has = has
 post-tables limits posts queue target (Ok kinds) has = requeued-tables limits posts _ _ (length-changed_at posts.queues queue _) has
 
-plain-tables : (limits : Limits) (posts : Posts) (thread : ℕ) (call : Call) → HasTables limits posts → HasTables limits (plain_done posts thread call)
+plain-tables : (limits : Limits) (posts : Posts) (thread : ℕ) (call : Call) → HasTables limits posts → HasTables limits (plain_effect posts thread call)
 plain-tables limits posts thread (Alloc call) has = record {
   queues = has.queues;
   corrupt = has.corrupt;
@@ -97,12 +97,12 @@ plain-tables limits posts thread End has = record {
 }
 plain-tables limits posts thread other has = has
 
-done-tables : (limits : Limits) (me : ℕ) (posts : Posts) (thread : ℕ) (call : Call) → HasTables limits posts → HasTables limits (posts_done limits me posts thread call)
+done-tables : (limits : Limits) (me : ℕ) (posts : Posts) (thread : ℕ) (call : Call) → HasTables limits posts → HasTables limits (posts_effect limits me posts thread call)
 done-tables limits me posts thread call has = go (row_of call).posting refl
   where
-    go : (o : Option Posting) → (row_of call).posting ≡ o → HasTables limits (posts_done limits me posts thread call)
+    go : (o : Option Posting) → (row_of call).posting ≡ o → HasTables limits (posts_effect limits me posts thread call)
     go None none = rw none (plain-tables limits posts thread call has)
-    go (Some to) post = rw post (post-tables limits posts to.queue to.rank (call_asks limits me posts call) has)
+    go (Some to) post = rw post (post-tables limits posts to.queue to.rank (requested_kinds limits me posts call) has)
 
 pub counted-tables : (limits : Limits) (posts : Posts) → HasTables limits posts → HasTables limits (counted posts)
 counted-tables limits posts has = record {
@@ -117,7 +117,7 @@ counted-tables limits posts has = record {
 
 -- after a call, idle or not
 pub after-tables : (limits : Limits) (me : ℕ) (idle : Bool) (posts : Posts) (thread : ℕ) (call : Call) → HasTables limits posts
-    → HasTables limits (counted (if idle then posts else posts_done limits me posts thread call))
+    → HasTables limits (counted (if idle then posts else posts_effect limits me posts thread call))
 after-tables limits me true posts thread call has = counted-tables limits posts has
 after-tables limits me false posts thread call has = counted-tables limits _ (done-tables limits me posts thread call has)
 
@@ -126,7 +126,7 @@ lane-tables : (limits : Limits) (posts : Posts) (queue target : ℕ) (lane : Lis
 lane-tables limits posts queue target lane has =
     counted-tables limits _ (requeued-tables limits posts _ posts.next (length-changed_at posts.queues queue (λ (q : Queue). record q { lanes = slice_set q.lanes target lane })) has)
 
-failed-tables : (limits : Limits) (posts : Posts) (queue target : ℕ) (at : Found) → HasTables limits posts → HasTables limits (counted (failed_with posts queue target at))
+failed-tables : (limits : Limits) (posts : Posts) (queue target : ℕ) (at : EntryPosition) → HasTables limits posts → HasTables limits (counted (failed_with posts queue target at))
 failed-tables limits posts queue target at has = record {
   queues = length-changed_at posts.queues queue _ ∙ has.queues;
   corrupt = length-set posts.corrupt target true ∙ has.corrupt;
@@ -137,14 +137,14 @@ failed-tables limits posts queue target at has = record {
   pending = has.pending;
 }
 
-pub take-tables : (limits : Limits) (posts : Posts) (memory : Memory) (queue target number : ℕ) (outcome : Outcome) (after : Posts) (at : Found)
+pub take-tables : (limits : Limits) (posts : Posts) (memory : Memory) (queue target number : ℕ) (outcome : Outcome) (after : Posts) (at : EntryPosition)
     → IsTake limits posts memory queue target number outcome after at → HasTables limits posts → HasTables limits after
 take-tables limits posts memory queue target number Applied after at h has = rw h.leaves (lane-tables limits posts queue target _ has)
 take-tables limits posts memory queue target number Failed after at h has = rw h.leaves (failed-tables limits posts queue target at has)
 
-pub put-tables : (limits : Limits) (posts : Posts) (memory : Memory) (queue target number : ℕ) (outcome : Outcome) (after : Worked) (at : Found)
+pub put-tables : (limits : Limits) (posts : Posts) (memory : Memory) (queue target number : ℕ) (outcome : Outcome) (after : PostsAndMemory) (at : EntryPosition)
     → IsPut posts memory queue target number outcome after at → HasTables limits posts → HasTables limits after.posts
-put-tables limits posts memory queue target number Applied after at h has = rw h.leaves (lane-tables limits posts queue target (remove at.lane at.place) has)
+put-tables limits posts memory queue target number Applied after at h has = rw h.leaves (lane-tables limits posts queue target (remove at.lane at.position) has)
 put-tables limits posts memory queue target number Failed after at h has = rw h.leaves (failed-tables limits posts queue target at has)
 
 -- a segment told
@@ -169,10 +169,10 @@ known-tables limits owner seg extent posts has = record {
         let new : slice_set t seg extent ≡ table = cc in
         ap length (sym new) ∙ length-set t seg extent ∙ has.known_segments rank t kt
 
-pub told-tables : (limits : Limits) (ranks me : ℕ) (p : Posts) (call : Call) (reply : Reply) (all : List Posts) → ((r : ℕ) (x : Posts) → slice_get all r ≡ Some x → HasTables limits x)
-    → (r : ℕ) (x : Posts) → slice_get (told ranks me p call reply all) r ≡ Some x → HasTables limits x
-told-tables limits ranks me p call reply all have r x h =
-    told-cases ranks me p call reply
+pub registered-tables : (limits : Limits) (ranks me : ℕ) (p : Posts) (call : Call) (reply : Reply) (all : List Posts) → ((r : ℕ) (x : Posts) → slice_get all r ≡ Some x → HasTables limits x)
+    → (r : ℕ) (x : Posts) → slice_get (registering ranks me p call reply all) r ≡ Some x → HasTables limits x
+registered-tables limits ranks me p call reply all have r x h =
+    registered-cases ranks me p call reply
     (λ same. have r x (rw (same all) at h))
     (λ x' is awake other same.
     by-rank x'.seg x'.rank (x'.rank == r) refl (slice_get all r) refl (sym (ap (λ (xs : List Posts). slice_get xs r) (same all) ∙ changed_at-get all x'.rank r (with_known me x'.seg (extent_in p.segments.own x'.seg))) ∙ h))

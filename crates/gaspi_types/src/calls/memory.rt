@@ -2,7 +2,7 @@
 
 ghost use Rattle.std.specs.Prelude.{◌≡◌, IfOk, IsOk, length};
 
-use crate::lists::{Bytes, Rows};
+use crate::lists::{Bytes, Sequence};
 use crate::memory::NoMemory;
 use std::alloc::Global;
 
@@ -31,7 +31,7 @@ impl Store {
         Ok(Store {
             seg: self.seg,
             offset: self.offset,
-            bytes: Rows::copied_from(alloc, self.bytes.as_slice())?,
+            bytes: Sequence::copied_from(alloc, self.bytes.as_slice())?,
         })
     }
 }

@@ -3,7 +3,7 @@
 ghost use Rattle.std.specs.Prelude.{◌≡◌, IfOk, IsOk, length};
 ghost use Rattle.gaspi_types.specs.Posts.{is_list_length, write_item, read_item, write_notify_item, read_notify_item};
 
-use crate::lists::Rows;
+use crate::lists::Sequence;
 use crate::memory::NoMemory;
 use std::alloc::Global;
 
@@ -90,7 +90,7 @@ pub struct ReadNotify {
 pub struct WriteList {
     pub rank: u64,
     pub queue: u64,
-    pub items: Rows<Item>,
+    pub items: Sequence<Item>,
 }
 
 /// Posts writes into segments of a rank, one for each item, and a notification behind them. (GASPI: write_list_notify)
@@ -101,7 +101,7 @@ pub struct WriteListNotify {
     pub nseg: u64,
     pub note: u64,
     pub value: u32,
-    pub items: Rows<Item>,
+    pub items: Sequence<Item>,
 }
 
 /// Posts reads from segments of a rank, one for each item. (GASPI: read_list)
@@ -109,7 +109,7 @@ pub struct WriteListNotify {
 pub struct ReadList {
     pub rank: u64,
     pub queue: u64,
-    pub items: Rows<Item>,
+    pub items: Sequence<Item>,
 }
 
 /// Posts reads from segments of a rank, one for each item, and behind them a notification of a slot of an own segment.
@@ -120,7 +120,7 @@ pub struct ReadListNotify {
     pub queue: u64,
     pub nseg: u64,
     pub note: u64,
-    pub items: Rows<Item>,
+    pub items: Sequence<Item>,
 }
 
 impl WriteList {
@@ -132,7 +132,7 @@ impl WriteList {
         Ok(WriteList {
             rank: self.rank,
             queue: self.queue,
-            items: Rows::copied_from(alloc, self.items.as_slice())?,
+            items: Sequence::copied_from(alloc, self.items.as_slice())?,
         })
     }
 }
@@ -149,7 +149,7 @@ impl WriteListNotify {
             nseg: self.nseg,
             note: self.note,
             value: self.value,
-            items: Rows::copied_from(alloc, self.items.as_slice())?,
+            items: Sequence::copied_from(alloc, self.items.as_slice())?,
         })
     }
 }
@@ -163,7 +163,7 @@ impl ReadList {
         Ok(ReadList {
             rank: self.rank,
             queue: self.queue,
-            items: Rows::copied_from(alloc, self.items.as_slice())?,
+            items: Sequence::copied_from(alloc, self.items.as_slice())?,
         })
     }
 }
@@ -179,7 +179,7 @@ impl ReadListNotify {
             queue: self.queue,
             nseg: self.nseg,
             note: self.note,
-            items: Rows::copied_from(alloc, self.items.as_slice())?,
+            items: Sequence::copied_from(alloc, self.items.as_slice())?,
         })
     }
 }

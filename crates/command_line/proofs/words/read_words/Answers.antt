@@ -6,7 +6,7 @@ use Rattle.clap.specs.Faults.{fault_of, is_simple_and_free}
 use Rattle.clap.specs.Kinds.{Kinds, HasKind}
 use Rattle.command_line.specs.Words.{the_app, words_in}
 use Rattle.command_line.specs.declared.words.Command.TheVariants.{Run, Step, Bench}
-use Rattle.command_line.proofs.Ranges.{command_read, fails_for, refused, taken, the_app_is_free, the_app_is_simple}
+use Rattle.command_line.proofs.Ranges.{command_read, fails_for, refused, accepted_in_range, the_app_is_free, the_app_is_simple}
 use Rattle.command_line.proofs.words.read_words.Goals as goal
 
 pub returns-in-Ok-clause-command : goal.returns-in-Ok-clause-command
@@ -16,7 +16,7 @@ returns-in-Ok-clause-command c =
     let fault : fault_of (app_of c.in_ok-program.program) words ≡ [] = c.in-Ok.ensures.kinds (ap is_simple_and_free same ∙ the_app_is_free) in
     let found = (c.in-Ok.ensures.matches (ap is_simple same ∙ the_app_is_simple)).1 in
     c.asked.ensures ∙ ap words_in (found ∙ ap (λ (app : App). subcommand_of app words) same)
-    ∙ taken words (sym (ap (λ (app : App). fault_of app words) same) ∙ fault)
+    ∙ accepted_in_range words (sym (ap (λ (app : App). fault_of app words) same) ∙ fault)
 
 pub returns-in-Ok-clause-workers : goal.returns-in-Ok-clause-workers
 returns-in-Ok-clause-workers c workers limit brief e =

@@ -9,7 +9,7 @@ pub returns-clause-told : goal.returns-clause-told
 returns-clause-told c =
     let first = c.in-Some.ensures.taken in
     let second = c.in-Some-try_take.ensures.taken in
-    let l = c.look.ensures.told in
+    let l = c.look.ensures.seen in
     stuck_carry c.args.pass.now.known c.try_take.new.pass.known c.try_take-2.new.pass.known c.look.new.pass.known c.give_back-2.new.pass.known c.give_back-3.new.pass.known c.look.result c.in-Some.first c.in-Some-try_take.second l.0 first.0 second.0
     (ap (λ p. p.known) first.1) first.2.stands (ap (λ p. p.known) second.1) second.2.stands l.1 (ap (λ p. p.known) c.give_back-2.ensures) (ap (λ p. p.known) c.give_back-3.ensures)
     (λ room. elim c.else-first-gt0.branch [

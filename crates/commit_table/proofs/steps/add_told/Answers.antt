@@ -1,6 +1,6 @@
 use Rattle.std.proofs.Common.{rules, arith}
 use Rattle.commit_table.proofs.History.{add_allowed}
-use Rattle.commit_table.proofs.Looking.{commits_told}
+use Rattle.commit_table.proofs.Looking.{commits_seen}
 use Rattle.commit_table.proofs.steps.add_told.Goals as goal
 
 pub fetch_add-requires : goal.fetch_add-requires
@@ -13,4 +13,4 @@ fetch_add-requires g c = let start = c.args.board.now.key.start in (
 pub returns-clause-told : goal.returns-clause-told
 returns-clause-told g c =
     let t = c.fetch_add.ensures.2 in
-    commits_told g.M.Sharded.machine g.J.Told.told c.args.event.now c.args.seat.now.me.0.known c.fetch_add.result c.fetch_add.new.seat.me c.requires.told t.0 t.1 t.2
+    commits_seen g.M.Sharded.machine g.J.Told.told c.args.event.now c.args.seat.now.me.0.known c.fetch_add.result c.fetch_add.new.seat.me c.requires.told t.0 t.1 t.2

@@ -1,5 +1,5 @@
 use Rattle.std.proofs.Common.{Ok, ap, ◌∙◌}
-use Rattle.gaspi_io.proofs.Given.{taken_later, all_came, piece_came}
+use Rattle.gaspi_io.proofs.GivenBytes.{taken_later, all_came, piece_came}
 use Rattle.gaspi_io.proofs.read.read_all.Goals as goal
 
 pub returns-in_err-read_piece-clause-taken : goal.returns-in_err-read_piece-clause-taken

@@ -1,5 +1,5 @@
 use Rattle.std.proofs.Common.{length, ◌-◌}
-use Rattle.gaspi_io.proofs.Given.{Read}
+use Rattle.gaspi_io.proofs.GivenBytes.{Read}
 use Rattle.gaspi_io.proofs.read.read_all.Given as goal
 
 abbrev pub invariant-loop-bytes : goal.invariant-loop-bytes

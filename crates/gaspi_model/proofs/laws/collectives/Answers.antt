@@ -1,4 +1,4 @@
-use Rattle.gaspi_model.proofs.Ordered.Collectives.{joins-counted, turns-counted, done-answers, turns-agree, group-grows, same-fold, barrier-joined}
+use Rattle.gaspi_model.proofs.Ordered.Collectives.{joins-counted, rounds-counted, done-answers, rounds-agree, group-grows, same-fold, barrier-joined}
 use Rattle.gaspi_model.proofs.Listed.Joinable.{barrier-joins, allreduce-joins}
 use Rattle.gaspi_model.proofs.Listed.Readiness.{ready-where-full, waits-where-late, unready-waits, timeout-waits}
 use Rattle.gaspi_model.proofs.laws.collectives.Goals as goal
@@ -7,7 +7,7 @@ pub returns-clause-counted : goal.returns-clause-counted
 returns-clause-counted c = joins-counted
 
 pub returns-clause-agree : goal.returns-clause-agree
-returns-clause-agree c = turns-agree
+returns-clause-agree c = rounds-agree
 
 pub returns-clause-grows : goal.returns-clause-grows
 returns-clause-grows c = group-grows
@@ -31,7 +31,7 @@ pub returns-clause-timed_out : goal.returns-clause-timed_out
 returns-clause-timed_out c = timeout-waits
 
 pub returns-clause-turns : goal.returns-clause-turns
-returns-clause-turns c = turns-counted
+returns-clause-turns c = rounds-counted
 
 pub returns-clause-answers : goal.returns-clause-answers
 returns-clause-answers c = done-answers

@@ -5,13 +5,13 @@ use Rattle.gaspi_types.specs.declared.replies.Ready.{Ready}
 use Rattle.gaspi_types.specs.declared.replies.Reply.TheVariants as replies
 use Rattle.gaspi_model.specs.Calls.{recorded_reply}
 use Rattle.gaspi_run.specs.Schedule.{looks_of, recorded}
-use Rattle.gaspi_run.specs.declared.turns.Waiting.{Waiting}
+use Rattle.gaspi_run.specs.declared.schedule_states.ActiveCaller.{ActiveCaller}
 use Rattle.gaspi_run.proofs.moves.look_again.Goals as goal
 
 pub returns-then-from : goal.returns-then-from
 returns-then-from c = λ w line there call timeout.
     let same : c.at.result.now ≡ w = cc in
-    let looks : c.at.result.now.looks ≡ w.looks = ap (λ (x : Waiting). x.looks) same in
+    let looks : c.at.result.now.looks ≡ w.looks = ap (λ (x : ActiveCaller). x.looks) same in
     let most : c.looks_of-most.result ≡ looks_of c.args.limit line.timeout = c.looks_of-most.ensures ∙ ap (looks_of c.args.limit) (sym timeout) in
     let last : nat_le (looks_of c.args.limit line.timeout) (w.looks + 1) ≡ true = grind (arith, nat_tests) in
     rw last

@@ -2,13 +2,13 @@ use Rattle.std.proofs.Common.{◌≡◌, ◌<◌, true, sym, subst}
 use Rattle.gaspi_texts.specs.JournalText.{HaveOwnValues}
 use Rattle.gaspi_model.specs.Step.{is_legal}
 use Rattle.gaspi_run.specs.Endings.{HasSettled, HaveEnded}
-use Rattle.gaspi_run.specs.declared.turns.Turns.{Turns}
+use Rattle.gaspi_run.specs.declared.schedule_states.ScheduleState.{ScheduleState}
 use Rattle.gaspi_run.proofs.ScheduleLoop.{known, laws, turned-active, turned-own, turned-less, turned-more, over-legal, over-ended, over-settled, end_laws}
 use Rattle.gaspi_run.proofs.Joins.{join-laws}
 use Rattle.gaspi_run.proofs.Work.{work}
 use Rattle.gaspi_run.proofs.scheduling.schedule.Goals as goal
 
-pub turn-requires : goal.turn-requires
+pub turn-requires : goal.iterate-requires
 turn-requires c =
     turned-active c.args.shape.now c.args.scripts.now c.args.seed c.args.limit _
     (known _ _ (laws c.soundness.ensures.steps c.soundness.ensures.limits c.soundness.ensures.active c.enabled.ensures.call (join-laws c.soundness.ensures.limits c.enabled.ensures.join c.enabled.ensures.itself c.enabled.ensures.joined c.enabled.ensures.pending c.enabled.ensures.needs) c.runs.ensures.onward c.runs.ensures.ended c.runs.ensures.stopped)
@@ -17,8 +17,8 @@ turn-requires c =
 
 pub loop-turns-smaller : goal.loop-turns-smaller
 loop-turns-smaller c =
-    let turned = c.in_ok-turn.ensures.turned (cc) in
-    subst (λ (t : Turns). work c.args.limit t < work c.args.limit c.loop-turns.turns) (sym turned.1)
+    let turned = c.in_ok-iterate.ensures.turned (cc) in
+    subst (λ (t : ScheduleState). work c.args.limit t < work c.args.limit c.loop-turns.turns) (sym turned.1)
     (turned-less c.args.shape.now c.args.scripts.now c.args.seed c.args.limit c.loop-turns.turns
     (known _ _ (laws c.soundness.ensures.steps c.soundness.ensures.limits c.soundness.ensures.active c.enabled.ensures.call (join-laws c.soundness.ensures.limits c.enabled.ensures.join c.enabled.ensures.itself c.enabled.ensures.joined c.enabled.ensures.pending c.enabled.ensures.needs) c.runs.ensures.onward c.runs.ensures.ended c.runs.ensures.stopped)
     c.soundness.ensures.counts c.enabled.ensures.transfer c.soundness.ensures.opens c.in_ok-starts.ensures.world c.requires.scripts c.in_ok-starts.ensures.plain)
@@ -26,12 +26,12 @@ loop-turns-smaller c =
 
 pub loop-turns-preserved : goal.loop-turns-preserved
 loop-turns-preserved c =
-    turned-more c.args.shape.now c.args.scripts.now c.args.seed c.args.limit c.loop-turns.turns _ c.loop-turns.invariant (c.in_ok-turn.ensures.turned (cc)).1
+    turned-more c.args.shape.now c.args.scripts.now c.args.seed c.args.limit c.loop-turns.turns _ c.loop-turns.invariant (c.in_ok-iterate.ensures.turned (cc)).1
 
 pub returns-clause-legal : goal.returns-clause-legal
 returns-clause-legal c =
-    let over = c.in_ok-turn.ensures.over (cc) in
-    subst (λ (t : Turns). is_legal c.args.shape.now t.journal ≡ true) (sym over.1)
+    let over = c.in_ok-iterate.ensures.over (cc) in
+    subst (λ (t : ScheduleState). is_legal c.args.shape.now t.journal ≡ true) (sym over.1)
     (over-legal c.args.shape.now c.args.scripts.now c.args.seed c.args.limit c.loop-turns.turns
     (known _ _ (laws c.soundness.ensures.steps c.soundness.ensures.limits c.soundness.ensures.active c.enabled.ensures.call (join-laws c.soundness.ensures.limits c.enabled.ensures.join c.enabled.ensures.itself c.enabled.ensures.joined c.enabled.ensures.pending c.enabled.ensures.needs) c.runs.ensures.onward c.runs.ensures.ended c.runs.ensures.stopped)
     c.soundness.ensures.counts c.enabled.ensures.transfer c.soundness.ensures.opens c.in_ok-starts.ensures.world c.requires.scripts c.in_ok-starts.ensures.plain)
@@ -39,8 +39,8 @@ returns-clause-legal c =
 
 pub returns-clause-runs : goal.returns-clause-runs
 returns-clause-runs c =
-    let over = c.in_ok-turn.ensures.over (cc) in
-    subst (λ (t : Turns). HaveEnded c.args.shape.now c.args.scripts.now t.journal t.finished) (sym over.1)
+    let over = c.in_ok-iterate.ensures.over (cc) in
+    subst (λ (t : ScheduleState). HaveEnded c.args.shape.now c.args.scripts.now t.journal t.ended) (sym over.1)
     (over-ended c.args.shape.now c.args.scripts.now c.args.seed c.args.limit c.loop-turns.turns
     (known _ _ (laws c.soundness.ensures.steps c.soundness.ensures.limits c.soundness.ensures.active c.enabled.ensures.call (join-laws c.soundness.ensures.limits c.enabled.ensures.join c.enabled.ensures.itself c.enabled.ensures.joined c.enabled.ensures.pending c.enabled.ensures.needs) c.runs.ensures.onward c.runs.ensures.ended c.runs.ensures.stopped)
     c.soundness.ensures.counts c.enabled.ensures.transfer c.soundness.ensures.opens c.in_ok-starts.ensures.world c.requires.scripts c.in_ok-starts.ensures.plain)
@@ -48,8 +48,8 @@ returns-clause-runs c =
 
 pub returns-clause-settled : goal.returns-clause-settled
 returns-clause-settled c =
-    let over = c.in_ok-turn.ensures.over (cc) in
-    subst (λ (t : Turns). HasSettled c.args.shape.now t.journal) (sym over.1)
+    let over = c.in_ok-iterate.ensures.over (cc) in
+    subst (λ (t : ScheduleState). HasSettled c.args.shape.now t.journal) (sym over.1)
     (over-settled c.args.shape.now c.args.scripts.now c.args.seed c.args.limit c.loop-turns.turns
     (known _ _ (laws c.soundness.ensures.steps c.soundness.ensures.limits c.soundness.ensures.active c.enabled.ensures.call (join-laws c.soundness.ensures.limits c.enabled.ensures.join c.enabled.ensures.itself c.enabled.ensures.joined c.enabled.ensures.pending c.enabled.ensures.needs) c.runs.ensures.onward c.runs.ensures.ended c.runs.ensures.stopped)
     c.soundness.ensures.counts c.enabled.ensures.transfer c.soundness.ensures.opens c.in_ok-starts.ensures.world c.requires.scripts c.in_ok-starts.ensures.plain)
@@ -58,8 +58,8 @@ returns-clause-settled c =
 
 pub journal_is_in_range-requires : goal.journal_is_in_range-requires
 journal_is_in_range-requires c =
-    let over = c.in_ok-turn.ensures.over (cc) in
-    subst (λ (t : Turns). HaveOwnValues t.journal) (sym over.1)
+    let over = c.in_ok-iterate.ensures.over (cc) in
+    subst (λ (t : ScheduleState). HaveOwnValues t.journal) (sym over.1)
     (turned-own c.args.shape.now c.args.scripts.now c.args.seed c.args.limit c.loop-turns.turns
     (known _ _ (laws c.soundness.ensures.steps c.soundness.ensures.limits c.soundness.ensures.active c.enabled.ensures.call (join-laws c.soundness.ensures.limits c.enabled.ensures.join c.enabled.ensures.itself c.enabled.ensures.joined c.enabled.ensures.pending c.enabled.ensures.needs) c.runs.ensures.onward c.runs.ensures.ended c.runs.ensures.stopped)
     c.soundness.ensures.counts c.enabled.ensures.transfer c.soundness.ensures.opens c.in_ok-starts.ensures.world c.requires.scripts c.in_ok-starts.ensures.plain)
@@ -67,8 +67,8 @@ journal_is_in_range-requires c =
 
 pub returns-clause-values : goal.returns-clause-values
 returns-clause-values c =
-    let over = c.in_ok-turn.ensures.over (cc) in
-    subst (λ (t : Turns). HaveOwnValues t.journal) (sym over.1)
+    let over = c.in_ok-iterate.ensures.over (cc) in
+    subst (λ (t : ScheduleState). HaveOwnValues t.journal) (sym over.1)
     (turned-own c.args.shape.now c.args.scripts.now c.args.seed c.args.limit c.loop-turns.turns
     (known _ _ (laws c.soundness.ensures.steps c.soundness.ensures.limits c.soundness.ensures.active c.enabled.ensures.call (join-laws c.soundness.ensures.limits c.enabled.ensures.join c.enabled.ensures.itself c.enabled.ensures.joined c.enabled.ensures.pending c.enabled.ensures.needs) c.runs.ensures.onward c.runs.ensures.ended c.runs.ensures.stopped)
     c.soundness.ensures.counts c.enabled.ensures.transfer c.soundness.ensures.opens c.in_ok-starts.ensures.world c.requires.scripts c.in_ok-starts.ensures.plain)

@@ -1,7 +1,7 @@
 use Rattle.std.proofs.Common.{◌≡◌, ◌<◌, ◌++◌, List, length, sym, ap, ◌∙◌, append-nil, arith, option_to_list}
-use Rattle.gaspi_run.specs.Parts.{finished_of}
-use Rattle.gaspi_run.specs.declared.turns.Finished.{Finished}
-use Rattle.gaspi_run.proofs.RunParts.{finished-more, told-more}
+use Rattle.gaspi_run.specs.ThreadBodies.{finished_of}
+use Rattle.gaspi_run.specs.declared.schedule_states.EndedCaller.{EndedCaller}
+use Rattle.gaspi_run.proofs.BodyRuns.{finished-more, told-more}
 use Rattle.gaspi_run.proofs.tasks.outcomes_of.Goals as goal
 use Rattle.gaspi_run.proofs.tasks.outcomes_of.Goals.{in-Some+in_ok-push, in_default}
 
@@ -10,12 +10,12 @@ loop-task-preserved c =
     let tasks = c.args.tasks.now in
     let i = c.loop-task.task-index in
     let task = c.task-item.result in
-    let had : List Finished = c.loop-task.outcomes in
+    let had : List EndedCaller = c.loop-task.outcomes in
     let less : i < length tasks = omega arith in
     let found = c.in_ok-finished.ensures in
     let more : c.match-branch-3.outcomes ≡ had ++ finished_of task.body =
     elim c.match-branch-3.branch [
-      | in-Some+in_ok-push w ↦ w.outcomes-is ∙ (w.in_ok-push.ensures.ok ∙ ap (λ (fs : List Finished). had ++ fs) (sym (ap (option_to_list {X = Finished}) w.in-Some.is) ∙ found.finished))
-      | in_default w ↦ w.outcomes-is ∙ (sym (append-nil had) ∙ ap (λ (fs : List Finished). had ++ fs) (sym (ap (option_to_list {X = Finished}) w.in_default.is) ∙ found.finished))
+      | in-Some+in_ok-push w ↦ w.outcomes-is ∙ (w.in_ok-push.ensures.ok ∙ ap (λ (fs : List EndedCaller). had ++ fs) (sym (ap (option_to_list {X = EndedCaller}) w.in-Some.is) ∙ found.ended))
+      | in_default w ↦ w.outcomes-is ∙ (sym (append-nil had) ∙ ap (λ (fs : List EndedCaller). had ++ fs) (sym (ap (option_to_list {X = EndedCaller}) w.in_default.is) ∙ found.ended))
     ] in
     (finished-more tasks i task had c.match-branch-3.outcomes less c.task-item.is c.loop-task.invariant.0 more, told-more tasks i task less c.task-item.is c.loop-task.invariant.1 found.told)

@@ -1,6 +1,6 @@
 use Rattle.std.proofs.Common.{◌≡◌, take}
 use Rattle.std.specs.List.{All}
-use Rattle.gaspi_run.specs.Parts.{IsDone, finished_in}
+use Rattle.gaspi_run.specs.ThreadBodies.{IsDone, finished_in}
 use Rattle.gaspi_run.proofs.tasks.outcomes_of.Given as goal
 
 abbrev pub invariant-loop-task : goal.invariant-loop-task

@@ -1,9 +1,9 @@
 use Rattle.std.proofs.Common.{◌≡◌, ℕ, ◌∷◌, ◌++◌, [], List, length, length-append, sym, ap, subst, arith}
 use Rattle.std.proofs.lemmas.Grind.{common_steps}
 use Rattle.gaspi_world.specs.declared.launching.Task.{Task}
-use Rattle.gaspi_run.specs.Parts.{EachAt, IsReady}
-use Rattle.gaspi_run.specs.declared.parts.Part.{Part}
-use Rattle.gaspi_run.proofs.RunParts.{each-more}
+use Rattle.gaspi_run.specs.ThreadBodies.{EachAt, IsReady}
+use Rattle.gaspi_run.specs.declared.thread_bodies.ThreadBody.{ThreadBody}
+use Rattle.gaspi_run.proofs.BodyRuns.{each-more}
 use Rattle.gaspi_run.proofs.tasks.tasks_of.Goals as goal
 
 pub loop-pass-preserved : goal.loop-pass-preserved
@@ -15,6 +15,6 @@ loop-pass-preserved c =
     let ready = subst (λ (n : ℕ). IsReady c.args.world.now c.args.scripts.now c.args.limit n task) place c.in_ok-task.ensures in
     let all = each-more (IsReady c.args.world.now c.args.scripts.now c.args.limit) tasks task c.loop-pass.invariant.1 ready in (
       omega (arith, ap length more, length-append tasks (task ∷ []), length-append c.loop-pass.yielded (c.in-Some.pass ∷ []), c.loop-pass.invariant.0),
-      subst (λ (ts : List (Task Part)). EachAt (IsReady c.args.world.now c.args.scripts.now c.args.limit) ts) (sym more) all,
+      subst (λ (ts : List (Task ThreadBody)). EachAt (IsReady c.args.world.now c.args.scripts.now c.args.limit) ts) (sym more) all,
       grind (arith, common_steps),
     )

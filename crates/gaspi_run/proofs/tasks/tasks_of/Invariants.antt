@@ -1,5 +1,5 @@
 use Rattle.std.proofs.Common.{◌≡◌, ◌++◌, length}
-use Rattle.gaspi_run.specs.Parts.{EachAt, IsReady}
+use Rattle.gaspi_run.specs.ThreadBodies.{EachAt, IsReady}
 use Rattle.gaspi_run.proofs.tasks.tasks_of.Given as goal
 
 abbrev pub invariant-loop-pass : goal.invariant-loop-pass

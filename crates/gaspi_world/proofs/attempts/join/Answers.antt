@@ -5,7 +5,7 @@ use Rattle.gaspi_types.specs.declared.calls.Call.{Call}
 use Rattle.gaspi_types.specs.declared.events.Event.TheVariants.{Joined}
 use Rattle.gaspi_model.specs.Step.{is_legal}
 use Rattle.rank_node.specs.Collectives.{IsPendingFor}
-use Rattle.gaspi_world.specs.Holds.{Added}
+use Rattle.gaspi_world.specs.HeldShards.{IsCommitted}
 use Rattle.gaspi_world.proofs.AttemptedCalls.{lent-call, lends-call, answer-at, me-is, join-group-there, named-is, join-itself, join-legal, join-made, after-join}
 use Rattle.gaspi_world.proofs.CommittedNodes.{agrees-self, sound-at}
 use Rattle.gaspi_world.proofs.attempts.join.Goals as goal
@@ -53,7 +53,7 @@ returns-clause-added c =
     let on = c.requires.holder in
     let named = c.call_group-group.ensures ∙ ap (λ (r : CallRow). r.group) (c.args.invocation.now.rowed ∙ ap row_of (sym c.requires.call)) in
     let same = named-is w c.requires.world c.args.invocation.now.caller c.args.call.now c.args.args c.args.held.now c.args.pass.now.known on.held on.own on.other on.caller c.requires.joins c.call_group-group.result named in
-    subst (λ (n : ℕ). Added w c.args.pass.now.known (Joined c.args.invocation.now.caller n c.args.args) c.commit_join.new.pass.known) (sym same) c.commit_join.ensures.added
+    subst (λ (n : ℕ). IsCommitted w c.args.pass.now.known (Joined c.args.invocation.now.caller n c.args.args) c.commit_join.new.pass.known) (sym same) c.commit_join.ensures.added
 
 pub returns-clause-found : goal.returns-clause-found
 returns-clause-found c =
@@ -62,7 +62,7 @@ returns-clause-found c =
     let n = c.commit_join.new.pass.known in
     let named = c.call_group-group.ensures ∙ ap (λ (r : CallRow). r.group) (c.args.invocation.now.rowed ∙ ap row_of (sym c.requires.call)) in
     let same = named-is w c.requires.world c.args.invocation.now.caller c.args.call.now c.args.args c.args.held.now c.args.pass.now.known on.held on.own on.other on.caller c.requires.joins c.call_group-group.result named in
-    let added = subst (λ (i : ℕ). Added w c.args.pass.now.known (Joined c.args.invocation.now.caller i c.args.args) n) (sym same) c.commit_join.ensures.added in
+    let added = subst (λ (i : ℕ). IsCommitted w c.args.pass.now.known (Joined c.args.invocation.now.caller i c.args.args) n) (sym same) c.commit_join.ensures.added in
     let own = c.commit_join.ensures.shards.0 ∙ on.own in
     let other = c.commit_join.ensures.shards.1 ∙ on.other in
     let holds = c.commit_join.ensures.held in

@@ -2,12 +2,12 @@ use Rattle.std.proofs.Common.{[], ◌∷◌, refl, sym, ap, ◌∙◌, subst}
 use Rattle.gaspi_types.specs.declared.calls.Call.{Call}
 use Rattle.gaspi_types.specs.declared.events.Event.TheVariants.{Called}
 use Rattle.gaspi_model.specs.CollectiveCalls.{join_event}
-use Rattle.gaspi_world.specs.Attempts.{is_waiting}
-use Rattle.gaspi_world.specs.Holds.{Added}
-use Rattle.gaspi_world.specs.Works.{MayRecord}
+use Rattle.gaspi_world.specs.Attempts.{is_unready}
+use Rattle.gaspi_world.specs.HeldShards.{IsCommitted}
+use Rattle.gaspi_world.specs.HeldAttempts.{MayRecord}
 use Rattle.gaspi_world.proofs.AttemptedCalls.{lent-call}
 use Rattle.gaspi_world.proofs.CommittedNodes.{agrees-self}
-use Rattle.gaspi_world.proofs.Working.{worked-joined, recorded-worked, early-worked}
+use Rattle.gaspi_world.proofs.Working.{attempted-joined, recorded-attempted, early-attempted}
 use Rattle.gaspi_world.proofs.attempts.join_first.Goals as goal
 
 pub room-requires : goal.room-requires
@@ -24,10 +24,10 @@ returns-then-is_early-clause-worked c =
     let found = c.requires.joins.finds v.seen on.held.shards.legal agree in
     let room = c.requires.joins.room v.seen on.held.shards.legal agree in
     let found_then = subst (λ (x : Call). MayRecord w c.args.invocation.now.caller x c.join-found.result c.join-found.new.pass.known.seen) c.in-Ok-copy.ensures.ok c.join-found.ensures.found in
-    let added = subst (λ (x : Call). Added w v (join_event c.args.invocation.now.caller x c.args.args) c.join-found.new.pass.known) c.in-Ok-copy.ensures.ok c.join-found.ensures.added in
+    let added = subst (λ (x : Call). IsCommitted w v (join_event c.args.invocation.now.caller x c.args.args) c.join-found.new.pass.known) c.in-Ok-copy.ensures.ok c.join-found.ensures.added in
     let e = join_event c.args.invocation.now.caller c.args.invocation.now.call.now c.args.args in
-    early-worked w c.args.invocation.now.caller c.args.invocation.now.call.now (e ∷ []) c.args.look c.join-found.result v c.join-found.new.pass.known c.join-found.new.pass.known found_then.finds
-    (worked-joined w c.args.invocation.now.caller c.args.invocation.now.call.now v c.join-found.new.pass.known c.args.args on.caller found added) room (λ is. ap is_waiting found) (sym c.is_early.ensures ∙ c.if-is_early.true) refl
+    early-attempted w c.args.invocation.now.caller c.args.invocation.now.call.now (e ∷ []) c.args.look c.join-found.result v c.join-found.new.pass.known c.join-found.new.pass.known found_then.finds
+    (attempted-joined w c.args.invocation.now.caller c.args.invocation.now.call.now v c.join-found.new.pass.known c.args.args on.caller found added) room (λ is. ap is_unready found) (sym c.is_early.ensures ∙ c.if-is_early.true) refl
 
 pub returns-clause-worked : goal.returns-clause-worked
 returns-clause-worked c =
@@ -38,8 +38,8 @@ returns-clause-worked c =
     let found = c.requires.joins.finds v.seen on.held.shards.legal agree in
     let room = c.requires.joins.room v.seen on.held.shards.legal agree in
     let found_then = subst (λ (x : Call). MayRecord w c.args.invocation.now.caller x c.join-found.result c.join-found.new.pass.known.seen) c.in-Ok-copy.ensures.ok c.join-found.ensures.found in
-    let added = subst (λ (x : Call). Added w v (join_event c.args.invocation.now.caller x c.args.args) c.join-found.new.pass.known) c.in-Ok-copy.ensures.ok c.join-found.ensures.added in
+    let added = subst (λ (x : Call). IsCommitted w v (join_event c.args.invocation.now.caller x c.args.args) c.join-found.new.pass.known) c.in-Ok-copy.ensures.ok c.join-found.ensures.added in
     let e = join_event c.args.invocation.now.caller c.args.invocation.now.call.now c.args.args in
-    recorded-worked w c.args.invocation.now.caller c.args.invocation.now.call.now (e ∷ []) c.args.look c.join-found.result v c.join-found.new.pass.known c.record_with.new.pass.known c.record_with.result on.caller c.join-found.ensures.holder.held.shards.legal found_then.finds found_then.unjoined
-    (worked-joined w c.args.invocation.now.caller c.args.invocation.now.call.now v c.join-found.new.pass.known c.args.args on.caller found added) room (λ is. ap is_waiting found) c.record_with.ensures.reply (sym c.is_early.ensures ∙ c.if-is_early.false)
-    (subst (λ (x : Call). Added w c.join-found.new.pass.known (Called c.args.invocation.now.caller x c.record_with.result) c.record_with.new.pass.known) c.in-Ok-copy.ensures.ok c.record_with.ensures.added)
+    recorded-attempted w c.args.invocation.now.caller c.args.invocation.now.call.now (e ∷ []) c.args.look c.join-found.result v c.join-found.new.pass.known c.record_with.new.pass.known c.record_with.result on.caller c.join-found.ensures.holder.held.shards.legal found_then.finds found_then.unjoined
+    (attempted-joined w c.args.invocation.now.caller c.args.invocation.now.call.now v c.join-found.new.pass.known c.args.args on.caller found added) room (λ is. ap is_unready found) c.record_with.ensures.reply (sym c.is_early.ensures ∙ c.if-is_early.false)
+    (subst (λ (x : Call). IsCommitted w c.join-found.new.pass.known (Called c.args.invocation.now.caller x c.record_with.result) c.record_with.new.pass.known) c.in-Ok-copy.ensures.ok c.record_with.ensures.added)

@@ -1,6 +1,6 @@
 use Rattle.std.proofs.Common.{◌≡◌, true, List, Some, sym, ap, ◌∙◌, subst}
 use Rattle.gaspi_types.specs.declared.events.Event.{Event}
-use Rattle.gaspi_types.specs.World.{IsWorld}
+use Rattle.gaspi_types.specs.World.{IsShape}
 use Rattle.gaspi_model.specs.Step.{is_legal}
 use Rattle.commit_table.specs.Calls.{TableValue, AreWhole, AreShards, Closed}
 use Rattle.gaspi_model.specs.ContributionCounts.{ContributesOnce}
@@ -20,7 +20,7 @@ merged-requires c =
     let journal = c.close-shards.result.tally.journal in
     let closed = subst (λ (t : TableValue Start). Closed (world_machine t.start.shape) journal c.close-shards.result.tally.passes) c.into_table.ensures c.close-shards.ensures.journal in
     let are = subst (λ (t : TableValue Start). AreShards (world_machine t.start.shape) c.close-shards.result.shards.items journal) c.into_table.ensures c.close-shards.ensures.shards in
-    let world = subst IsWorld c.shape.ensures c.limits.ensures.world in
+    let world = subst IsShape c.shape.ensures c.limits.ensures.world in
     record { room = (shape, journal, world, are, closed.legal, c.requires.room) }
 
 pub returns-clause-tally : goal.returns-clause-tally
@@ -29,7 +29,7 @@ returns-clause-tally c =
     let journal = c.close-shards.result.tally.journal in
     let closed = subst (λ (t : TableValue Start). Closed (world_machine t.start.shape) journal c.close-shards.result.tally.passes) c.into_table.ensures c.close-shards.ensures.journal in
     let are = subst (λ (t : TableValue Start). AreShards (world_machine t.start.shape) c.close-shards.result.shards.items journal) c.into_table.ensures c.close-shards.ensures.shards in
-    let world = subst IsWorld c.shape.ensures c.limits.ensures.world in
+    let world = subst IsShape c.shape.ensures c.limits.ensures.world in
     (c.close-shards.ensures.start ∙ ap (λ (t : TableValue Start). Some t.start) c.into_table.ensures, sym (c.merged.ensures shape journal world are closed.legal))
 
 pub returns-clause-legal : goal.returns-clause-legal
@@ -38,7 +38,7 @@ returns-clause-legal c =
     let journal = c.close-shards.result.tally.journal in
     let closed = subst (λ (t : TableValue Start). Closed (world_machine t.start.shape) journal c.close-shards.result.tally.passes) c.into_table.ensures c.close-shards.ensures.journal in
     let are = subst (λ (t : TableValue Start). AreShards (world_machine t.start.shape) c.close-shards.result.shards.items journal) c.into_table.ensures c.close-shards.ensures.shards in
-    let world = subst IsWorld c.shape.ensures c.limits.ensures.world in
+    let world = subst IsShape c.shape.ensures c.limits.ensures.world in
     subst (λ (h : List Event). is_legal shape h ≡ true) (sym (c.merged.ensures shape journal world are closed.legal)) closed.legal
 
 pub returns-clause-seen : goal.returns-clause-seen
@@ -47,7 +47,7 @@ returns-clause-seen c =
     let journal = c.close-shards.result.tally.journal in
     let closed = subst (λ (t : TableValue Start). Closed (world_machine t.start.shape) journal c.close-shards.result.tally.passes) c.into_table.ensures c.close-shards.ensures.journal in
     let are = subst (λ (t : TableValue Start). AreShards (world_machine t.start.shape) c.close-shards.result.shards.items journal) c.into_table.ensures c.close-shards.ensures.shards in
-    let world = subst IsWorld c.shape.ensures c.limits.ensures.world in
+    let world = subst IsShape c.shape.ensures c.limits.ensures.world in
     let passes = c.args.passes.items in
     subst (λ (h : List Event). HaveSeen h passes) (sym (c.merged.ensures shape journal world are closed.legal)) (seen-all shape journal passes c.close-shards.result.tally.passes closed c.close-shards.ensures.passes)
 
@@ -57,7 +57,7 @@ returns-clause-done c =
     let journal = c.close-shards.result.tally.journal in
     let closed = subst (λ (t : TableValue Start). Closed (world_machine t.start.shape) journal c.close-shards.result.tally.passes) c.into_table.ensures c.close-shards.ensures.journal in
     let are = subst (λ (t : TableValue Start). AreShards (world_machine t.start.shape) c.close-shards.result.shards.items journal) c.into_table.ensures c.close-shards.ensures.shards in
-    let world = subst IsWorld c.shape.ensures c.limits.ensures.world in
+    let world = subst IsShape c.shape.ensures c.limits.ensures.world in
     let passes = c.args.passes.items in
     subst (λ (h : List Event). HaveDone shape h passes) (sym (c.merged.ensures shape journal world are closed.legal)) (done-all shape journal passes c.close-shards.result.tally.passes closed c.close-shards.ensures.passes world)
 
@@ -67,7 +67,7 @@ returns-clause-handed c =
     let journal = c.close-shards.result.tally.journal in
     let closed = subst (λ (t : TableValue Start). Closed (world_machine t.start.shape) journal c.close-shards.result.tally.passes) c.into_table.ensures c.close-shards.ensures.journal in
     let are = subst (λ (t : TableValue Start). AreShards (world_machine t.start.shape) c.close-shards.result.shards.items journal) c.into_table.ensures c.close-shards.ensures.shards in
-    let world = subst IsWorld c.shape.ensures c.limits.ensures.world in
+    let world = subst IsShape c.shape.ensures c.limits.ensures.world in
     subst (λ (h : List Event). HandsOutOnce shape h) (sym (c.merged.ensures shape journal world are closed.legal)) (c.notification_values.ensures shape journal world closed.legal)
 
 pub returns-clause-contributed : goal.returns-clause-contributed
@@ -76,5 +76,5 @@ returns-clause-contributed c =
     let journal = c.close-shards.result.tally.journal in
     let closed = subst (λ (t : TableValue Start). Closed (world_machine t.start.shape) journal c.close-shards.result.tally.passes) c.into_table.ensures c.close-shards.ensures.journal in
     let are = subst (λ (t : TableValue Start). AreShards (world_machine t.start.shape) c.close-shards.result.shards.items journal) c.into_table.ensures c.close-shards.ensures.shards in
-    let world = subst IsWorld c.shape.ensures c.limits.ensures.world in
+    let world = subst IsShape c.shape.ensures c.limits.ensures.world in
     subst (λ (h : List Event). ContributesOnce shape h) (sym (c.merged.ensures shape journal world are closed.legal)) (c.contribution_counts.ensures shape journal world closed.legal)

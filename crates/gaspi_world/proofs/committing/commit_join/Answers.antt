@@ -4,9 +4,9 @@ use Rattle.gaspi_world.specs.Numbering.{by_ranks}
 use Rattle.gaspi_world.specs.ShardMachine.{state_after}
 use Rattle.gaspi_world.proofs.HeldShards.{may-commit, added}
 use Rattle.std.proofs.Common.{◌++◌, ◌∷◌, [], refl, sym, ◌∙◌}
-use Rattle.gaspi_world.specs.Holds.{values_of}
+use Rattle.gaspi_world.specs.HeldShards.{values_of}
 use Rattle.gaspi_world.specs.Shards.{node_meaning}
-use Rattle.gaspi_world.proofs.CommittedNodes.{shards-of, step-on, committed-holds, own-party, join-reach, join-touches-own, own-at, agrees-self}
+use Rattle.gaspi_world.proofs.CommittedNodes.{shards-of, step-on, committed-holds, own-party, join-footprint, join-touches-own, own-at, agrees-self}
 use Rattle.gaspi_world.proofs.committing.commit_join.Goals as goal
 
 pub commit-place-requires-clause-may : goal.commit-place-requires-clause-may
@@ -23,21 +23,21 @@ record_join-requires-clause-step c =
       state_after w c.args.pass.now.known.seen,
       state_after w (c.args.pass.now.known.seen ++ e ∷ []),
       step-on w c.requires.world c.args.held.now c.args.pass.now.known c.requires.held e c.requires.shards.0
-          (join-reach w c.args.held.now.own c.args.caller c.args.group c.args.args c.args.held.now.nodes.own.value.posts.posts c.requires.shards.0) (join-touches-own w c.args.caller c.args.group c.args.args c.args.held.now.nodes.own.value.posts.posts c.args.held.now.other c.requires.shards.1) c.requires.step,
+          (join-footprint w c.args.held.now.own c.args.caller c.args.group c.args.args c.args.held.now.nodes.own.value.posts.posts c.requires.shards.0) (join-touches-own w c.args.caller c.args.group c.args.args c.args.held.now.nodes.own.value.posts.posts c.args.held.now.other c.requires.shards.1) c.requires.step,
     )
 
 pub returns-clause-held : goal.returns-clause-held
 returns-clause-held c =
     let w = c.args.table.now.start.shape in
     let e = Joined c.args.caller c.args.group c.args.args in
-    let told = c.commit-place.ensures.told in
+    let told = c.commit-place.ensures.seen in
     committed-holds w c.requires.world c.args.held.now c.args.pass.now.known c.requires.held e c.commit-place.result told.0 c.commit-place.new.pass.known c.record_join.new.nodes c.requires.shards.0
-    (join-reach w c.args.held.now.own c.args.caller c.args.group c.args.args c.args.held.now.nodes.own.value.posts.posts c.requires.shards.0) (join-touches-own w c.args.caller c.args.group c.args.args c.args.held.now.nodes.own.value.posts.posts c.args.held.now.other c.requires.shards.1) c.record_join.ensures.kind c.record_join.ensures.left told.1
+    (join-footprint w c.args.held.now.own c.args.caller c.args.group c.args.args c.args.held.now.nodes.own.value.posts.posts c.requires.shards.0) (join-touches-own w c.args.caller c.args.group c.args.args c.args.held.now.nodes.own.value.posts.posts c.args.held.now.other c.requires.shards.1) c.record_join.ensures.kind c.record_join.ensures.left told.1
 
 pub returns-clause-added : goal.returns-clause-added
 returns-clause-added c =
     let w = c.args.table.now.start.shape in
-    let told = c.commit-place.ensures.told in
+    let told = c.commit-place.ensures.seen in
     added (by_ranks w) w (node_meaning w) (party_of w) c.args.pass.now.known c.commit-place.new.pass.known (Joined c.args.caller c.args.group c.args.args) c.commit-place.result told.0 told.1
 
 pub record_join-requires-clause-joined : goal.record_join-requires-clause-joined

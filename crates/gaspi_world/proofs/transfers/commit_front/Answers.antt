@@ -51,7 +51,7 @@ returns-then-t-clause-held c =
     let laws : FrontLaws = record { steps = c.fronts_are_steps.ensures.steps; footprint = c.front_footprints.ensures } in
     let ends = c.outcome-outcome.ensures.machine (state_after w v.seen) (sound-seen w c.requires.world laws h v c.requires.held t c.requires.front) (lends-front w c.requires.world laws h v c.requires.held t c.requires.front) in
     let first = c.fronts_are_steps.ensures.put h.nodes.own.value.posts t c.requires.front.front c.if-t.true in
-    let told = c.commit-place.ensures.told in
+    let told = c.commit-place.ensures.seen in
     committed-front w c.requires.world laws h v c.requires.held t c.requires.front outcome ends.1 c.event_of.result (put_of t outcome) c.commit-place.result told.0 c.commit-place.new.pass.known c.put.new.self c.event_of.ensures (event-put t outcome c.if-t.true) c.put.ensures.kind told.1
     (λ s after on. c.put.ensures.left s after outcome on first)
 
@@ -65,7 +65,7 @@ returns-else-t-clause-held c =
     let laws : FrontLaws = record { steps = c.fronts_are_steps.ensures.steps; footprint = c.front_footprints.ensures } in
     let ends = c.outcome-outcome.ensures.machine (state_after w v.seen) (sound-seen w c.requires.world laws h v c.requires.held t c.requires.front) (lends-front w c.requires.world laws h v c.requires.held t c.requires.front) in
     let first = c.fronts_are_steps.ensures.take h.nodes.own.value.posts t c.requires.front.front c.if-t.false in
-    let told = c.commit-place.ensures.told in
+    let told = c.commit-place.ensures.seen in
     committed-front w c.requires.world laws h v c.requires.held t c.requires.front outcome ends.1 c.event_of.result (take_of t outcome) c.commit-place.result told.0 c.commit-place.new.pass.known c.take.new.self c.event_of.ensures (event-take t outcome c.if-t.false) c.take.ensures.kind told.1
     (λ s after on. c.take.ensures.left s after outcome on first)
 
@@ -78,7 +78,7 @@ returns-then-t-clause-moved c =
     let outcome = c.outcome-outcome.result in
     let laws : FrontLaws = record { steps = c.fronts_are_steps.ensures.steps; footprint = c.front_footprints.ensures } in
     let ends = c.outcome-outcome.ensures.machine (state_after w v.seen) (sound-seen w c.requires.world laws h v c.requires.held t c.requires.front) (lends-front w c.requires.world laws h v c.requires.held t c.requires.front) in
-    let told = c.commit-place.ensures.told in
+    let told = c.commit-place.ensures.seen in
     moved-behind w c.requires.world laws h v c.requires.held t c.requires.front outcome ends.1 c.event_of.result c.commit-place.result told.0 c.commit-place.new.pass.known c.event_of.ensures told.1
 
 pub returns-else-t-clause-moved : goal.returns-else-t-clause-moved
@@ -90,5 +90,5 @@ returns-else-t-clause-moved c =
     let outcome = c.outcome-outcome.result in
     let laws : FrontLaws = record { steps = c.fronts_are_steps.ensures.steps; footprint = c.front_footprints.ensures } in
     let ends = c.outcome-outcome.ensures.machine (state_after w v.seen) (sound-seen w c.requires.world laws h v c.requires.held t c.requires.front) (lends-front w c.requires.world laws h v c.requires.held t c.requires.front) in
-    let told = c.commit-place.ensures.told in
+    let told = c.commit-place.ensures.seen in
     moved-behind w c.requires.world laws h v c.requires.held t c.requires.front outcome ends.1 c.event_of.result c.commit-place.result told.0 c.commit-place.new.pass.known c.event_of.ensures told.1

@@ -1,5 +1,5 @@
 use Rattle.std.proofs.Common.{ℕ, ◌∙◌, ap, subst}
-use Rattle.gaspi_world.specs.Moves.{HasMoved}
+use Rattle.gaspi_world.specs.Transfers.{HasMoved}
 use Rattle.gaspi_world.proofs.Following.{follows-other, follows-front}
 use Rattle.gaspi_world.proofs.Movings.{moved-then}
 use Rattle.gaspi_world.proofs.transfers.follow.Goals as goal

@@ -1,5 +1,5 @@
 use Rattle.std.proofs.Common.{ℕ, ◌∙◌, refl, subst}
-use Rattle.gaspi_world.specs.Moves.{HasMoved}
+use Rattle.gaspi_world.specs.Transfers.{HasMoved}
 use Rattle.gaspi_world.proofs.Movings.{moved-same, moved-then}
 use Rattle.gaspi_world.proofs.transfers.go_on.Goals as goal
 

@@ -1,6 +1,6 @@
 use Rattle.std.proofs.Common.{◌≡◌, None}
-use Rattle.gaspi_world.specs.Holds.{Holds}
-use Rattle.gaspi_world.specs.Moves.{HasMoved}
+use Rattle.gaspi_world.specs.HeldShards.{Holds}
+use Rattle.gaspi_world.specs.Transfers.{HasMoved}
 use Rattle.gaspi_world.proofs.transfers.go_on.Given as goal
 
 abbrev pub invariant-loop : goal.invariant-loop

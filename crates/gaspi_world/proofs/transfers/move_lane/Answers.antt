@@ -1,5 +1,5 @@
 use Rattle.std.proofs.Common.{ℕ, ◌∙◌, ap, subst, sym}
-use Rattle.gaspi_world.specs.Moves.{HasMoved, HasMovedOne}
+use Rattle.gaspi_world.specs.Transfers.{HasMoved, HasMovedOne}
 use Rattle.gaspi_world.proofs.Lanes.{lane-moved}
 use Rattle.gaspi_world.proofs.transfers.move_lane.Goals as goal
 
@@ -15,4 +15,4 @@ returns-in-Ready-clause-moves c =
     let own = tries.2.own ∙ tries.3 in
     let first = subst (λ (k : ℕ). HasMovedOne w k u x) own c.move_front.ensures.moved in
     let then = subst (λ (k : ℕ). HasMoved w k x z) (c.move_front.ensures.own ∙ own) c.go_on.ensures.moved in
-    lane-moved w origin held c.args.pass.now.known u x z c.leave.new.pass.known held.own held.other tries.1 first then c.go_on.ensures.held (ap (λ p. p.known) c.leave.ensures.left)
+    lane-moved w origin held c.args.pass.now.known u x z c.give_back.new.pass.known held.own held.other tries.1 first then c.go_on.ensures.held (ap (λ p. p.known) c.give_back.ensures.left)

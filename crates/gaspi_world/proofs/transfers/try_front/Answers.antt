@@ -7,7 +7,7 @@ use Rattle.gaspi_world.specs.ShardMachine.{state_after}
 use Rattle.gaspi_world.specs.WorldMachine.{world_machine}
 use Rattle.gaspi_world.specs.declared.shards.WorldShard.TheVariants as shards
 use Rattle.gaspi_world.proofs.TakenShards.{rank-stands}
-use Rattle.gaspi_world.proofs.TransferTries.{taken-rank, took-of, gave-of, front-of-node, other-of-node, none-of-node, ended-of-node, posts-of-node, return-of, node-taken, held-taken, may-return, still, busy, other-within, other-free, ready-one, ready-both}
+use Rattle.gaspi_world.proofs.TransferTries.{shard_taken-rank, took-of, gave-of, front-of-node, other-of-node, none-of-node, ended-of-node, posts-of-node, return-of, node-shard_taken, held-shard_taken, may-return, still, busy, other-within, other-free, ready-one, ready-both}
 use Rattle.gaspi_world.proofs.Transferring.{FrontLaws}
 use Rattle.gaspi_world.proofs.transfers.try_front.Goals as goal
 
@@ -38,9 +38,9 @@ next_front-requires c =
     let node = c.into_rank-node.result in
     let told = c.in-Some.ensures.taken in
     let is = took-of v t c.number-own.result origin told.0 own (ap (λ p. p.known) told.1) in
-    let taken = taken-rank w v c.number-own.result origin c.in-Some.mine _ told.0 own c.into_rank-node.ensures told.2 in
+    let taken = shard_taken-rank w v c.number-own.result origin c.in-Some.mine _ told.0 own c.into_rank-node.ensures told.2 in
     let s = state_after w told.0 in
-    (s, reached-sound w told.0 s world (arrives w told.0 told.2.legal), posts-of-node c.deref.result.now node s origin c.deref.ensures (node-taken w world origin c.requires.rank v t told.0 node is taken))
+    (s, reached-sound w told.0 s world (arrives w told.0 told.2.legal), posts-of-node c.deref.result.now node s origin c.deref.ensures (node-shard_taken w world origin c.requires.rank v t told.0 node is taken))
 
 pub give_back-requires-clause-value : goal.give_back-requires-clause-value
 give_back-requires-clause-value c =
@@ -53,10 +53,10 @@ give_back-requires-clause-value c =
     let node = c.into_rank-node.result in
     let told = c.in-Some.ensures.taken in
     let is = took-of v t c.number-own.result origin told.0 own (ap (λ p. p.known) told.1) in
-    let taken = taken-rank w v c.number-own.result origin c.in-Some.mine _ told.0 own c.into_rank-node.ensures told.2 in
-    let look = c.look.ensures.told in
+    let taken = shard_taken-rank w v c.number-own.result origin c.in-Some.mine _ told.0 own c.into_rank-node.ensures told.2 in
+    let look = c.look.ensures.seen in
     return-of w c.look.new.pass.known c.number-own.result origin node own
-    (may-return w world origin c.requires.rank v t told.0 node is taken t c.look.new.pass.known c.look.result look.0 (held-taken w world origin c.requires.rank v t told.0 node is taken) look.1)
+    (may-return w world origin c.requires.rank v t told.0 node is taken t c.look.new.pass.known c.look.result look.0 (held-shard_taken w world origin c.requires.rank v t told.0 node is taken) look.1)
 
 pub returns-in_default-next_front-clause-tries : goal.returns-in_default-next_front-clause-tries
 returns-in_default-next_front-clause-tries c =
@@ -69,8 +69,8 @@ returns-in_default-next_front-clause-tries c =
     let node = c.into_rank-node.result in
     let told = c.in-Some.ensures.taken in
     let is = took-of v t c.number-own.result origin told.0 own (ap (λ p. p.known) told.1) in
-    let taken = taken-rank w v c.number-own.result origin c.in-Some.mine _ told.0 own c.into_rank-node.ensures told.2 in
-    let look = c.look.ensures.told in
+    let taken = shard_taken-rank w v c.number-own.result origin c.in-Some.mine _ told.0 own c.into_rank-node.ensures told.2 in
+    let look = c.look.ensures.seen in
     still w world origin c.requires.rank v t told.0 node is taken c.look.new.pass.known c.give_back.new.pass.known c.look.result look.0 c.all_ended-ended.result c.requires.free look.1
     (gave-of c.look.new.pass.known c.give_back.new.pass.known c.number-own.result origin own (ap (λ p. p.known) c.give_back.ensures))
     (ended-of-node c.deref-in_default-next_front.result.now node c.all_ended-ended.result c.deref-in_default-next_front.ensures c.all_ended-ended.ensures)
@@ -87,13 +87,13 @@ returns-in_default-front_shard-clause-tries c =
     let node = c.into_rank-node.result in
     let told = c.in-Some.ensures.taken in
     let is = took-of v t c.number-own.result origin told.0 own (ap (λ p. p.known) told.1) in
-    let taken = taken-rank w v c.number-own.result origin c.in-Some.mine _ told.0 own c.into_rank-node.ensures told.2 in
+    let taken = shard_taken-rank w v c.number-own.result origin c.in-Some.mine _ told.0 own c.into_rank-node.ensures told.2 in
     let laws : FrontLaws = record { steps = c.fronts_are_steps.ensures.steps; footprint = c.front_footprints.ensures } in
     let f = c.in-Some-next_front.t in
     let front = front-of-node c.deref.result.now node f c.deref.ensures c.in-Some-next_front.ensures.front in
     let ranks = c.ranks.ensures ∙ ap (λ s. s.shape.limits.ranks) c.start.ensures.start in
     let other = other-of-node c.deref-2.result.now node f front.entry c.ranks.result w.limits.ranks _ c.deref-2.ensures ranks front.next c.in_default-front_shard.ensures in
-    let look = c.look-in_default-front_shard.ensures.told in
+    let look = c.look-in_default-front_shard.ensures.seen in
     ready-one w world origin c.requires.rank v t told.0 node is taken laws f front.entry front front.next c.look-in_default-front_shard.new.pass.known c.look-in_default-front_shard.result look.0 c.one_held.result c.requires.free other look.1
     (c.one_held.ensures.values ∙ ap (λ (n : ℕ). (n, shards.Rank node) ∷ []) own) c.one_held.ensures.fits (c.one_held.ensures.own ∙ own) c.one_held.ensures.other
 
@@ -108,7 +108,7 @@ try_take-requires-2-clause-shard c =
     let node = c.into_rank-node.result in
     let told = c.in-Some.ensures.taken in
     let is = took-of v t c.number-own.result origin told.0 own (ap (λ p. p.known) told.1) in
-    let taken = taken-rank w v c.number-own.result origin c.in-Some.mine _ told.0 own c.into_rank-node.ensures told.2 in
+    let taken = shard_taken-rank w v c.number-own.result origin c.in-Some.mine _ told.0 own c.into_rank-node.ensures told.2 in
     let laws : FrontLaws = record { steps = c.fronts_are_steps.ensures.steps; footprint = c.front_footprints.ensures } in
     let f = c.in-Some-next_front.t in
     let front = front-of-node c.deref.result.now node f c.deref.ensures c.in-Some-next_front.ensures.front in
@@ -128,7 +128,7 @@ try_take-requires-2-clause-free c =
     let node = c.into_rank-node.result in
     let told = c.in-Some.ensures.taken in
     let is = took-of v t c.number-own.result origin told.0 own (ap (λ p. p.known) told.1) in
-    let taken = taken-rank w v c.number-own.result origin c.in-Some.mine _ told.0 own c.into_rank-node.ensures told.2 in
+    let taken = shard_taken-rank w v c.number-own.result origin c.in-Some.mine _ told.0 own c.into_rank-node.ensures told.2 in
     let laws : FrontLaws = record { steps = c.fronts_are_steps.ensures.steps; footprint = c.front_footprints.ensures } in
     let f = c.in-Some-next_front.t in
     let front = front-of-node c.deref.result.now node f c.deref.ensures c.in-Some-next_front.ensures.front in
@@ -148,11 +148,11 @@ give_back-requires-in_default-try_take-clause-value c =
     let node = c.into_rank-node.result in
     let told = c.in-Some.ensures.taken in
     let is = took-of v t c.number-own.result origin told.0 own (ap (λ p. p.known) told.1) in
-    let taken = taken-rank w v c.number-own.result origin c.in-Some.mine _ told.0 own c.into_rank-node.ensures told.2 in
+    let taken = shard_taken-rank w v c.number-own.result origin c.in-Some.mine _ told.0 own c.into_rank-node.ensures told.2 in
     let u = c.try_take-2.new.pass.known in
     let missed = c.in_default-try_take.ensures.missed in
-    let held : held_at u.held origin ≡ Some told.0 = ap (λ k. held_at k.held origin) (ap (λ p. p.known) missed.1) ∙ held-taken w world origin c.requires.rank v t told.0 node is taken in
-    let look = c.look-in_default-try_take.ensures.told in
+    let held : held_at u.held origin ≡ Some told.0 = ap (λ k. held_at k.held origin) (ap (λ p. p.known) missed.1) ∙ held-shard_taken w world origin c.requires.rank v t told.0 node is taken in
+    let look = c.look-in_default-try_take.ensures.seen in
     return-of w c.look-in_default-try_take.new.pass.known c.number-own.result origin node own
     (may-return w world origin c.requires.rank v t told.0 node is taken u c.look-in_default-try_take.new.pass.known c.look-in_default-try_take.result look.0 held look.1)
 
@@ -167,7 +167,7 @@ returns-in_default-try_take-clause-tries c =
     let node = c.into_rank-node.result in
     let told = c.in-Some.ensures.taken in
     let is = took-of v t c.number-own.result origin told.0 own (ap (λ p. p.known) told.1) in
-    let taken = taken-rank w v c.number-own.result origin c.in-Some.mine _ told.0 own c.into_rank-node.ensures told.2 in
+    let taken = shard_taken-rank w v c.number-own.result origin c.in-Some.mine _ told.0 own c.into_rank-node.ensures told.2 in
     let laws : FrontLaws = record { steps = c.fronts_are_steps.ensures.steps; footprint = c.front_footprints.ensures } in
     let f = c.in-Some-next_front.t in
     let front = front-of-node c.deref.result.now node f c.deref.ensures c.in-Some-next_front.ensures.front in
@@ -175,7 +175,7 @@ returns-in_default-try_take-clause-tries c =
     let j = c.in-Some-front_shard.other in
     let other = other-of-node c.deref-2.result.now node f front.entry c.ranks.result w.limits.ranks _ c.deref-2.ensures ranks front.next c.in-Some-front_shard.ensures in
     let missed = c.in_default-try_take.ensures.missed in
-    let look = c.look-in_default-try_take.ensures.told in
+    let look = c.look-in_default-try_take.ensures.seen in
     busy w world origin c.requires.rank v t told.0 node is taken laws f front.entry front front.next c.try_take-2.new.pass.known c.look-in_default-try_take.new.pass.known c.give_back-in_default-try_take.new.pass.known c.look-in_default-try_take.result j look.0 missed.0 c.requires.free other (ap (λ p. p.known) missed.1) missed.2 look.1
     (gave-of c.look-in_default-try_take.new.pass.known c.give_back-in_default-try_take.new.pass.known c.number-own.result origin own (ap (λ p. p.known) c.give_back-in_default-try_take.ensures))
 
@@ -190,7 +190,7 @@ returns-clause-tries c =
     let node = c.into_rank-node.result in
     let told = c.in-Some.ensures.taken in
     let is = took-of v t c.number-own.result origin told.0 own (ap (λ p. p.known) told.1) in
-    let taken = taken-rank w v c.number-own.result origin c.in-Some.mine _ told.0 own c.into_rank-node.ensures told.2 in
+    let taken = shard_taken-rank w v c.number-own.result origin c.in-Some.mine _ told.0 own c.into_rank-node.ensures told.2 in
     let laws : FrontLaws = record { steps = c.fronts_are_steps.ensures.steps; footprint = c.front_footprints.ensures } in
     let f = c.in-Some-next_front.t in
     let front = front-of-node c.deref.result.now node f c.deref.ensures c.in-Some-next_front.ensures.front in
@@ -198,7 +198,7 @@ returns-clause-tries c =
     let j = c.in-Some-front_shard.other in
     let other = other-of-node c.deref-2.result.now node f front.entry c.ranks.result w.limits.ranks _ c.deref-2.ensures ranks front.next c.in-Some-front_shard.ensures in
     let second = c.in-Some-try_take.ensures.taken in
-    let look = c.look-2.ensures.told in
+    let look = c.look-2.ensures.seen in
     let theirs = c.in-Some-try_take.theirs in
     ready-both w world origin c.requires.rank v t told.0 node is taken laws f front.entry front front.next c.try_take-2.new.pass.known c.look-2.new.pass.known c.look-2.result j second.0 look.0 theirs c.both_held.result c.requires.free other (ap (λ p. p.known) second.1) second.2 look.1
     (c.both_held.ensures.values ∙ ap (λ (n : ℕ). (n, shards.Rank node) ∷ (j, theirs) ∷ []) own) c.both_held.ensures.fits (c.both_held.ensures.own ∙ own) c.both_held.ensures.other

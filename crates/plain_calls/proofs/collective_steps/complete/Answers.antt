@@ -1,9 +1,9 @@
 use Rattle.std.proofs.Common.{ap, sym, ◌∙◌}
 use Rattle.std.proofs.lemmas.Bool.{le-leb}
 use Rattle.gaspi_types.specs.declared.replies.Reply.{Reply}
-use Rattle.plain_calls.specs.Turns.{posts_met, group_met}
-use Rattle.plain_calls.proofs.Answered.{telling_room, met_steps}
-use Rattle.plain_calls.proofs.Completed.{met-taken}
+use Rattle.plain_calls.specs.Rounds.{posts_after_collective, group_after_collective}
+use Rattle.plain_calls.proofs.Answered.{telling_room, on_group_steps}
+use Rattle.plain_calls.proofs.Completed.{on_group-used}
 use Rattle.plain_calls.proofs.collective_steps.complete.Goals as goal
 
 pub complete_parts-requires-clause-room : goal.complete_parts-requires-clause-room
@@ -15,12 +15,12 @@ pub returns-clause-step : goal.returns-clause-step
 returns-clause-step c = λ limits room.
     let me = c.args.invocation.now.caller.rank in
     let call = c.args.invocation.now.call.now in
-    let posts = c.complete_parts.ensures.posts ∙ ap (λ (r : Reply). posts_met c.args.posts.now c.args.group.now me c.args.id call r) c.recorded_reply-reply.ensures in
-    let group = c.complete_parts.ensures.group ∙ ap (λ (r : Reply). group_met c.args.group.now me r) c.recorded_reply-reply.ensures in
+    let posts = c.complete_parts.ensures.posts ∙ ap (λ (r : Reply). posts_after_collective c.args.posts.now c.args.group.now me c.args.id call r) c.recorded_reply-reply.ensures in
+    let group = c.complete_parts.ensures.group ∙ ap (λ (r : Reply). group_after_collective c.args.group.now me r) c.recorded_reply-reply.ensures in
     rw (posts, group)
-    (met_steps limits me c.args.posts.now c.args.group.now c.args.invocation.now.caller.thread c.args.id call c.args.ready c.requires.there c.requires.look c.requires.unjoined (le-leb _ _ room))
+    (on_group_steps limits me c.args.posts.now c.args.group.now c.args.invocation.now.caller.thread c.args.id call c.args.ready c.requires.there c.requires.look c.requires.unjoined (le-leb _ _ room))
 
 pub returns-clause-taken : goal.returns-clause-taken
 returns-clause-taken c =
-    let met = met-taken c.args.posts.now c.args.group.now c.args.invocation.now.caller.rank c.args.id c.args.invocation.now.call.now c.recorded_reply-reply.result in
+    let met = on_group-used c.args.posts.now c.args.group.now c.args.invocation.now.caller.rank c.args.id c.args.invocation.now.call.now c.recorded_reply-reply.result in
     rw (c.requires.taken, c.complete_parts.ensures.posts) (sym met)

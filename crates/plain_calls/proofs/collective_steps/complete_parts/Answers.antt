@@ -7,14 +7,14 @@ use Rattle.plain_calls.proofs.collective_steps.complete_parts.Goals.{then-not-is
 
 pub overflow_add-posts : goal.overflow_add-posts
 overflow_add-posts c =
-    elim c.if-not-is_idle.branch [
-      | then-not-is_idle w ↦
-          (let is : c.if-not-is_idle.posts ≡ completed_posts c.args.posts.now c.args.group.now c.args.me c.args.id c.args.call.now =
+    elim c.if-not-is_refused_or_timeout.branch [
+      | then-not-is_refused_or_timeout w ↦
+          (let is : c.if-not-is_refused_or_timeout.posts ≡ completed_posts c.args.posts.now c.args.group.now c.args.me c.args.id c.args.call.now =
           w.posts-is ∙ w.set_pending.ensures ∙ ap (with_pending c.args.id None) w.tell_posts.ensures in
           let events = ap (λ (p : Posts). p.events) is ∙ (completed-even c.args.posts.now c.args.group.now c.args.me c.args.id c.args.call.now).events in
           let few = c.requires.events in
           omega (arith, events, few))
-      | else-not-is_idle w ↦
+      | else-not-is_refused_or_timeout w ↦
           (let events = ap (λ (p : Posts). p.events) w.posts-is in
           let few = c.requires.events in
           omega (arith, events, few))

@@ -1,13 +1,13 @@
 use Rattle.std.proofs.Common.{arith, rules}
-use Rattle.gaspi_types.specs.Collectives.{given_in}
-use Rattle.plain_calls.proofs.Turns.{full-others}
+use Rattle.gaspi_types.specs.Collectives.{contribution_in}
+use Rattle.plain_calls.proofs.Rounds.{full-others}
 use Rattle.plain_calls.proofs.contributions.+fold_onto.Goals as goal
 
 pub fold_onto-requires : goal.fold_onto-requires
 fold_onto-requires t c = (
   search rules,
   (
-    full-others (given_in c.args.group.now c.args.turn) c.args.members.now c.requires.full,
+    full-others (contribution_in c.args.group.now c.args.turn) c.args.members.now c.requires.full,
     (
       λ rank given there. ((c.requires.alike rank given there).0, (let alike = (c.requires.alike rank given there).1 in let same = c.reduce_given.auto.total in omega (arith, alike, same))),
       c.reduce_given.ensures.range,

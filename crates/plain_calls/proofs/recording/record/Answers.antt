@@ -1,12 +1,12 @@
 use Rattle.std.proofs.Common.{arith}
 use Rattle.std.proofs.lemmas.Bool.{le-leb}
 use Rattle.std.proofs.lemmas.Bool.Decides.{nat_tests}
-use Rattle.plain_calls.proofs.Looked.{look_room, look_steps, look_taken, less-freed, freed-within}
-use Rattle.plain_calls.proofs.CallRoom.{freed-part}
+use Rattle.plain_calls.proofs.Looked.{look_room, look_steps, look_used, less-released, released-within}
+use Rattle.plain_calls.proofs.CallBounds.{released-part}
 use Rattle.gaspi_model.specs.Calls.{recorded_reply}
 use Rattle.plain_calls.proofs.recording.record.Goals as goal
 
-pub record_found-requires-clause-room : goal.record_found-requires-clause-room
+pub record_found-requires-clause-room : goal.record_evaluation-requires-clause-room
 record_found-requires-clause-room c =
     look_room c.args.look c.args.limits.now c.args.invocation.now.caller.rank c.args.posts.now c.args.memory.now c.args.invocation.now.caller.thread c.args.invocation.now.call.now c.requires.limits c.requires.sound c.requires.look
 
@@ -15,19 +15,19 @@ returns-clause-step c =
     rw (c.in_ok-reply.ensures.posts, c.in_ok-reply.ensures.memory)
     (look_steps c.args.look c.args.limits.now c.args.invocation.now.caller.rank c.args.posts.now c.args.memory.now c.args.invocation.now.caller.thread c.args.invocation.now.call.now c.requires.look c.requires.there (le-leb _ _ c.requires.room))
 
-pub freed-freed-requires : goal.freed-freed-requires
+pub freed-freed-requires : goal.released-freed-requires
 freed-freed-requires c =
-    let part = freed-part c.args.posts.now c.args.invocation.now.call.now (recorded_reply c.args.look.ready) in
+    let part = released-part c.args.posts.now c.args.invocation.now.call.now (recorded_reply c.args.look.ready) in
     let room = c.requires.sound.room in
     let limited = c.requires.limits in
     grind (arith, nat_tests, part, room, limited)
 
 pub overflow_sub-used : goal.overflow_sub-used
 overflow_sub-used c =
-    let taken = look_taken c.args.look c.args.limits.now c.args.invocation.now.caller.rank c.args.posts.now c.args.memory.now c.args.invocation.now.caller.thread c.args.invocation.now.call.now c.requires.sound c.requires.look in
-    rw c.requires.taken (freed-within _ _ _ _ taken c.freed-freed.ensures)
+    let taken = look_used c.args.look c.args.limits.now c.args.invocation.now.caller.rank c.args.posts.now c.args.memory.now c.args.invocation.now.caller.thread c.args.invocation.now.call.now c.requires.sound c.requires.look in
+    rw c.requires.taken (released-within _ _ _ _ taken c.released-freed.ensures)
 
 pub returns-clause-taken : goal.returns-clause-taken
 returns-clause-taken c =
-    let taken = look_taken c.args.look c.args.limits.now c.args.invocation.now.caller.rank c.args.posts.now c.args.memory.now c.args.invocation.now.caller.thread c.args.invocation.now.call.now c.requires.sound c.requires.look in
-    rw (c.in_ok-reply.ensures.posts, c.requires.taken) (less-freed _ _ _ _ taken c.freed-freed.ensures)
+    let taken = look_used c.args.look c.args.limits.now c.args.invocation.now.caller.rank c.args.posts.now c.args.memory.now c.args.invocation.now.caller.thread c.args.invocation.now.call.now c.requires.sound c.requires.look in
+    rw (c.in_ok-reply.ensures.posts, c.requires.taken) (less-released _ _ _ _ taken c.released-freed.ensures)

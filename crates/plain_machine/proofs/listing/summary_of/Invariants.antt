@@ -1,6 +1,6 @@
 use Rattle.std.proofs.Common.{◌≡◌, ◌≤◌, ℕ, take}
 use Rattle.gaspi_types.specs.Lanes.{carried_count, has_earlier_write, has_earlier_read}
-use Rattle.plain_machine.specs.Standing.{is_over}
+use Rattle.plain_machine.specs.NonemptyLanes.{is_over}
 use Rattle.plain_machine.proofs.listing.summary_of.Given as goal
 
 abbrev pub invariant-loop-entry : goal.invariant-loop-entry

@@ -1,12 +1,12 @@
 use Rattle.std.proofs.Common.{sym}
-use Rattle.plain_machine.specs.Standing.{open_transfers}
+use Rattle.plain_machine.specs.NonemptyLanes.{unbroken_transfers}
 use Rattle.plain_machine.proofs.Walked.{sought_here, sought_past}
 use Rattle.plain_machine.proofs.listing.transfer_at.Goals as goal
 
 pub returns-in-Found : goal.returns-in-Found
 returns-in-Found c =
-    sym (sought_here (open_transfers c.args.limits.now c.args.posts.now) c.args.lanes.now c.loop-id.id-index c.args.place c.loop-id.left c.id-item.result c.in-Found.transfer
+    sym (sought_here (unbroken_transfers c.args.limits.now c.args.posts.now) c.args.lanes.now c.loop-id.id-index c.args.place c.loop-id.left c.id-item.result c.in-Found.transfer
     c.loop-id-test.true c.id-item.is c.loop-id.invariant (rw c.open_entries.ensures at c.in-Found.ensures))
 
 pub returns : goal.returns
-returns c = sought_past (open_transfers c.args.limits.now c.args.posts.now) c.args.lanes.now c.loop-id.id-index c.args.place c.loop-id.left c.loop-id-test.false c.loop-id.invariant
+returns c = sought_past (unbroken_transfers c.args.limits.now c.args.posts.now) c.args.lanes.now c.loop-id.id-index c.args.place c.loop-id.left c.loop-id-test.false c.loop-id.invariant

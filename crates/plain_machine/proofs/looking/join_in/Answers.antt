@@ -2,7 +2,7 @@ use Rattle.std.proofs.Common.{refl, sym}
 use Rattle.std.proofs.lemmas.Bool.{lt-ltb}
 use Rattle.std.proofs.lemmas.List.{map-set}
 use Rattle.plain_calls.specs.Looks.{recorded_of}
-use Rattle.plain_machine.specs.Machine.{state_in, taken_of}
+use Rattle.plain_machine.specs.Machine.{state_in, used_room_of}
 use Rattle.plain_machine.proofs.Lifted.{ok_recorded, err_recorded}
 use Rattle.plain_machine.proofs.Lists.{mapped}
 use Rattle.plain_machine.proofs.OnGroups.{joined_steps}
@@ -12,7 +12,7 @@ pub join-requires-clause-sound : goal.join-requires-clause-sound
 join-requires-clause-sound c = c.requires.whole.sound.posts _ _ c.at_mut.ensures.value
 
 pub join-requires-clause-taken : goal.join-requires-clause-taken
-join-requires-clause-taken c = mapped taken_of c.args.ranks.now.posts c.index-rank.result _ _ c.at_mut.ensures.value (rw c.requires.whole.taken at c.at_mut-4.ensures.value)
+join-requires-clause-taken c = mapped used_room_of c.args.ranks.now.posts c.index-rank.result _ _ c.at_mut.ensures.value (rw c.requires.whole.used at c.at_mut-4.ensures.value)
 
 pub returns-clause-step : goal.returns-clause-step
 returns-clause-step c =
@@ -25,7 +25,7 @@ returns-clause-step c =
     there own grouped (lt-ltb c.args.joining.now.group 8 below) refl c.join.ensures.step (ok_recorded _ c.join.result c.join.ensures.memory) (err_recorded _ c.join.result c.join.ensures.memory_kept))
 
 pub returns-clause-taken : goal.returns-clause-taken
-returns-clause-taken c = rw (c.requires.whole.taken, c.join.ensures.taken) (sym (map-set taken_of c.args.ranks.now.posts c.index-rank.result c.join.new.posts))
+returns-clause-taken c = rw (c.requires.whole.used, c.join.ensures.taken) (sym (map-set used_room_of c.args.ranks.now.posts c.index-rank.result c.join.new.posts))
 
 pub join-requires-clause-room : goal.join-requires-clause-room
 join-requires-clause-room c =

@@ -1,6 +1,6 @@
 use Rattle.std.proofs.Common.{◌≡◌, ◌∙◌}
 use Rattle.plain_machine.specs.Machine.{state_in}
-use Rattle.plain_machine.proofs.Joining.{group_sound, part_sound}
+use Rattle.plain_machine.proofs.Joining.{group_sound, contributions_sound}
 use Rattle.plain_machine.proofs.looking.may_join_in.Goals as goal
 
 pub may_join-requires-clause-group : goal.may_join-requires-clause-group
@@ -11,4 +11,4 @@ may_join-requires-clause-part c =
     let number : c.from-number.result ≡ c.args.joining.now.group = c.from-number.ensures ∙ c.number.ensures.value in
     let there = rw c.index.ensures.value at c.at.ensures in
     rw (c.group_in.ensures, number)
-    (part_sound (state_in c.args.ranks.now c.requires.whole.0) c.args.joining.now.group c.args.joining.now.caller.rank c.at.result.now c.requires.whole.1.sound there)
+    (contributions_sound (state_in c.args.ranks.now c.requires.whole.0) c.args.joining.now.group c.args.joining.now.caller.rank c.at.result.now c.requires.whole.1.sound there)

@@ -6,11 +6,11 @@ use Rattle.gaspi_types.specs.declared.memory.NoMemory.{NoMemory}
 use Rattle.gaspi_types.specs.declared.replies.Reply.{Reply}
 use Rattle.gaspi_model.specs.Calls.{recorded_reply}
 use Rattle.gaspi_model.specs.Step.{called}
-use Rattle.gaspi_model.specs.Transfers.{Worked}
+use Rattle.gaspi_model.specs.Transfers.{PostsAndMemory}
 use Rattle.gaspi_model.specs.declared.states.StepFault.TheVariants as faults
 use Rattle.gaspi_model.specs.declared.states.Why.TheVariants as whys
 use Rattle.plain_calls.specs.Looks.{recorded_of}
-use Rattle.plain_machine.specs.Machine.{taken_of}
+use Rattle.plain_machine.specs.Machine.{used_room_of}
 use Rattle.plain_machine.proofs.Lifted.{lent_steps}
 use Rattle.plain_machine.proofs.Lists.{mapped, map_kept}
 use Rattle.plain_machine.proofs.looking.record_on.Goals as goal
@@ -23,7 +23,7 @@ failed (Err none) is = refl
 pub overflow_add-used : goal.overflow_add-used
 overflow_add-used c =
     let posts = there-within c.args.ranks.now.posts c.args.invocation.now.caller.rank c.requires.there in
-    let taken = mapped taken_of c.args.ranks.now.posts c.args.invocation.now.caller.rank _ _ posts.1 (rw (c.index-rank.ensures.value, c.requires.taken) at c.at-taken.ensures) in
+    let taken = mapped used_room_of c.args.ranks.now.posts c.args.invocation.now.caller.rank _ _ posts.1 (rw (c.index-rank.ensures.value, c.requires.taken) at c.at-taken.ensures) in
     let charge = c.requires.charge _ posts.1 in
     let room = c.requires.room _ posts.1 in
     let limited = c.requires.ranks.limited in
@@ -35,7 +35,7 @@ record-requires-clause-sound c = c.requires.ranks.sound _ _ c.at_mut.ensures.val
 pub record-requires-clause-taken : goal.record-requires-clause-taken
 record-requires-clause-taken c =
     let there = rw c.index-rank.ensures.value at c.at_mut.ensures.value in
-    let taken : c.at-taken.result.now ≡ taken_of c.at_mut.result.now = mapped taken_of c.args.ranks.now.posts c.index-rank.result _ _ c.at_mut.ensures.value (rw c.requires.taken at c.at-taken.ensures) in
+    let taken : c.at-taken.result.now ≡ used_room_of c.at_mut.result.now = mapped used_room_of c.args.ranks.now.posts c.index-rank.result _ _ c.at_mut.ensures.value (rw c.requires.taken at c.at-taken.ensures) in
     rw (taken, c.requires.charge _ there) refl
 
 pub record-requires-clause-look : goal.record-requires-clause-look
@@ -58,7 +58,7 @@ returns-in_err-recorded-clause-step c =
 pub returns-in_err-recorded-clause-taken : goal.returns-in_err-recorded-clause-taken
 returns-in_err-recorded-clause-taken c =
     c.requires.taken
-    ∙ sym (map_kept taken_of c.args.ranks.now.posts c.index-rank.result _ c.record.new.posts c.at_mut.ensures.value (ap (λ (w : Worked). taken_of w.posts) c.in_err-recorded.ensures.step))
+    ∙ sym (map_kept used_room_of c.args.ranks.now.posts c.index-rank.result _ c.record.new.posts c.at_mut.ensures.value (ap (λ (w : PostsAndMemory). used_room_of w.posts) c.in_err-recorded.ensures.step))
 
 pub returns-clause-step : goal.returns-clause-step
 returns-clause-step c =
@@ -69,4 +69,4 @@ returns-clause-step c =
 
 pub returns-clause-taken : goal.returns-clause-taken
 returns-clause-taken c =
-    rw (c.requires.taken, c.in_ok-recorded.ensures.taken) (sym (map-set taken_of c.args.ranks.now.posts c.index-rank.result c.record.new.posts))
+    rw (c.requires.taken, c.in_ok-recorded.ensures.taken) (sym (map-set used_room_of c.args.ranks.now.posts c.index-rank.result c.record.new.posts))

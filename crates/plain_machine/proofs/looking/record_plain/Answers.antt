@@ -1,10 +1,10 @@
 use Rattle.std.proofs.Common.{Ok, sym, refl, ap, ◌∙◌}
 use Rattle.gaspi_model.specs.Calls.{recorded_reply}
-use Rattle.gaspi_model.specs.Step.{call_brought}
-use Rattle.plain_machine.specs.Machine.{state_in, taken_of}
-use Rattle.plain_machine.proofs.Lifted.{called_telling, told_taken}
+use Rattle.gaspi_model.specs.Step.{call_message}
+use Rattle.plain_machine.specs.Machine.{state_in, used_room_of}
+use Rattle.plain_machine.proofs.Lifted.{called_telling, registered_used}
 use Rattle.plain_machine.proofs.Lists.{map_kept}
-use Rattle.gaspi_types.specs.declared.touches.Reach.TheVariants.{Alone, OwnMemory, PeerMemory, BothMemories, Group, GroupAndMemory}
+use Rattle.gaspi_types.specs.declared.footprints.Footprint.TheVariants.{Alone, OwnMemory, PeerMemory, BothMemories, Group, GroupAndMemory}
 use Rattle.gaspi_types.proofs.Items.{set-there}
 use Rattle.plain_calls.specs.Looks.{recorded_of}
 use Rattle.plain_machine.proofs.Recorded.{called_ranks, lent_same, limits_as}
@@ -13,7 +13,7 @@ use Rattle.plain_machine.proofs.looking.record_plain.Goals as goal
 pub returns-in-Alone-clause-step : goal.returns-in-Alone-clause-step
 returns-in-Alone-clause-step c =
     called_ranks c.args.ranks.now c.record_on.new.ranks c.args.memories.now c.args.invocation.now.caller c.args.invocation.now.call.now c.args.look Alone (recorded_of c.record_on.result) _ c.record_on.new.memory
-    c.requires.plain c.requires.found.declared (sym c.call_reach.ensures ∙ c.in-Alone.is) (sym c.no_memory-none.ensures) refl (λ change all. refl) c.record_on.ensures.limits c.record_on.ensures.groups c.requires.found.finds c.record_on.ensures.step
+    c.requires.plain c.requires.found.declared (sym c.call_reach.ensures ∙ c.in-Alone.is) (sym c.empty_memory-none.ensures) refl (λ change all. refl) c.record_on.ensures.limits c.record_on.ensures.groups c.requires.found.finds c.record_on.ensures.step
 
 pub returns-in-OwnMemory-clause-step : goal.returns-in-OwnMemory-clause-step
 returns-in-OwnMemory-clause-step c =
@@ -39,7 +39,7 @@ returns-in-BothMemories-clause-step c =
 pub returns-in-Group-clause-step : goal.returns-in-Group-clause-step
 returns-in-Group-clause-step c =
     called_ranks c.args.ranks.now c.record_on-in-Group.new.ranks c.args.memories.now c.args.invocation.now.caller c.args.invocation.now.call.now c.args.look (Group c.in-Group.field-0) (recorded_of c.record_on-in-Group.result) _ c.record_on-in-Group.new.memory
-    c.requires.plain c.requires.found.declared (sym c.call_reach.ensures ∙ c.in-Group.is) (sym c.no_memory-none-in-Group.ensures) refl (λ change all. refl) c.record_on-in-Group.ensures.limits c.record_on-in-Group.ensures.groups c.requires.found.finds c.record_on-in-Group.ensures.step
+    c.requires.plain c.requires.found.declared (sym c.call_reach.ensures ∙ c.in-Group.is) (sym c.empty_memory-none-in-Group.ensures) refl (λ change all. refl) c.record_on-in-Group.ensures.limits c.record_on-in-Group.ensures.groups c.requires.found.finds c.record_on-in-Group.ensures.step
 
 pub returns-in-GroupAndMemory-clause-step : goal.returns-in-GroupAndMemory-clause-step
 returns-in-GroupAndMemory-clause-step c =
@@ -58,10 +58,10 @@ returns-in_ok-reply-in-PeerPosts-clause-step c =
     rw c.index-in-PeerPosts-2.ensures.value
     (limits_as c.args.ranks.now c.record_on-in-PeerPosts.new.ranks _ c.args.memories.now (Ok tt) s _ c.in_ok-reply-in-PeerPosts.ensures.limits c.in_ok-reply-in-PeerPosts.ensures.groups
     (called_telling s caller call (recorded_reply c.args.look.ready) c.in-PeerPosts.peer _ _ _ _ _ c.record_on-in-PeerPosts.new.ranks.posts
-    c.requires.plain own (sym c.call_reach.ensures ∙ c.in-PeerPosts.is) c.no_memory-none-in-PeerPosts.ensures peer (c.tell.ensures ∙ c.news-news.ensures _)
-    (sym (lent_same c.args.look c.args.ranks.now.limits c.args.ranks.now.posts (call_brought s caller.rank call) c.no_memory-none-in-PeerPosts.result caller call c.requires.found.finds.message) ∙ c.in_ok-reply-in-PeerPosts.ensures.step)))
+    c.requires.plain own (sym c.call_reach.ensures ∙ c.in-PeerPosts.is) c.empty_memory-none-in-PeerPosts.ensures peer (c.register_at_peer.ensures ∙ c.registration-news.ensures _)
+    (sym (lent_same c.args.look c.args.ranks.now.limits c.args.ranks.now.posts (call_message s caller.rank call) c.empty_memory-none-in-PeerPosts.result caller call c.requires.found.finds.message) ∙ c.in_ok-reply-in-PeerPosts.ensures.step)))
 
 pub returns-in_ok-reply-in-PeerPosts-clause-taken : goal.returns-in_ok-reply-in-PeerPosts-clause-taken
 returns-in_ok-reply-in-PeerPosts-clause-taken c =
     c.in_ok-reply-in-PeerPosts.ensures.taken
-    ∙ sym (map_kept taken_of c.record_on-in-PeerPosts.new.ranks.posts c.index-in-PeerPosts-2.result _ c.tell.new.peer c.at_mut.ensures.value (ap taken_of c.tell.ensures ∙ told_taken c.news-news.result _))
+    ∙ sym (map_kept used_room_of c.record_on-in-PeerPosts.new.ranks.posts c.index-in-PeerPosts-2.result _ c.register_at_peer.new.peer c.at_mut.ensures.value (ap used_room_of c.register_at_peer.ensures ∙ registered_used c.registration-news.result _))

@@ -20,7 +20,7 @@ returns-then-has_entry-clause-named c =
 
 pub returns-clause-named : goal.returns-clause-named
 returns-clause-named c =
-    c.name_lane.ensures
+    c.insert_lane.ensures
     ∙ (rw (c.reserve.ensures.items, c.requires.machine.named)
     (posting_first (state_in c.args.ranks.now c.args.memories.now) (state_in c.record_plain-2.new.ranks c.record_plain-2.new.memories) (Called c.args.invocation.now.caller c.args.invocation.now.call.now (recorded_reply c.args.look.ready)) c.in-Some.id
     c.requires.machine.sound (sym c.look_lane.ensures ∙ c.in-Some.is) refl (c.has_entry.ensures.none c.if-has_entry.false) c.in_ok-reply.ensures.step))

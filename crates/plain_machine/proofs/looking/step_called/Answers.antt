@@ -28,7 +28,7 @@ returns-then-not-is_recorded_with-clause-step c = (
   refl,
 )
 
-pub record_named-requires-clause-unjoined : goal.record_named-requires-clause-unjoined
+pub record_named-requires-clause-unjoined : goal.record_with_lanes-requires-clause-unjoined
 record_named-requires-clause-unjoined c = (recorded_by c.in-Ok.look.ready c.args.reply.now (sym c.is_recorded_with.ensures ∙ c.if-not-is_recorded_with.false)).0
 
 pub event_charge-charge-requires : goal.event_charge-charge-requires
@@ -36,13 +36,13 @@ event_charge-charge-requires c =
     (declared_there (state_in c.args.ranks.now c.args.memories.now) c.args.invocation.now.caller.rank c.args.invocation.now.caller.thread (sym (c.has_section.ensures c.args.memories.now) ∙ c.if-not-has_section.false)).within
 
 pub has_room-requires-clause-whole : goal.has_room-requires-clause-whole
-has_room-requires-clause-whole c = (c.args.memories.now, record { sound = c.requires.sound; fitting = c.requires.fitting; taken = c.requires.taken })
+has_room-requires-clause-whole c = (c.args.memories.now, record { sound = c.requires.sound; fitting = c.requires.fitting; used = c.requires.taken })
 
 pub has_room-requires-clause-there : goal.has_room-requires-clause-there
 has_room-requires-clause-there c =
     (declared_there (state_in c.args.ranks.now c.args.memories.now) c.args.invocation.now.caller.rank c.args.invocation.now.caller.thread (sym (c.has_section.ensures c.args.memories.now) ∙ c.if-not-has_section.false)).within
 
-pub record_named-requires-clause-found : goal.record_named-requires-clause-found
+pub record_named-requires-clause-found : goal.record_with_lanes-requires-clause-found
 record_named-requires-clause-found c = record {
   declared = sym (c.has_section.ensures c.args.memories.now) ∙ c.if-not-has_section.false;
   finds = c.in-Ok.ensures.look;
@@ -55,10 +55,10 @@ pub returns-clause-step : goal.returns-clause-step
 returns-clause-step c =
     let s = state_in c.args.ranks.now c.args.memories.now in
     let same : c.args.reply.now ≡ recorded_reply c.in-Ok.look.ready = (recorded_by c.in-Ok.look.ready c.args.reply.now (sym c.is_recorded_with.ensures ∙ c.if-not-is_recorded_with.false)).1 in
-    let stepped : recorded_of c.record_named.result ≡ c.match-record_named.result =
-    elim c.match-record_named.branch [ in-Ok-record_named w ↦ rw (w.in-Ok-record_named.is, w.result-is) refl | in-Err-record_named w ↦ rw (w.in-Err-record_named.is, w.result-is) refl ] in
-    subst (λ (m : Result (Unit {0}) StepFault). Steps m s (state_in c.record_named.new.ranks c.record_named.new.memories) (step s (Called c.args.invocation.now.caller c.args.invocation.now.call.now c.args.reply.now))) stepped
-    (subst (λ (r : Reply). Steps (recorded_of c.record_named.result) s (state_in c.record_named.new.ranks c.record_named.new.memories) (step s (Called c.args.invocation.now.caller c.args.invocation.now.call.now r))) (sym same) c.record_named.ensures.step)
+    let stepped : recorded_of c.record_with_lanes.result ≡ c.match-record_with_lanes.result =
+    elim c.match-record_with_lanes.branch [ in-Ok-record_with_lanes w ↦ rw (w.in-Ok-record_with_lanes.is, w.result-is) refl | in-Err-record_with_lanes w ↦ rw (w.in-Err-record_with_lanes.is, w.result-is) refl ] in
+    subst (λ (m : Result (Unit {0}) StepFault). Steps m s (state_in c.record_with_lanes.new.ranks c.record_with_lanes.new.memories) (step s (Called c.args.invocation.now.caller c.args.invocation.now.call.now c.args.reply.now))) stepped
+    (subst (λ (r : Reply). Steps (recorded_of c.record_with_lanes.result) s (state_in c.record_with_lanes.new.ranks c.record_with_lanes.new.memories) (step s (Called c.args.invocation.now.caller c.args.invocation.now.call.now r))) (sym same) c.record_with_lanes.ensures.step)
 
 pub returns-then-not-has_room-clause-step : goal.returns-then-not-has_room-clause-step
 returns-then-not-has_room-clause-step c =

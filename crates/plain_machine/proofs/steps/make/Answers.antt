@@ -1,7 +1,7 @@
 use Rattle.std.proofs.Common.{None, ◌∙◌, sym, refl}
 use Rattle.plain_calls.specs.Looks.{made_of}
 use Rattle.plain_machine.specs.Machine.{state_in, take_event}
-use Rattle.plain_machine.specs.declared.standing.LaneId.{LaneId}
+use Rattle.plain_machine.specs.declared.nonempty_lanes.LaneId.{LaneId}
 use Rattle.plain_machine.proofs.Renamed.{quiet_steps}
 use Rattle.plain_machine.proofs.steps.make.Goals as goal
 

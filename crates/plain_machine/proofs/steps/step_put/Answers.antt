@@ -1,5 +1,5 @@
 use Rattle.std.proofs.Common.{◌≡◌, Ok, slice_set, sym, ap, subst, ◌∙◌}
-use Rattle.gaspi_types.specs.Touches.{reach_of}
+use Rattle.gaspi_types.specs.Footprints.{footprint_of}
 use Rattle.gaspi_types.specs.declared.events.Event.{Event}
 use Rattle.gaspi_model.specs.Step.{step}
 use Rattle.gaspi_model.specs.Transfers.{find_entry}
@@ -8,7 +8,7 @@ use Rattle.gaspi_model.specs.declared.states.Why.TheVariants as whys
 use Rattle.plain_machine.specs.Entries.{found_at}
 use Rattle.plain_machine.specs.Machine.{state_in}
 use Rattle.plain_machine.proofs.Lifted.{events_fit}
-use Rattle.plain_machine.proofs.Moved.{event_found, put_done, put_fault, put_keeps_taken}
+use Rattle.plain_machine.proofs.Moved.{event_found, put_done, put_fault, put_keeps_used}
 use Rattle.plain_machine.proofs.steps.step_put.Goals as goal
 
 pub set_put-requires : goal.set_put-requires
@@ -17,7 +17,7 @@ set_put-requires c = events_fit c.args.ranks.now.limits _ c.requires.sound.limit
 pub returns-in-Ok-put_reached-clause-outcome : goal.returns-in-Ok-put_reached-clause-outcome
 returns-in-Ok-put_reached-clause-outcome c =
     let read = rw c.index-rank.ensures.value at c.at.ensures in
-    let reach = c.reach-reach.ensures ∙ ap (reach_of c.args.ranks.now.limits.ranks c.args.id.now.origin) c.put_touch.ensures in
+    let reach = c.reach-reach.ensures ∙ ap (footprint_of c.args.ranks.now.limits.ranks c.args.id.now.origin) c.put_touch.ensures in
     rw c.in-Ok-put_reached.ensures.outcome
     (event_found (state_in c.args.ranks.now c.args.memories.now) c.args.id.now c.args.number c.args.given c.at.result.now (found_at c.in-Ok.at) c.reach-reach.result c.requires.sound.memories read c.in-Ok.ensures reach)
 
@@ -28,7 +28,7 @@ returns-in-Ok-put_reached-clause-step c =
     let same : c.at.result.now ≡ c.at_mut.result.now = cc in
     let found : find_entry c.at_mut.result.now c.args.id.now.queue c.args.id.now.target c.args.number whys.Put ≡ Ok (found_at c.in-Ok.at) =
     subst (λ (p : Posts). find_entry p c.args.id.now.queue c.args.id.now.target c.args.number whys.Put ≡ Ok (found_at c.in-Ok.at)) same c.in-Ok.ensures in
-    let reach = c.reach-reach.ensures ∙ ap (reach_of c.args.ranks.now.limits.ranks c.args.id.now.origin) c.put_touch.ensures in
+    let reach = c.reach-reach.ensures ∙ ap (footprint_of c.args.ranks.now.limits.ranks c.args.id.now.origin) c.put_touch.ensures in
     rw c.index-rank.ensures.value
     (put_done (state_in c.args.ranks.now c.args.memories.now) c.args.id.now c.args.number c.args.given c.in-Ok-put_reached.outcome c.at_mut.result.now c.set_put.new.posts (found_at c.in-Ok.at) c.reach-reach.result c.put_reached.new.memories
     c.requires.sound.memories there found reach c.in-Ok-put_reached.ensures.outcome c.in-Ok-put_reached.ensures.step c.set_put.ensures)
@@ -38,11 +38,11 @@ returns-in-Ok-put_reached-clause-taken c =
     let old = state_in c.args.ranks.now c.args.memories.now in
     let new = state_in (record c.args.ranks.now { posts = slice_set c.args.ranks.now.posts c.index-rank.result c.set_put.new.posts }) c.put_reached.new.memories in
     let made = subst (λ (e : Event). step old e ≡ Ok new) (returns-in-Ok-put_reached-clause-outcome c) (returns-in-Ok-put_reached-clause-step c) in
-    c.requires.taken ∙ sym (put_keeps_taken old new c.args.id.now.origin c.args.id.now.queue c.args.id.now.target c.args.number c.in-Ok-put_reached.outcome made)
+    c.requires.taken ∙ sym (put_keeps_used old new c.args.id.now.origin c.args.id.now.queue c.args.id.now.target c.args.number c.in-Ok-put_reached.outcome made)
 
 pub returns-in-Err-put_reached-clause-step : goal.returns-in-Err-put_reached-clause-step
 returns-in-Err-put_reached-clause-step c =
     let read = rw c.index-rank.ensures.value at c.at.ensures in
-    let reach = c.reach-reach.ensures ∙ ap (reach_of c.args.ranks.now.limits.ranks c.args.id.now.origin) c.put_touch.ensures in
+    let reach = c.reach-reach.ensures ∙ ap (footprint_of c.args.ranks.now.limits.ranks c.args.id.now.origin) c.put_touch.ensures in
     put_fault (state_in c.args.ranks.now c.args.memories.now) c.args.id.now c.args.number c.args.given c.at.result.now (found_at c.in-Ok.at) c.reach-reach.result c.put_reached.new.memories c.in-Err-put_reached.fault
     c.requires.sound.memories read c.in-Ok.ensures reach c.in-Err-put_reached.ensures.step

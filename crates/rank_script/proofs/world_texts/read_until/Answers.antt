@@ -1,6 +1,6 @@
 use Rattle.std.proofs.Common.{length, sym, ◌∙◌, arith}
 use Rattle.call_texts.specs.Lines.{fed_lines}
-use Rattle.rank_script.specs.Readings.{said_of}
+use Rattle.rank_script.specs.Readings.{reading_of}
 use Rattle.rank_script.specs.UntilJournal.{until_from}
 use Rattle.rank_script.proofs.JournalLines.{fed-length}
 use Rattle.rank_script.proofs.UntilJournal.{IsNext, not-first, not-second, lines-later, place-later, line-faulty, passed-on, line-read}
@@ -21,7 +21,7 @@ returns-in_err-read_line-clause-exact c =
         | else-journal-via-else-journal w ↦ not-first _ _ w.if-journal.false
       ];
     } in
-    let same = c.loop-rest.invariant.same ∙ lines-later journal (said_of c.loop-rest.reading) c.loop-rest.number rest _ _ _ next in
+    let same = c.loop-rest.invariant.same ∙ lines-later journal (reading_of c.loop-rest.reading) c.loop-rest.number rest _ _ _ next in
     let exact = line-faulty _ journal _ _ c.loop-rest.number text _ _ (until_from journal 0 1 (fed_lines text)) c.if-text-gt-MOST_INPUT_BYTES.false same c.in_err-read_line.ensures.exact in
     passed-on result.result _ _ _ result.ensures.0 result.ensures.1 exact
 
@@ -43,7 +43,7 @@ loop-rest-preserved c =
     let read = line-read _ _ c.loop-rest.number _ _ c.in_ok-read_line.ensures.exact.0 c.in_ok-read_line.ensures.exact.1 in
     let sum = fed-length (length text) line later rest c.first_line.ensures.whole c.loop-rest.invariant.within in
     record {
-      same = c.loop-rest.invariant.same ∙ lines-later journal (said_of c.loop-rest.reading) c.loop-rest.number rest line later _ next ∙ read;
+      same = c.loop-rest.invariant.same ∙ lines-later journal (reading_of c.loop-rest.reading) c.loop-rest.number rest line later _ next ∙ read;
       place = c.loop-rest.invariant.place ∙ place-later journal _ _ c.loop-rest.number rest line later _ next sum;
       room = omega (arith, c.first_line.ensures.shorter, c.loop-rest.invariant.room);
       within = omega (arith, c.first_line.ensures.shorter, c.loop-rest.invariant.within);

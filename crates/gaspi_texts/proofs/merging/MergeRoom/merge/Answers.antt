@@ -35,7 +35,7 @@ loop-list-preserved c =
     c.requires.cut.1 c.loop-list.invariant.merged found at in
     let items : c.push.new.self.items ≡ c.loop-list.journal.items ++ c.take_next.result.event ∷ [] = ap (λ (z : Buffered Event). z.items) c.push.ensures in
     record {
-      room = ap (λ (z : Buffered Event). z.room) c.push.ensures ∙ c.loop-list.invariant.room;
+      room = ap (λ (z : Buffered Event). z.capacity) c.push.ensures ∙ c.loop-list.invariant.room;
       merged = rw items next;
     }
 

@@ -1,5 +1,5 @@
 use Rattle.std.proofs.Common.{[], sym, subst, arith}
-use Rattle.gaspi_types.specs.World.{World}
+use Rattle.gaspi_types.specs.World.{ShapeValue}
 use Rattle.commit_table.specs.Calls.{AreShards}
 use Rattle.gaspi_world.specs.WorldMachine.{world_machine}
 use Rattle.gaspi_world.proofs.AllNumbers.{each-pass}
@@ -16,4 +16,4 @@ pub returns-clause-callers : goal.returns-clause-callers
 returns-clause-callers c = λ k below. each-pass c.args.shape.now c.in_ok-table.table.start c.limits.ensures.world k below
 
 pub new-requires-clause-shards : goal.new-requires-clause-shards
-new-requires-clause-shards c = subst (λ (w : World). AreShards (world_machine w) c.in_ok-shards.shards.items []) (sym c.in_ok-start.ensures) c.in_ok-shards.ensures
+new-requires-clause-shards c = subst (λ (w : ShapeValue). AreShards (world_machine w) c.in_ok-shards.shards.items []) (sym c.in_ok-start.ensures) c.in_ok-shards.ensures

@@ -1,4 +1,4 @@
-use Rattle.plain_machine.proofs.Walked.{transfers-standing, few_transfers}
+use Rattle.plain_machine.proofs.Walked.{transfers-nonempty, few_transfers}
 use Rattle.plain_machine.proofs.machine.Machine.count_transfers.Goals as goal
 
 pub transfer_count-requires : goal.transfer_count-requires
@@ -9,5 +9,5 @@ transfer_count-requires c =
 pub returns : goal.returns
 returns c =
     rw (← c.self.view_is)
-    (rw (transfers-standing c.self.inside.ranks.limits c.self.inside.ranks.posts)
+    (rw (transfers-nonempty c.self.inside.ranks.limits c.self.inside.ranks.posts)
     (rw (c.deref.ensures.value, c.self.invariant.0.named) at c.transfer_count.ensures))

@@ -10,18 +10,18 @@ use Rattle.plain_machine.proofs.machine.Machine.record.Goals as goal
 
 pub invariant_of-self : goal.invariant_of-self
 invariant_of-self c = (
-  stepped (state_in c.self.inside.ranks c.self.inside.memories) _ (Called c.args.invocation.now.caller c.args.invocation.now.call.now (recorded_reply c.args.look.ready)) _ _ _ _ (recorded_of c.record_named.result)
-      c.soundness.ensures.steps c.self.invariant.0 c.record_named.ensures.step c.record_named.ensures.taken c.record_named.ensures.named,
+  stepped (state_in c.self.inside.ranks c.self.inside.memories) _ (Called c.args.invocation.now.caller c.args.invocation.now.call.now (recorded_reply c.args.look.ready)) _ _ _ _ (recorded_of c.record_with_lanes.result)
+      c.soundness.ensures.steps c.self.invariant.0 c.record_with_lanes.ensures.step c.record_with_lanes.ensures.taken c.record_with_lanes.ensures.named,
   rw c.kept_count-self-inside.ensures
-      (count_kept c.self.inside.counted (state_in c.self.inside.ranks c.self.inside.memories) _ c.args.invocation.now.caller c.args.invocation.now.call.now (recorded_reply c.args.look.ready) (recorded_of c.record_named.result)
-      c.soundness.ensures.limits c.self.invariant.1 c.record_named.ensures.step),
+      (count_kept c.self.inside.counted (state_in c.self.inside.ranks c.self.inside.memories) _ c.args.invocation.now.caller c.args.invocation.now.call.now (recorded_reply c.args.look.ready) (recorded_of c.record_with_lanes.result)
+      c.soundness.ensures.limits c.self.invariant.1 c.record_with_lanes.ensures.step),
 )
 
 pub event_charge-charge-requires : goal.event_charge-charge-requires
 event_charge-charge-requires c =
     (declared_there (state_in c.self.inside.ranks c.self.inside.memories) c.args.invocation.now.caller.rank c.args.invocation.now.caller.thread (rw (← c.self.view_is) at c.requires.declared)).within
 
-pub record_named-requires-clause-found : goal.record_named-requires-clause-found
+pub record_named-requires-clause-found : goal.record_with_lanes-requires-clause-found
 record_named-requires-clause-found c = record {
   declared = rw (← c.self.view_is) at c.requires.declared;
   finds = rw (← c.self.view_is) at c.requires.look;

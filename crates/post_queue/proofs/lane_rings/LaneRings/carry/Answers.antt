@@ -3,7 +3,7 @@ use Rattle.gaspi_types.specs.Lanes.{is_posted}
 use Rattle.gaspi_types.specs.declared.entries.Entry.{Entry}
 use Rattle.gaspi_types.specs.declared.entries.Phase.TheVariants.{Carried}
 use Rattle.post_queue.specs.Payloads.{payload_size}
-use Rattle.post_queue.specs.LaneStates.{LaneState}
+use Rattle.post_queue.specs.LaneStates.{LaneValue}
 use Rattle.post_queue.proofs.Rings.{first-waits, count-taken, rings-moved, lane-moved, some-from, at-some, if-some}
 use Rattle.post_queue.proofs.lane_rings.LaneRings.carry.Goals as goal
 
@@ -17,14 +17,14 @@ carried-requires c =
 
 pub append-requires : goal.append-requires
 append-requires c =
-    let depth = ap (λ (s : LaneState). s.depth) c.self.view_is in
+    let depth = ap (λ (s : LaneValue). s.depth) c.self.view_is in
     let count = count-taken c.self.invariant c.self.view_is c.requires.whole in
     let room = c.requires.room in
     omega arith
 
 pub invariant_of-self : goal.invariant_of-self
 invariant_of-self c =
-    let depth = ap (λ (s : LaneState). s.depth) c.self.view_is in
+    let depth = ap (λ (s : LaneValue). s.depth) c.self.view_is in
     let count = count-taken c.self.invariant c.self.view_is c.requires.whole in
     let room = c.requires.room in
     rw (c.append.ensures, c.pop_front.ensures.items) (rings-moved _ c.self.invariant (omega arith) (ap is_posted c.carried.ensures))

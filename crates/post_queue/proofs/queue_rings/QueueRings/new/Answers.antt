@@ -1,6 +1,6 @@
 use Rattle.std.proofs.Common.{List, map, None, ◌∙◌, ap}
 use Rattle.gaspi_types.specs.declared.entries.Entry.{Entry}
-use Rattle.post_queue.specs.LaneStates.{LaneState}
+use Rattle.post_queue.specs.LaneStates.{LaneValue}
 use Rattle.post_queue.specs.QueueStates.{entries_of}
 use Rattle.post_queue.proofs.Queues.{new-queue, fresh, laned}
 use Rattle.post_queue.proofs.Nonempty.{nonempty-none, none-fresh}
@@ -13,4 +13,4 @@ invariant_of-result c = record {
 }
 
 pub returns : goal.returns
-returns c = ap (λ (ls : List (List Entry)). laned c.args.depth 0 None ls) (ap (λ (lanes : List LaneState). map entries_of lanes) c.in_ok-empty_lanes.ensures ∙ fresh c.args.ranks c.args.depth)
+returns c = ap (λ (ls : List (List Entry)). laned c.args.depth 0 None ls) (ap (λ (lanes : List LaneValue). map entries_of lanes) c.in_ok-empty_lanes.ensures ∙ fresh c.args.ranks c.args.depth)

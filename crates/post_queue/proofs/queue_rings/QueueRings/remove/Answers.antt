@@ -1,10 +1,10 @@
 use Rattle.std.proofs.Common.{◌≡◌, List, drop, ◌∙◌, ap, arith}
 use Rattle.gaspi_types.specs.declared.entries.Entry.{Entry}
-use Rattle.post_queue.specs.LaneStates.{LaneState}
+use Rattle.post_queue.specs.LaneStates.{LaneValue}
 use Rattle.post_queue.specs.Places.{first_carried}
 use Rattle.post_queue.specs.QueueStates.{QueueState, state_of}
-use Rattle.post_queue.specs.Steps.{removed_in}
-use Rattle.post_queue.specs.declared.kinds.Progress.TheVariants as progress
+use Rattle.post_queue.specs.Steps.{put_done_in}
+use Rattle.post_queue.specs.declared.kinds.PhaseKind.TheVariants as progress
 use Rattle.post_queue.proofs.Queues.{putting, some-of, at-if, carried-progress, state-changed, whole-at, head-step, unposted-at}
 use Rattle.post_queue.specs.Nonempty.{is_nonempty}
 use Rattle.post_queue.proofs.Nonempty.{nonempty-set, at-set}
@@ -25,16 +25,16 @@ invariant_of-self c = record {
   queue =
       let at = putting _ _ _ c.self.inside.lanes c.index-place.result c.args.target c.at_mut.result.now c.args.self.now c.index-place.ensures.value c.at_mut.ensures.value c.self.view_is c.requires in
       let first = some-of (first_carried c.at_mut.result.now.entries) at.1 in
-      head-step c.self.inside.lanes c.index-place.result c.at_mut.result.now c.remove-kind.new.self first.0 c.remove-kind.result progress.Carried c.lower.new.self
+      head-step c.self.inside.lanes c.index-place.result c.at_mut.result.now c.remove-kind.new.self first.0 c.remove-kind.result progress.Carried c.subtract.new.self
       c.self.invariant.queue c.at_mut.ensures.value (c.remove-kind.ensures.head ∙ first.1) (carried-progress c.at_mut.result.now.entries first.0 first.1)
       (at-if (λ (e : Entry). c.remove-kind.result ≡ e.kind) _ first.0 first.1 c.remove-kind.ensures.kind)
       at.0 (unposted-at c.at_mut.result.now.entries first.0 first.1)
-      c.remove-kind.ensures.lane c.remove-kind.ensures.bound c.lower.ensures;
-  nonempty = nonempty-set c.self.inside.nonempty c.set_member-self-inside.result c.self.inside.lanes c.index-place.result c.args.target c.at_mut.result.now c.remove-kind.new.self c.index-place.ensures.value (let within = c.index-place.ensures.bound in let same = c.index-place.ensures.value in omega arith) c.self.invariant.nonempty c.at_mut.ensures.value (c.set_member-self-inside.ensures.here ∙ c.is_nonempty-member.ensures ∙ ap (λ (l : LaneState). is_nonempty l.entries) (at-set c.self.inside.lanes c.index-place.result c.at_mut.result.now c.remove-kind.new.self c.at.result.now c.at_mut.ensures.value c.at.ensures)) c.set_member-self-inside.ensures.others;
+      c.remove-kind.ensures.lane c.remove-kind.ensures.bound c.subtract.ensures;
+  nonempty = nonempty-set c.self.inside.nonempty c.set_member-self-inside.result c.self.inside.lanes c.index-place.result c.args.target c.at_mut.result.now c.remove-kind.new.self c.index-place.ensures.value (let within = c.index-place.ensures.bound in let same = c.index-place.ensures.value in omega arith) c.self.invariant.nonempty c.at_mut.ensures.value (c.set_member-self-inside.ensures.here ∙ c.is_nonempty-member.ensures ∙ ap (λ (l : LaneValue). is_nonempty l.entries) (at-set c.self.inside.lanes c.index-place.result c.at_mut.result.now c.remove-kind.new.self c.at.result.now c.at_mut.ensures.value c.at.ensures)) c.set_member-self-inside.ensures.others;
 }
 
 pub returns : goal.returns
 returns c =
     state-changed _ _ c.self.inside.broken c.self.inside.lanes c.index-place.result c.args.target c.at_mut.result.now c.remove-kind.new.self (λ (lane : List Entry). drop 1 lane)
-    c.index-place.ensures.value c.at_mut.ensures.value (ap (λ (l : LaneState). l.entries) c.remove-kind.ensures.lane)
-    ∙ ap (λ (s : QueueState). state_of s.depth (removed_in c.args.target s.queue)) c.self.view_is
+    c.index-place.ensures.value c.at_mut.ensures.value (ap (λ (l : LaneValue). l.entries) c.remove-kind.ensures.lane)
+    ∙ ap (λ (s : QueueState). state_of s.depth (put_done_in c.args.target s.queue)) c.self.view_is

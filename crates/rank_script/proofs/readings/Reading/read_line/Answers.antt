@@ -1,7 +1,7 @@
 use Rattle.std.proofs.Common.{map, List, ℕ, refl, sym, ◌∙◌}
 use Rattle.std.proofs.lemmas.List.{length-map}
 use Rattle.rank_script.specs.CutLines.{line_in}
-use Rattle.rank_script.specs.Readings.{said_of}
+use Rattle.rank_script.specs.Readings.{reading_of}
 use Rattle.rank_script.proofs.EarlyFaults.{placed}
 use Rattle.rank_script.proofs.ReadLines.{HasParts, reads-parts, early-fault}
 use Rattle.rank_script.proofs.readings.Reading.read_line.Goals as goal
@@ -15,7 +15,7 @@ returns-in-None-clause-exact c =
       filled = rw length-map (sym c.is_empty.ensures ∙ c.if-is_empty.false);
       parts = c.of-parts.ensures;
     } in
-    reads-parts c.read_parts.result (said_of c.args.self.now) (said_of c.read_parts.new.self) c.args.number c.args.line.now words _ has c.in-None.ensures c.read_parts.ensures.exact
+    reads-parts c.read_line_fields.result (reading_of c.args.self.now) (reading_of c.read_line_fields.new.self) c.args.number c.args.line.now words _ has c.in-None.ensures c.read_line_fields.ensures.exact
 
 pub returns-in-Some-clause-exact : goal.returns-in-Some-clause-exact
 returns-in-Some-clause-exact c =
@@ -26,16 +26,16 @@ returns-in-Some-clause-exact c =
       filled = rw length-map (sym c.is_empty.ensures ∙ c.if-is_empty.false);
       parts = c.of-parts.ensures;
     } in
-    (early-fault (said_of c.args.self.now) c.args.line.now words _ c.in-Some.fault has c.in-Some.ensures, refl)
+    (early-fault (reading_of c.args.self.now) c.args.line.now words _ c.in-Some.fault has c.in-Some.ensures, refl)
 
-pub read_parts-requires-clause-known : goal.read_parts-requires-clause-known
-read_parts-requires-clause-known c = (placed (said_of c.args.self.now) c.args.line.now _ c.in-None.ensures).known
+pub read_parts-requires-clause-known : goal.read_line_fields-requires-clause-known
+read_parts-requires-clause-known c = (placed (reading_of c.args.self.now) c.args.line.now _ c.in-None.ensures).known
 
-pub read_parts-requires-clause-world : goal.read_parts-requires-clause-world
-read_parts-requires-clause-world c = (placed (said_of c.args.self.now) c.args.line.now _ c.in-None.ensures).world
+pub read_parts-requires-clause-world : goal.read_line_fields-requires-clause-world
+read_parts-requires-clause-world c = (placed (reading_of c.args.self.now) c.args.line.now _ c.in-None.ensures).world
 
-pub read_parts-requires-clause-placed : goal.read_parts-requires-clause-placed
-read_parts-requires-clause-placed c = (placed (said_of c.args.self.now) c.args.line.now _ c.in-None.ensures).placed
+pub read_parts-requires-clause-placed : goal.read_line_fields-requires-clause-placed
+read_parts-requires-clause-placed c = (placed (reading_of c.args.self.now) c.args.line.now _ c.in-None.ensures).placed
 
-pub read_parts-requires-clause-count : goal.read_parts-requires-clause-count
-read_parts-requires-clause-count c = (placed (said_of c.args.self.now) c.args.line.now _ c.in-None.ensures).count
+pub read_parts-requires-clause-count : goal.read_line_fields-requires-clause-count
+read_parts-requires-clause-count c = (placed (reading_of c.args.self.now) c.args.line.now _ c.in-None.ensures).count

@@ -1,5 +1,5 @@
 use Rattle.std.proofs.Common.{true, false, refl, ap, ◌∙◌, subst}
-use Rattle.gaspi_types.specs.World.{World}
+use Rattle.gaspi_types.specs.World.{ShapeValue}
 use Rattle.transfer_worker.specs.Order.{GoesPast, Rests}
 use Rattle.transfer_worker.proofs.InOrder.{turning-begins, turning-past, turning-rests, turning-ends}
 use Rattle.transfer_worker.proofs.Tries.{goes-then, goes-same, knows-none, knows-then}
@@ -13,7 +13,7 @@ loop-preserved-in-Moved g c =
     let had = c.loop.invariant in
     let w = c.args.self.now.world.now.start.shape in
     let lent = ap (λ t. t.start.shape) had.1 in
-    let past = subst (λ (x : World). GoesPast x c.loop.self.turns c.loop.quiet.counts c.loop.self.pass.now.known c.go_past.result c.go_past.new.self.turns c.go_past.new.quiet.counts c.go_past.new.self.pass.now.known) lent c.go_past.ensures.past in
+    let past = subst (λ (x : ShapeValue). GoesPast x c.loop.self.turns c.loop.quiet.counts c.loop.self.pass.now.known c.go_past.result c.go_past.new.self.turns c.go_past.new.quiet.counts c.go_past.new.self.pass.now.known) lent c.go_past.ensures.past in
     let told = past.0 c.args.self.now.pass.now.known had.7 in
     let so_far = turning-past w c.args.self.now.turns c.loop.self.turns c.go_past.new.self.turns c.args.self.now.pass.now.known c.loop.self.pass.now.known c.go_past.new.self.pass.now.known c.go_past.result had.6 told.0 past.1 in (
       (tt, tt),
@@ -31,7 +31,7 @@ loop-preserved-in-Busy g c =
     let had = c.loop.invariant in
     let w = c.args.self.now.world.now.start.shape in
     let lent = ap (λ t. t.start.shape) had.1 in
-    let past = subst (λ (x : World). GoesPast x c.loop.self.turns c.loop.quiet.counts c.loop.self.pass.now.known c.go_past.result c.go_past.new.self.turns c.go_past.new.quiet.counts c.go_past.new.self.pass.now.known) lent c.go_past.ensures.past in
+    let past = subst (λ (x : ShapeValue). GoesPast x c.loop.self.turns c.loop.quiet.counts c.loop.self.pass.now.known c.go_past.result c.go_past.new.self.turns c.go_past.new.quiet.counts c.go_past.new.self.pass.now.known) lent c.go_past.ensures.past in
     let told = past.0 c.args.self.now.pass.now.known had.7 in
     let so_far = turning-past w c.args.self.now.turns c.loop.self.turns c.go_past.new.self.turns c.args.self.now.pass.now.known c.loop.self.pass.now.known c.go_past.new.self.pass.now.known c.go_past.result had.6 told.0 past.1 in (
       (tt, tt),
@@ -49,10 +49,10 @@ returns-then-rest-clause-turns g c =
     let had = c.loop.invariant in
     let w = c.args.self.now.world.now.start.shape in
     let lent = ap (λ t. t.start.shape) had.1 in
-    let past = subst (λ (x : World). GoesPast x c.loop.self.turns c.loop.quiet.counts c.loop.self.pass.now.known c.go_past.result c.go_past.new.self.turns c.go_past.new.quiet.counts c.go_past.new.self.pass.now.known) lent c.go_past.ensures.past in
+    let past = subst (λ (x : ShapeValue). GoesPast x c.loop.self.turns c.loop.quiet.counts c.loop.self.pass.now.known c.go_past.result c.go_past.new.self.turns c.go_past.new.quiet.counts c.go_past.new.self.pass.now.known) lent c.go_past.ensures.past in
     let told = past.0 c.args.self.now.pass.now.known had.7 in
     let so_far = turning-past w c.args.self.now.turns c.loop.self.turns c.go_past.new.self.turns c.args.self.now.pass.now.known c.loop.self.pass.now.known c.go_past.new.self.pass.now.known c.go_past.result had.6 told.0 past.1 in
-    let rested = subst (λ (x : World). Rests x c.go_past.new.self.turns c.go_past.new.self.pass.now.known true c.rest.new.self.turns c.rest.new.self.pass.now.known) (ap (λ t. t.start.shape) (c.go_past.ensures.same.0 ∙ had.1)) c.if-rest.ensures.rests in
+    let rested = subst (λ (x : ShapeValue). Rests x c.go_past.new.self.turns c.go_past.new.self.pass.now.known true c.rest.new.self.turns c.rest.new.self.pass.now.known) (ap (λ t. t.start.shape) (c.go_past.ensures.same.0 ∙ had.1)) c.if-rest.ensures.rests in
     turning-ends w c.args.self.now.turns c.go_past.new.self.turns c.rest.new.self.turns c.args.self.now.pass.now.known c.go_past.new.self.pass.now.known c.rest.new.self.pass.now.known so_far rested
 
 pub loop-preserved : goal.loop-preserved
@@ -60,10 +60,10 @@ loop-preserved g c =
     let had = c.loop.invariant in
     let w = c.args.self.now.world.now.start.shape in
     let lent = ap (λ t. t.start.shape) had.1 in
-    let past = subst (λ (x : World). GoesPast x c.loop.self.turns c.loop.quiet.counts c.loop.self.pass.now.known c.go_past.result c.go_past.new.self.turns c.go_past.new.quiet.counts c.go_past.new.self.pass.now.known) lent c.go_past.ensures.past in
+    let past = subst (λ (x : ShapeValue). GoesPast x c.loop.self.turns c.loop.quiet.counts c.loop.self.pass.now.known c.go_past.result c.go_past.new.self.turns c.go_past.new.quiet.counts c.go_past.new.self.pass.now.known) lent c.go_past.ensures.past in
     let told = past.0 c.args.self.now.pass.now.known had.7 in
     let so_far = turning-past w c.args.self.now.turns c.loop.self.turns c.go_past.new.self.turns c.args.self.now.pass.now.known c.loop.self.pass.now.known c.go_past.new.self.pass.now.known c.go_past.result had.6 told.0 past.1 in
-    let rested = subst (λ (x : World). Rests x c.go_past.new.self.turns c.go_past.new.self.pass.now.known false c.rest.new.self.turns c.rest.new.self.pass.now.known) (ap (λ t. t.start.shape) (c.go_past.ensures.same.0 ∙ had.1)) c.if-rest.ensures.rests in (
+    let rested = subst (λ (x : ShapeValue). Rests x c.go_past.new.self.turns c.go_past.new.self.pass.now.known false c.rest.new.self.turns c.rest.new.self.pass.now.known) (ap (λ t. t.start.shape) (c.go_past.ensures.same.0 ∙ had.1)) c.if-rest.ensures.rests in (
       (tt, tt),
       c.rest.ensures.same.0 ∙ (c.go_past.ensures.same.0 ∙ had.1),
       c.rest.ensures.same.1 ∙ (c.go_past.ensures.same.1 ∙ had.2),

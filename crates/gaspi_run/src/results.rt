@@ -1,0 +1,231 @@
+//! What the commands tell of their inputs.
+
+ghost use Rattle.std.specs.Prelude.{◌≡◌, ◌≤◌, ℕ, IfOk, IsErrOf, Err, None, true};
+ghost use Rattle.gaspi_texts.specs.JournalText.{HaveOwnValues};
+ghost use Rattle.rank_script.specs.WorldText.{world_text};
+ghost use Rattle.rank_script.specs.declared.scripts.ScriptFault.TheVariants as script_faults;
+ghost use Rattle.command_line.specs.declared.words.Command.TheVariants as commands;
+ghost use Rattle.gaspi_model.specs.Step.{is_legal};
+ghost use Rattle.call_journal.specs.Numbers.{AreNumbers};
+ghost use Rattle.gaspi_run.specs.Command.{has_failed_or_stuck, is_any_limit, run_status, run_text, numbers_text, IsWithin, is_plain, HasRunOnThreads, HasBenched, IsStepped, IsCommandResult, world_read};
+
+use crate::judging::{Question, tell_judged};
+use crate::schedule_states::EndedCaller;
+use crate::scheduling::schedule;
+use crate::threads::{RunResult, run_on_threads};
+use call_journal::{
+    Numbers4, bench_calls, bench_notifications, bench_numbers, bench_transfers, bench_words,
+    write_transcripts,
+};
+use command_line::Command;
+use gaspi_model::StepFault;
+use gaspi_texts::{Journal, write, write_number};
+use gaspi_types::{Bytes, NoMemory, Shape};
+use gaspi_world::Tally;
+use rank_script::{RunOutcome, ScriptFault, Scripts, bench_world, read_world};
+use std::alloc::Global;
+use std::sync::Wait;
+use std::thread::Threads;
+
+/// What a command tells of its input: the history, what is known of the closed world where threads ran it, the status, and the
+/// text.
+#[derive(Drop)]
+pub struct CommandResult {
+    pub journal: Journal,
+    pub tally: Option<Tally>,
+    pub status: u8,
+    pub text: Bytes,
+}
+
+/// Whether a caller has failed or is stuck.
+fn is_any_wrong(finished: &[EndedCaller]) -> bool
+    ensures { result ≡ has_failed_or_stuck finished.now }
+{
+    finished.iter().any(|f| {
+        matches!(
+            f.outcome,
+            RunOutcome::Failed { .. } | RunOutcome::Stuck { .. }
+        )
+    })
+}
+
+/// Whether a caller ended at the event limit.
+fn is_any_limit(finished: &[EndedCaller]) -> bool
+    ensures { result ≡ is_any_limit finished.now }
+{
+    finished
+        .iter()
+        .any(|f| matches!(f.outcome, RunOutcome::Limit { .. }))
+}
+
+/// The status of a run.
+fn run_status(finished: &[EndedCaller]) -> u8
+    ensures { result ≡ run_status finished.now }
+{
+    if is_any_wrong(finished) {
+        3
+    } else if is_any_limit(finished) {
+        8
+    } else {
+        0
+    }
+}
+
+/// The text of a run: what each caller was told, or the journal.
+fn run_text(
+    alloc: Global,
+    brief: bool,
+    shape: &Shape,
+    scripts: &Scripts,
+    journal: &Journal,
+) -> Result<Bytes, NoMemory>
+    requires { HaveOwnValues journal.now }
+    ensures { IfOk result (λ text. text ≡ run_text brief shape.now scripts.now journal.now) }
+{
+    let mut text = Bytes::new(alloc);
+    if brief {
+        write_transcripts(&mut text, shape, scripts, journal)?;
+    } else {
+        write(&mut text, journal)?;
+    }
+    Ok(text)
+}
+
+/// Runs a world text on threads, with so many workers and that many looks for a call that blocks.
+pub fn run_result<R: Threads + Wait + Sync>(
+    rt: &R,
+    alloc: Global,
+    workers: u32,
+    limit: u32,
+    brief: bool,
+    input: &[u8],
+) -> Result<CommandResult, ScriptFault>
+    requires limit { 1 ≤ limit }
+    requires workers { (1 ≤ workers) × (workers ≤ 4) }
+    ensures told { IfOk result (λ told. HasRunOnThreads workers limit brief input.now told.journal told.tally told.status told.text) }
+    ensures fault { (number line : ℕ) → IsErrOf result (script_faults.At number line)
+        → world_text input.now ≡ Err (record { number = number; line = line }) }
+{
+    let (shape, scripts) = read_world(alloc, input)?;
+    let RunResult {
+        journal,
+        tally,
+        outcomes,
+    } = run_on_threads(rt, alloc, &shape, &scripts, workers, limit)?;
+    let text = run_text(alloc, brief, &shape, &scripts, &journal)?;
+    let status = run_status(outcomes.as_slice());
+    Ok(CommandResult {
+        journal,
+        tally: Some(tally),
+        status,
+        text,
+    })
+}
+
+/// The text of the numbers of a journal.
+fn numbers_text(alloc: Global, numbers: Numbers4) -> Result<Bytes, NoMemory>
+    ensures { IfOk result (λ text. text ≡ numbers_text numbers) }
+{
+    let mut text = Bytes::new(alloc);
+    text.append(b"calls ")?;
+    write_number(&mut text, numbers.calls)?;
+    text.append(b"\ntransfers ")?;
+    write_number(&mut text, numbers.transfers)?;
+    text.append(b"\nnotifications ")?;
+    write_number(&mut text, numbers.notifications)?;
+    text.append(b"\nsum ")?;
+    write_number(&mut text, numbers.sum)?;
+    text.append(b"\n")?;
+    Ok(text)
+}
+
+/// The numbers of the journal of a world that ran, which is legal.
+fn numbers_of(alloc: Global, shape: &Shape, journal: &Journal) -> Result<Numbers4, NoMemory>
+    requires { is_legal shape.now journal.now ≡ true }
+    ensures { IfOk result (λ numbers. AreNumbers shape.now journal.now numbers) }
+{
+    match bench_numbers(alloc, shape, journal) {
+        Ok(numbers) => Ok(numbers),
+        Err(StepFault::Illegal(_)) => unreachable!(),
+        Err(StepFault::NoMemory) => Err(NoMemory),
+    }
+}
+
+/// Runs the world of `bench` on threads, with one worker and 100,000,000 looks for a call that blocks, and tells the numbers of its
+/// journal.
+pub fn bench_result<R: Threads + Wait + Sync>(
+    rt: &R,
+    alloc: Global,
+    seed: u32,
+    ranks: u32,
+    rounds: u32,
+) -> Result<CommandResult, NoMemory>
+    requires { IsWithin (commands.Bench seed ranks rounds) }
+    ensures { IfOk result (λ told. HasBenched seed ranks rounds told.journal told.tally told.status told.text) }
+{
+    bench_calls();
+    bench_transfers();
+    bench_notifications();
+    bench_words();
+    let (shape, scripts) = bench_world(alloc, seed, ranks, rounds)?;
+    let RunResult {
+        journal,
+        tally,
+        outcomes,
+    } = run_on_threads(rt, alloc, &shape, &scripts, 1, 100_000_000)?;
+    let numbers = numbers_of(alloc, &shape, &journal)?;
+    let text = numbers_text(alloc, numbers)?;
+    let status = run_status(outcomes.as_slice());
+    Ok(CommandResult {
+        journal,
+        tally: Some(tally),
+        status,
+        text,
+    })
+}
+
+/// Runs a world text on one thread, from a seed and with that many looks for a call that blocks.
+fn step_result(
+    alloc: Global,
+    seed: u32,
+    limit: u32,
+    brief: bool,
+    input: &[u8],
+) -> Result<CommandResult, ScriptFault>
+    requires { 1 ≤ limit }
+    ensures told { IfOk result (λ told. IsStepped seed limit brief input.now told.journal told.status told.text) }
+    ensures plain { IfOk result (λ told. told.tally ≡ None) }
+    ensures fault { (number line : ℕ) → IsErrOf result (script_faults.At number line)
+        → world_text input.now ≡ Err (record { number = number; line = line }) }
+{
+    let (shape, scripts) = read_world(alloc, input)?;
+    let ran = schedule(alloc, &shape, &scripts, seed, limit)?;
+    let text = run_text(alloc, brief, &shape, &scripts, &ran.journal)?;
+    let status = run_status(ran.outcomes.as_slice());
+    Ok(CommandResult {
+        journal: ran.journal,
+        tally: None,
+        status,
+        text,
+    })
+}
+
+/// What a command that needs no threads tells of an input, or the first fault of the world text in it.
+pub fn command_result(
+    alloc: Global,
+    command: Command,
+    input: &[u8],
+) -> Result<CommandResult, ScriptFault>
+    requires within { IsWithin command }
+    requires plain { is_plain command ≡ true }
+    ensures told { IfOk result (λ told. IsCommandResult command input.now told.journal told.tally told.status told.text) }
+    ensures fault { (number line : ℕ) → IsErrOf result (script_faults.At number line)
+        → world_read command input.now ≡ Err (record { number = number; line = line }) }
+{
+    match command {
+        Command::Run { .. } | Command::Bench { .. } => unreachable!(),
+        Command::Step { seed, limit, brief } => step_result(alloc, seed, limit, brief, input),
+        Command::Check => tell_judged(alloc, input, Question::Verdict),
+        Command::Why { place } => tell_judged(alloc, input, Question::Writes { place }),
+    }
+}

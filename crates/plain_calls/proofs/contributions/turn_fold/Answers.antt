@@ -1,4 +1,0 @@
-use Rattle.plain_calls.proofs.contributions.turn_fold.Goals as goal
-
-pub fold-requires-clause-alike : goal.fold-requires-clause-alike
-fold-requires-clause-alike c = rw c.turn_of-turn.ensures c.requires.alike

@@ -1,0 +1,146 @@
+//! The lanes that have an entry, by their names. (GASPI: one-sided communication)
+
+ghost use Rattle.std.specs.Prelude.{◌≡◌, ◌≢◌, ◌<◌, ◌≤◌, [], length, true, false, vec_len, vec_capacity};
+ghost use Rattle.std.specs.List.{filter, insert, remove, prefix_len};
+ghost use Rattle.std.specs.Option.{option_copied};
+ghost use Rattle.plain_machine.specs.NonemptyLanes.{is_before, is_elsewhere, lane_queue, queue_entries, lane_entries, unbroken_entries, post_lane};
+ghost use Rattle.plain_machine.specs.Looking.{look_lane, look_purge};
+
+use gaspi_model::Posts;
+use gaspi_types::{Call, Entry, Invocation, Queue, QueueId, RankId, Sequence};
+use plain_calls::{Evaluation, purged_queue};
+
+/// The name of a lane: its origin, its queue and its target.
+#[derive(Clone, Copy, Debug, PartialEq, Eq)]
+pub struct LaneId {
+    pub origin: RankId,
+    pub queue: QueueId,
+    pub target: RankId,
+}
+
+/// Whether a lane comes before another in the order of origin, queue and target.
+fn is_before(a: &LaneId, b: &LaneId) -> bool
+    ensures { result ≡ is_before a.now b.now }
+{
+    if a.origin != b.origin {
+        return a.origin.number() < b.origin.number();
+    }
+    if a.queue != b.queue {
+        return a.queue.number() < b.queue.number();
+    }
+    a.target.number() < b.target.number()
+}
+
+/// How many of the lanes stand before a lane, up to the first that does not.
+fn place_among(lanes: &[LaneId], id: &LaneId) -> usize
+    ensures place { result ≡ prefix_len (λ x. is_before x id.now) lanes.now }
+    ensures bound { result ≤ length lanes.now }
+{
+    for (place, named) in lanes.iter().enumerate() {
+        if !is_before(named, id) {
+            return place;
+        }
+    }
+    lanes.len()
+}
+
+/// The queue of a lane, if it is there.
+fn lane_queue<'a>(posts: &'a Sequence<Posts>, id: &LaneId) -> Option<&'a Queue>
+    ensures { option_copied result ≡ lane_queue posts.now id.now }
+{
+    let posts = posts.get(id.origin.index())?;
+    posts.queues.get(id.queue.index())
+}
+
+/// The entries of a queue's lane to a target: of one that is not there, none.
+fn queue_entries(q: &Queue, target: RankId) -> &[Entry]
+    ensures { result.now ≡ queue_entries q.now target }
+{
+    match q.lanes.get(target.index()) {
+        Some(lane) => lane.as_slice(),
+        None => &[],
+    }
+}
+
+/// Whether a lane has an entry.
+pub fn has_entry(posts: &Sequence<Posts>, id: &LaneId) -> bool
+    ensures none { result ≡ false → lane_entries posts.now id.now ≡ [] }
+    ensures some { result ≡ true → lane_entries posts.now id.now ≢ [] }
+{
+    match lane_queue(posts, id) {
+        Some(q) => !queue_entries(q, id.target).is_empty(),
+        None => false,
+    }
+}
+
+/// The entries of a lane whose queue is not broken: of another, none.
+pub fn open_entries<'a>(posts: &'a Sequence<Posts>, id: &LaneId) -> &'a [Entry]
+    ensures { result.now ≡ unbroken_entries posts.now id.now }
+{
+    match lane_queue(posts, id) {
+        Some(q) if q.broken.is_none() => queue_entries(q, id.target),
+        Some(_) | None => &[],
+    }
+}
+
+/// The lane of a target and a queue, where both are in their ranges.
+fn post_lane(rank: RankId, target: u64, queue: u64) -> Option<LaneId>
+    ensures { result ≡ post_lane rank target queue }
+{
+    if target >= 16 || queue >= 8 {
+        return None;
+    }
+    Some(LaneId {
+        origin: rank,
+        queue: QueueId::of(queue as u32),
+        target: RankId::of(target as u32),
+    })
+}
+
+/// The lane to which a call posts whose look is recorded.
+pub fn look_lane(invocation: &Invocation<'_>, look: &Evaluation) -> Option<LaneId>
+    ensures { result ≡ look_lane invocation.now.caller.rank invocation.now.call.now look.now }
+{
+    if look.is_refused_or_timeout() {
+        return None;
+    }
+    match invocation.row.posting {
+        Some(posting) => post_lane(invocation.caller.rank, posting.rank, posting.queue),
+        None => None,
+    }
+}
+
+/// The queue that a call purges whose look is recorded.
+pub fn look_purge(call: &Call, look: &Evaluation) -> Option<u64>
+    ensures { result ≡ look_purge call.now look.now }
+{
+    if look.is_refused_or_timeout() {
+        return None;
+    }
+    purged_queue(call)
+}
+
+/// Names a lane at its place. There is room for it.
+pub fn insert_lane(standing: &mut Vec<LaneId>, id: LaneId)
+    requires { vec_len standing.old < vec_capacity standing.old }
+    ensures { standing.new.items ≡ insert standing.old.items (prefix_len (λ x. is_before x id) standing.old.items) id }
+{
+    let place = place_among(standing, &id);
+    let _named = standing.insert(place, id);
+}
+
+/// Takes the name of a lane out, where it stands at its place.
+pub fn remove_lane(standing: &mut Vec<LaneId>, id: &LaneId)
+    requires { prefix_len (λ x. is_before x id.now) standing.old.items < length standing.old.items }
+    ensures { standing.new.items ≡ remove standing.old.items (prefix_len (λ x. is_before x id.now) standing.old.items) }
+{
+    let place = place_among(standing, id);
+    let _named = standing.remove(place);
+}
+
+/// Takes the names of all lanes of an origin's queue out. No entry is looked at.
+pub fn remove_queue_lanes(standing: &mut Vec<LaneId>, origin: RankId, queue: u64)
+    ensures { standing.new.items ≡ filter (is_elsewhere origin queue) standing.old.items }
+{
+    standing.retain(|id| id.origin != origin || u64::from(id.queue.number()) != queue);
+}

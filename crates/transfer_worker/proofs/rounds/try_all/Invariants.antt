@@ -1,5 +1,0 @@
-use Rattle.transfer_worker.proofs.Tries.{IsRound}
-use Rattle.transfer_worker.proofs.rounds.try_all.Given as goal
-
-abbrev pub invariant-loop-step : goal.invariant-loop-step
-invariant-loop-step l = IsRound l.world.start.shape l.first l.ranks l.step l.fn.pass l.so_far l.pass
