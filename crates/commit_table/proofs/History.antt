@@ -199,7 +199,7 @@ module _ {S X E : Type 0} (of : S → Machine X E) (laws : (s : S) → Laws (of 
         history = h';
         holder = r.holder;
         seat = r.seat;
-        turns = r.lock_history;
+        lock_history = r.lock_history;
         size = length-set s.words 0 ((x + 1) % 2 ^ 64) ∙ r.size;
         legal = legal;
         word = get_or-set_same s.words 0 ((x + 1) % 2 ^ 64) 0 (omega arith) ∙ counted;

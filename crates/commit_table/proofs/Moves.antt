@@ -97,7 +97,7 @@ module _ {S X E : Type 0} (m : Machine X E) (start : S) (n : ℕ) where
     history = r.history;
     holder = holder;
     seat = r.seat;
-    turns = turns;
+    lock_history = turns;
     size = size ∙ r.size;
     legal = r.legal;
     word = word ∙ r.word;

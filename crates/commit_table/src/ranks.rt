@@ -57,8 +57,8 @@ impl Sharded for TwoRanks {
 /// After a history the part of the journal that a rank has noted is the history cut by owner: all its own events, each with
 /// its place, and no others. There are such histories: a rank links, and posts.
 pub fn parts_are_the_history()
-    ensures parts { (history : List Act) (parts : List RankPart) → projections_of rank_projections history ≡ Some parts
-        → (rank : ℕ) (first : RankPart) → slice_get rank_projections.first rank ≡ Some first
-        → (part : RankPart) × (slice_get parts rank ≡ Some part) × (noted_acts part ≡ cut rank_event_owner rank zero history) }
-    ensures some { (parts : List RankPart) × (projections_of rank_projections (Link 0 ∷ Post 0 ∷ []) ≡ Some parts) }
+    ensures parts { (history : List RankEvent) (parts : List RankProjection) → projections_of rank_projections history ≡ Some parts
+        → (rank : ℕ) (first : RankProjection) → slice_get rank_projections.first rank ≡ Some first
+        → (part : RankProjection) × (slice_get parts rank ≡ Some part) × (noted_acts part ≡ cut rank_event_owner rank zero history) }
+    ensures some { (parts : List RankProjection) × (projections_of rank_projections (Link 0 ∷ Post 0 ∷ []) ≡ Some parts) }
 {}

@@ -3,11 +3,11 @@ use Rattle.commit_table.proofs.Lists.{left_first, left_later}
 use Rattle.commit_table.proofs.Joining.{joined_pass_more}
 use Rattle.commit_table.proofs.close.join_all.Goals as goal
 
-pub gather_pass-requires-clause-table : goal.join_pass-requires-clause-table
-gather_pass-requires-clause-table g c = let first = c.loop-pass.invariant.left 0 c.in-Some.pass (left_first _ _ c.in-Some.pass c.in-Some.ensures.steps.0) in (c.loop-pass.invariant.table, c.into_seat.ensures.seat.0 ∙ first.0.0)
+pub join_pass-requires-clause-table : goal.join_pass-requires-clause-table
+join_pass-requires-clause-table g c = let first = c.loop-pass.invariant.left 0 c.in-Some.pass (left_first _ _ c.in-Some.pass c.in-Some.ensures.steps.0) in (c.loop-pass.invariant.table, c.into_seat.ensures.seat.0 ∙ first.0.0)
 
-pub gather_pass-requires-clause-free : goal.join_pass-requires-clause-free
-gather_pass-requires-clause-free g c i =
+pub join_pass-requires-clause-free : goal.join_pass-requires-clause-free
+join_pass-requires-clause-free g c i =
     let first = c.loop-pass.invariant.left 0 c.in-Some.pass (left_first _ _ c.in-Some.pass c.in-Some.ensures.steps.0) in
     ap (λ z. Rattle.commit_table.specs.Views.held_at z.0.known.held i) c.into_seat.ensures.seat.1 ∙ first.1 i
 

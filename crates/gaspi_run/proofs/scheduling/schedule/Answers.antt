@@ -8,8 +8,8 @@ use Rattle.gaspi_run.proofs.Joins.{join-laws}
 use Rattle.gaspi_run.proofs.Work.{work}
 use Rattle.gaspi_run.proofs.scheduling.schedule.Goals as goal
 
-pub turn-requires : goal.iterate-requires
-turn-requires c =
+pub iterate-requires : goal.iterate-requires
+iterate-requires c =
     turned-active c.args.shape.now c.args.scripts.now c.args.seed c.args.limit _
     (known _ _ (laws c.soundness.ensures.steps c.soundness.ensures.limits c.soundness.ensures.active c.enabled.ensures.call (join-laws c.soundness.ensures.limits c.enabled.ensures.join c.enabled.ensures.itself c.enabled.ensures.joined c.enabled.ensures.pending c.enabled.ensures.needs) c.runs.ensures.onward c.runs.ensures.ended c.runs.ensures.stopped)
     c.soundness.ensures.counts c.enabled.ensures.transfer c.soundness.ensures.opens c.in_ok-starts.ensures.world c.requires.scripts c.in_ok-starts.ensures.plain)

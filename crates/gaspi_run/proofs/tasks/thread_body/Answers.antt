@@ -6,8 +6,8 @@ use Rattle.gaspi_world.specs.Callers.{IsPassOf}
 use Rattle.gaspi_world.specs.declared.starts.Start.{Start}
 use Rattle.gaspi_run.proofs.tasks.thread_body.Goals as goal
 
-pub caller_part-requires-clause-caller : goal.caller_body-requires-clause-caller
-caller_part-requires-clause-caller c =
+pub caller_body-requires-clause-caller : goal.caller_body-requires-clause-caller
+caller_body-requires-clause-caller c =
     let many : length c.callers-callers.result.now ≡ length c.args.world.now.start.shape.callers = ap length (c.callers-callers.ensures ∙ ap (λ (w : ShapeValue). w.callers) c.shape.ensures) in
     let less : c.args.place < length c.args.world.now.start.shape.callers = omega arith in
     let there = c.requires.callers c.args.place less in

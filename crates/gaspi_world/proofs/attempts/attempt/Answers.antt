@@ -15,14 +15,14 @@ use Rattle.gaspi_world.proofs.HeldNodes.{other-shard, footprint-is}
 use Rattle.gaspi_world.proofs.Working.{attempted-left, missed-busy}
 use Rattle.gaspi_world.proofs.attempts.attempt.Goals as goal
 
-pub open-requires-clause-own : goal.take_and_look-requires-clause-own
-open-requires-clause-own c =
+pub take_and_look-requires-clause-own : goal.take_and_look-requires-clause-own
+take_and_look-requires-clause-own c =
     let w = c.args.table.now.start.shape in
     let caller = c.args.invocation.now.caller in
     subst (λ (n : ℕ). n < w.limits.ranks) (sym c.number.ensures.value) (declared-within w.limits.ranks caller.rank caller.thread w.callers c.requires.world.within c.requires.caller.0).0
 
-pub open-requires-clause-other : goal.take_and_look-requires-clause-other
-open-requires-clause-other c =
+pub take_and_look-requires-clause-other : goal.take_and_look-requires-clause-other
+take_and_look-requires-clause-other c =
     let w = c.args.table.now.start.shape in
     let caller = c.args.invocation.now.caller in
     let call = c.args.invocation.now.call.now in

@@ -41,8 +41,8 @@ join_first-requires-clause-joins c =
       room = λ k is agree. full-at w c.requires.world caller call h v on.held on.own on.other k is agree ∙ (sym c.lacks_room.ensures ∙ c.if-lacks_room.false);
     }
 
-pub settle-requires-clause-found : goal.decide-requires-clause-found
-settle-requires-clause-found c =
+pub decide-requires-clause-found : goal.decide-requires-clause-found
+decide-requires-clause-found c =
     let w = c.args.table.now.start.shape in
     let on = c.requires.holder in
     let v = c.args.pass.now.known in

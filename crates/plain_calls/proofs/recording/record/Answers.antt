@@ -6,8 +6,8 @@ use Rattle.plain_calls.proofs.CallBounds.{released-part}
 use Rattle.gaspi_model.specs.Calls.{recorded_reply}
 use Rattle.plain_calls.proofs.recording.record.Goals as goal
 
-pub record_found-requires-clause-room : goal.record_evaluation-requires-clause-room
-record_found-requires-clause-room c =
+pub record_evaluation-requires-clause-room : goal.record_evaluation-requires-clause-room
+record_evaluation-requires-clause-room c =
     look_room c.args.look c.args.limits.now c.args.invocation.now.caller.rank c.args.posts.now c.args.memory.now c.args.invocation.now.caller.thread c.args.invocation.now.call.now c.requires.limits c.requires.sound c.requires.look
 
 pub returns-clause-step : goal.returns-clause-step
@@ -15,8 +15,8 @@ returns-clause-step c =
     rw (c.in_ok-reply.ensures.posts, c.in_ok-reply.ensures.memory)
     (look_steps c.args.look c.args.limits.now c.args.invocation.now.caller.rank c.args.posts.now c.args.memory.now c.args.invocation.now.caller.thread c.args.invocation.now.call.now c.requires.look c.requires.there (le-leb _ _ c.requires.room))
 
-pub freed-freed-requires : goal.released-freed-requires
-freed-freed-requires c =
+pub released-freed-requires : goal.released-freed-requires
+released-freed-requires c =
     let part = released-part c.args.posts.now c.args.invocation.now.call.now (recorded_reply c.args.look.ready) in
     let room = c.requires.sound.room in
     let limited = c.requires.limits in

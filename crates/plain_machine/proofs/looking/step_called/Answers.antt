@@ -28,8 +28,8 @@ returns-then-not-is_recorded_with-clause-step c = (
   refl,
 )
 
-pub record_named-requires-clause-unjoined : goal.record_with_lanes-requires-clause-unjoined
-record_named-requires-clause-unjoined c = (recorded_by c.in-Ok.look.ready c.args.reply.now (sym c.is_recorded_with.ensures ∙ c.if-not-is_recorded_with.false)).0
+pub record_with_lanes-requires-clause-unjoined : goal.record_with_lanes-requires-clause-unjoined
+record_with_lanes-requires-clause-unjoined c = (recorded_by c.in-Ok.look.ready c.args.reply.now (sym c.is_recorded_with.ensures ∙ c.if-not-is_recorded_with.false)).0
 
 pub event_charge-charge-requires : goal.event_charge-charge-requires
 event_charge-charge-requires c =
@@ -42,8 +42,8 @@ pub has_room-requires-clause-there : goal.has_room-requires-clause-there
 has_room-requires-clause-there c =
     (declared_there (state_in c.args.ranks.now c.args.memories.now) c.args.invocation.now.caller.rank c.args.invocation.now.caller.thread (sym (c.has_section.ensures c.args.memories.now) ∙ c.if-not-has_section.false)).within
 
-pub record_named-requires-clause-found : goal.record_with_lanes-requires-clause-found
-record_named-requires-clause-found c = record {
+pub record_with_lanes-requires-clause-found : goal.record_with_lanes-requires-clause-found
+record_with_lanes-requires-clause-found c = record {
   declared = sym (c.has_section.ensures c.args.memories.now) ∙ c.if-not-has_section.false;
   finds = c.in-Ok.ensures.look;
   charge = c.event_charge-charge.ensures.charge;

@@ -13,8 +13,8 @@ use Rattle.plain_machine.proofs.Lifted.{events_fit}
 use Rattle.plain_machine.proofs.Moved.{take_event_found, take_done, take_fault, take_used}
 use Rattle.plain_machine.proofs.steps.step_take.Goals as goal
 
-pub set_taken-requires : goal.set_take-requires
-set_taken-requires c = events_fit c.args.ranks.now.limits _ c.requires.sound.limits (c.requires.sound.posts _ _ c.at_mut.ensures.value)
+pub set_take-requires : goal.set_take-requires
+set_take-requires c = events_fit c.args.ranks.now.limits _ c.requires.sound.limits (c.requires.sound.posts _ _ c.at_mut.ensures.value)
 
 pub returns-in-Ok-take_bytes-clause-outcome : goal.returns-in-Ok-take_bytes-clause-outcome
 returns-in-Ok-take_bytes-clause-outcome c =

@@ -21,8 +21,8 @@ pub event_charge-charge-requires : goal.event_charge-charge-requires
 event_charge-charge-requires c =
     (declared_there (state_in c.self.inside.ranks c.self.inside.memories) c.args.invocation.now.caller.rank c.args.invocation.now.caller.thread (rw (← c.self.view_is) at c.requires.declared)).within
 
-pub record_named-requires-clause-found : goal.record_with_lanes-requires-clause-found
-record_named-requires-clause-found c = record {
+pub record_with_lanes-requires-clause-found : goal.record_with_lanes-requires-clause-found
+record_with_lanes-requires-clause-found c = record {
   declared = rw (← c.self.view_is) at c.requires.declared;
   finds = rw (← c.self.view_is) at c.requires.look;
   charge = c.event_charge-charge.ensures.charge;

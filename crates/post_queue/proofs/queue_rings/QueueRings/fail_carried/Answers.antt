@@ -21,8 +21,8 @@ fail_carried-kind-requires-clause-there c =
     let at = putting _ _ _ c.self.inside.lanes c.index.result c.args.target c.at_mut.result.now c.args.self.now c.index.ensures.value c.at_mut.ensures.value c.self.view_is c.requires in
     at.1
 
-pub raise-requires : goal.add-requires
-raise-requires c = small-tally c.self.invariant.queue
+pub add-requires : goal.add-requires
+add-requires c = small-tally c.self.invariant.queue
 
 pub invariant_of-self : goal.invariant_of-self
 invariant_of-self c = record {

@@ -29,8 +29,8 @@ fail_posted-kind-requires-clause-there c =
     let at = taking _ _ _ c.self.inside.lanes c.index.result c.args.target c.at_mut.result.now c.args.self.now (λ (e : Entry). Unit {0}) c.index.ensures.value c.at_mut.ensures.value c.self.view_is (take-there _ c.requires) in
     some-from (λ (e : Entry). Unit {0}) _ at.there
 
-pub raise-requires : goal.add-requires
-raise-requires c = small-tally c.self.invariant.queue
+pub add-requires : goal.add-requires
+add-requires c = small-tally c.self.invariant.queue
 
 pub invariant_of-self : goal.invariant_of-self
 invariant_of-self c = record {

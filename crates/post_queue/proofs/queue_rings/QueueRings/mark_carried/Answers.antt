@@ -30,8 +30,8 @@ carry-kind-requires-clause-fits c =
     let at = taking _ _ _ c.self.inside.lanes c.index.result c.args.target c.at_mut.result.now c.args.self.now (λ (e : Entry). length c.args.bytes.now ≡ payload_size e.kind) c.index.ensures.value c.at_mut.ensures.value c.self.view_is c.requires in
     at.there
 
-pub raise-requires : goal.add-requires
-raise-requires c = small-tally c.self.invariant.queue
+pub add-requires : goal.add-requires
+add-requires c = small-tally c.self.invariant.queue
 
 pub invariant_of-self : goal.invariant_of-self
 invariant_of-self c = record {

@@ -13,8 +13,8 @@ use Rattle.post_queue.specs.Nonempty.{is_nonempty}
 use Rattle.post_queue.proofs.Nonempty.{nonempty-set, nonempty-post}
 use Rattle.post_queue.proofs.queue_rings.QueueRings.post_one.Goals as goal
 
-pub raise-requires : goal.add-requires
-raise-requires c = small-tally c.self.invariant.queue
+pub add-requires : goal.add-requires
+add-requires c = small-tally c.self.invariant.queue
 
 pub post-requires : goal.post-requires
 post-requires c =

@@ -28,14 +28,14 @@ returns-in-Some-clause-exact c =
     } in
     (early-fault (reading_of c.args.self.now) c.args.line.now words _ c.in-Some.fault has c.in-Some.ensures, refl)
 
-pub read_parts-requires-clause-known : goal.read_line_fields-requires-clause-known
-read_parts-requires-clause-known c = (placed (reading_of c.args.self.now) c.args.line.now _ c.in-None.ensures).known
+pub read_line_fields-requires-clause-known : goal.read_line_fields-requires-clause-known
+read_line_fields-requires-clause-known c = (placed (reading_of c.args.self.now) c.args.line.now _ c.in-None.ensures).known
 
-pub read_parts-requires-clause-world : goal.read_line_fields-requires-clause-world
-read_parts-requires-clause-world c = (placed (reading_of c.args.self.now) c.args.line.now _ c.in-None.ensures).world
+pub read_line_fields-requires-clause-world : goal.read_line_fields-requires-clause-world
+read_line_fields-requires-clause-world c = (placed (reading_of c.args.self.now) c.args.line.now _ c.in-None.ensures).world
 
-pub read_parts-requires-clause-placed : goal.read_line_fields-requires-clause-placed
-read_parts-requires-clause-placed c = (placed (reading_of c.args.self.now) c.args.line.now _ c.in-None.ensures).placed
+pub read_line_fields-requires-clause-placed : goal.read_line_fields-requires-clause-placed
+read_line_fields-requires-clause-placed c = (placed (reading_of c.args.self.now) c.args.line.now _ c.in-None.ensures).placed
 
-pub read_parts-requires-clause-count : goal.read_line_fields-requires-clause-count
-read_parts-requires-clause-count c = (placed (reading_of c.args.self.now) c.args.line.now _ c.in-None.ensures).count
+pub read_line_fields-requires-clause-count : goal.read_line_fields-requires-clause-count
+read_line_fields-requires-clause-count c = (placed (reading_of c.args.self.now) c.args.line.now _ c.in-None.ensures).count
