@@ -106,7 +106,7 @@ pub group-there : (s : State) (posts : Posts) (me id : ℕ) (h : Handle) → IsS
 group-there s posts me id h sound hp at =
     let groups = (sound.posts me posts hp).groups in
     let few = made-there s.limits.ranks posts.groups id h groups at in
-    let most = groups.last_id in
+    let most = groups.made in
     let less : id < 8 = omega arith in
     let eight = sound.collectives.eight in
     let g = there-within s.groups id (omega arith) in
