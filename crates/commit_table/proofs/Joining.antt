@@ -61,7 +61,7 @@ module _ {S X E : Type 0} (of : S → Machine X E) (laws : (s : S) → Laws (of 
     history = r.history;
     holder = r.holder;
     seat = r.seat;
-    turns = r.lock_history;
+    lock_history = r.lock_history;
     size = r.size;
     legal = r.legal;
     word = r.word;
@@ -176,7 +176,7 @@ module _ {S X E : Type 0} (of : S → Machine X E) (laws : (s : S) → Laws (of 
         history = h;
         holder = r.holder;
         seat = seat';
-        turns = r.lock_history;
+        lock_history = r.lock_history;
         size = r.size;
         legal = r.legal;
         word = r.word;
@@ -245,7 +245,7 @@ module _ {S X E : Type 0} (of : S → Machine X E) (laws : (s : S) → Laws (of 
         history = h;
         holder = r.holder;
         seat = r.seat;
-        turns = r.lock_history;
+        lock_history = r.lock_history;
         size = r.size;
         legal = r.legal;
         word = r.word;
@@ -310,7 +310,7 @@ module _ {S X E : Type 0} (of : S → Machine X E) (laws : (s : S) → Laws (of 
         history = h;
         holder = r.holder;
         seat = seat';
-        turns = r.lock_history;
+        lock_history = r.lock_history;
         size = r.size;
         legal = r.legal;
         word = r.word;
@@ -437,7 +437,7 @@ module _ {S X E : Type 0} (of : S → Machine X E) (laws : (s : S) → Laws (of 
     shards = λ i lt. let a = values i lt in record { word = zeros (word_of i); value = a.0; slot = at_map (λ (y : Option X). some y) xs (slot_of i) (Some a.0) a.1; stands = a.2 };
     parties = λ p. party_first ws xs p (dec_lt p n);
     views = λ id v there. first_view ws id v there;
-    turns = [];
+    lock_history = [];
     turned = record {
       holders = λ i lt. refl;
       parties = λ p. lock_records_first p (dec_lt p n);

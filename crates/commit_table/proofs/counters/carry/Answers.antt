@@ -7,8 +7,8 @@ use Rattle.commit_table.proofs.counters.carry.Goals as goal
 
 pub returns-clause-told : goal.returns-clause-told
 returns-clause-told c =
-    let first = c.in-Some.ensures.taken in
-    let second = c.in-Some-try_take.ensures.taken in
+    let first = c.in-Some.ensures.shard_taken in
+    let second = c.in-Some-try_take.ensures.shard_taken in
     let l = c.look.ensures.seen in
     stuck_carry c.args.pass.now.known c.try_take.new.pass.known c.try_take-2.new.pass.known c.look.new.pass.known c.give_back-2.new.pass.known c.give_back-3.new.pass.known c.look.result c.in-Some.first c.in-Some-try_take.second l.0 first.0 second.0
     (ap (λ p. p.known) first.1) first.2.stands (ap (λ p. p.known) second.1) second.2.stands l.1 (ap (λ p. p.known) c.give_back-2.ensures) (ap (λ p. p.known) c.give_back-3.ensures)
@@ -24,7 +24,7 @@ returns-in_default-clause-told c =
 
 pub returns-in_default-try_take-clause-told : goal.returns-in_default-try_take-clause-told
 returns-in_default-try_take-clause-told c =
-    let first = c.in-Some.ensures.taken in
+    let first = c.in-Some.ensures.shard_taken in
     let missed = c.in_default-try_take.ensures.missed in
     second_missed counters (λ i. i < 2) c.args.pass.now.known c.try_take.new.pass.known c.try_take-2.new.pass.known c.give_back.new.pass.known 1 0 first.0 missed.0 (omega arith) c.try_take.ensures.sound
     (ap (λ p. p.known) first.1) (ap (λ p. p.known) missed.1) missed.2 (ap (λ p. p.known) c.give_back.ensures)

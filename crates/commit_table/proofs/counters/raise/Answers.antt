@@ -6,7 +6,7 @@ use Rattle.commit_table.proofs.counters.raise.Goals as goal
 
 pub returns-clause-told : goal.returns-clause-told
 returns-clause-told c =
-    let taken = c.in-Some.ensures.taken in
+    let taken = c.in-Some.ensures.shard_taken in
     let l = c.look.ensures.seen in
     stuck_raise c.args.pass.now.known c.try_take.new.pass.known c.look.new.pass.known c.give_back.new.pass.known c.look.result c.args.counter c.in-Some.value l.0 taken.0
     (ap (λ p. p.known) taken.1) taken.2.stands l.1 (ap (λ p. p.known) c.give_back.ensures) (λ lt. absurd (let over = c.if-value-lt-MOST.false in omega arith))

@@ -6,5 +6,5 @@ pub load-requires : goal.load-requires
 load-requires g c = let start = c.args.board.now.key.start in (
   search rules,
   omega (arith, c.requires.size.0),
-  look_allowed g.M.Sharded.machine g.M.Sharded.lawful start c.args.board.now.key.passes _ _ g.N.Counted.passes c.args.seat.now.me c.requires.ready c.requires.count,
+  look_allowed g.M.Sharded.machine g.M.Sharded.lawful start c.args.board.now.key.passes _ _ g.N.PassCount.passes c.args.seat.now.me c.requires.ready c.requires.count,
 )

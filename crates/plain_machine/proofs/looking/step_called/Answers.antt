@@ -11,7 +11,7 @@ use Rattle.plain_machine.specs.Machine.{state_in}
 use Rattle.plain_machine.proofs.EventRooms.{full_step}
 use Rattle.plain_machine.proofs.Recorded.{declared_there, undeclared, unanswered, recorded_by}
 use Rattle.plain_machine.proofs.looking.step_called.Goals as goal
-use Rattle.plain_machine.proofs.looking.step_called.Goals.{in-Ok-record_named, in-Err-record_named}
+use Rattle.plain_machine.proofs.looking.step_called.Goals.{in-Ok-record_with_lanes, in-Err-record_with_lanes}
 
 pub returns-then-not-has_section-clause-step : goal.returns-then-not-has_section-clause-step
 returns-then-not-has_section-clause-step c =

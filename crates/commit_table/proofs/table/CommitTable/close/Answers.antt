@@ -7,7 +7,7 @@ pub last_look-length-requires-clause-all : goal.last_look-length-requires-clause
 last_look-length-requires-clause-all g c =
     let key = c.self.inside.table.shared.key in
     let n = ap (λ k. k.passes) c.self.invariant.0 ∙ ap (λ t. t.passes) c.self.view_is in
-    all_remembered g.M.Sharded.machine g.M.Sharded.lawful key.start key.passes c.args.passes.items c.gather_all-seat.result.me.0.joined_passes (ap (λ z. z.0.joined_passes) c.gather_all-seat.ensures.told)
+    all_remembered g.M.Sharded.machine g.M.Sharded.lawful key.start key.passes c.args.passes.items c.join_all-seat.result.me.0.joined_passes (ap (λ z. z.0.joined_passes) c.join_all-seat.ensures.told)
     (λ p lt. c.requires.1 p (subst (λ z. p < z) n lt))
 
 pub returns-clause-journal : goal.returns-clause-journal
@@ -15,9 +15,9 @@ returns-clause-journal g c =
     let key = c.self.inside.table.shared.key in
     let start = ap (λ k. k.start) c.self.invariant.0 ∙ ap (λ t. t.start) c.self.view_is in
     let told = c.last_look-length.ensures.told in
-    let kept = c.keep_tally-kept.ensures.new.1 in
+    let kept = c.split_tally-kept.ensures.new.1 in
     let seen = ap (λ z. z.0.known.seen) kept ∙ ap (λ z. z.0.known.seen) told.1 in
     let gathered = ap (λ z. z.0.joined_passes) kept ∙ ap (λ z. z.0.joined_passes) told.1 in
-    let there = closed_there g.M.Sharded.machine g.M.Sharded.lawful key.start key.passes c.gather_all-seat.result.me.0.joined_passes c.keep_tally-kept.result.me.0.joined_passes told.0 (sym gathered) told.3 in
-    subst (λ s. Closed (g.M.Sharded.machine s) c.keep_tally-kept.result.me.0.known.seen c.keep_tally-kept.result.me.0.joined_passes) start
-    (subst (λ h. Closed (g.M.Sharded.machine key.start) h c.keep_tally-kept.result.me.0.joined_passes) (sym seen) there)
+    let there = closed_there g.M.Sharded.machine g.M.Sharded.lawful key.start key.passes c.join_all-seat.result.me.0.joined_passes c.split_tally-kept.result.me.0.joined_passes told.0 (sym gathered) told.3 in
+    subst (λ s. Closed (g.M.Sharded.machine s) c.split_tally-kept.result.me.0.known.seen c.split_tally-kept.result.me.0.joined_passes) start
+    (subst (λ h. Closed (g.M.Sharded.machine key.start) h c.split_tally-kept.result.me.0.joined_passes) (sym seen) there)
