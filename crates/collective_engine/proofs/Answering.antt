@@ -26,7 +26,7 @@ use Rattle.collective_engine.proofs.Alike.{full-counted}
 use Rattle.collective_engine.proofs.Giving.{less, not_less, slot}
 use Rattle.collective_engine.proofs.Members.{all_members, each_member, all_tested}
 use Rattle.collective_engine.proofs.StandsFor.{members-same, first-stands, made-stands, fold-stands, stands-joined, stands-left}
-use Rattle.collective_engine.proofs.RoundSteps.{was_member, full_for, turns-given, rounds-left}
+use Rattle.collective_engine.proofs.RoundSteps.{was_member, full_for, rounds-given, rounds-left}
 
 -- who has given, by the counts
 
@@ -64,7 +64,7 @@ module _ (r : Inside) (now : RoundBuffers) (view : round_buffers r ≡ now) (ok 
   pub checks : (coll : Coll) (result : Result (Unit {0}) Refusal) (ranks : List ℕ) → may_join now rank coll ≡ true → ranks ≡ r.ranks
       → result ≡ fits (first_contribution (contribution_by r.buffers (completed_by r.buffers rank)) ranks) coll → (g : Group) → StandsFor g now → result ≡ round_checks g rank coll
   checks coll result ranks mine same is g stands =
-      let one = first-stands g (round_buffers r) rank ok.turns (standing g stands) below (was_member r.members coll rank (may coll mine).0) in
+      let one = first-stands g (round_buffers r) rank ok.rounds (standing g stands) below (was_member r.members coll rank (may coll mine).0) in
       let all = same ∙ ok.ranks in
       is ∙ ap (λ (o : Option Contribution). fits o coll) (rw all (sym one))
 
@@ -78,22 +78,22 @@ module _ (r : Inside) (now : RoundBuffers) (view : round_buffers r ≡ now) (ok 
       one : (m : ℕ) → IsMember r.members m → is_some (contribution_in g (completed_by r.buffers rank) m) ≡ is_some (contribution_by r.buffers (completed_by r.buffers rank) m)
       one m its =
           let count = here.joined m in
-          let slots = slot r.buffers ok.turns.room (completed_by r.buffers rank) m its.0 in
+          let slots = slot r.buffers ok.rounds.room (completed_by r.buffers rank) m its.0 in
           some-there (contributions_of g m).contributions (completed_by r.buffers rank)
           ∙ ap (nat_lt (completed_by r.buffers rank)) count
           ∙ sym (some-contributed (nat_lt (completed_by r.buffers rank) (joined_by r.buffers m)) (slice_get (buffer_of r.buffers (completed_by r.buffers rank)) m) slots.0 slots.1)
 
       there : is_round_full g rank ≡ is_full (contribution_by r.buffers (completed_by r.buffers rank)) (ranks_of r.members)
       there =
-          let turn = here.completed rank in
-          rw (turn, members-same g r.members here.members)
+          let round = here.completed rank in
+          rw (round, members-same g r.members here.members)
           (full-counted (contribution_in g (completed_by r.buffers rank)) (contribution_by r.buffers (completed_by r.buffers rank)) (ranks_of r.members)
           (all_members r.members (λ m. is_some (contribution_in g (completed_by r.buffers rank) m) ≡ is_some (contribution_by r.buffers (completed_by r.buffers rank) m)) one))
 
   pub makes : (result : List MemberSegment) (ranks : List ℕ) → is_in now.members rank ≡ true → ranks ≡ r.ranks
       → result ≡ made_by (contribution_by r.buffers (completed_by r.buffers rank)) ranks → (g : Group) → StandsFor g now → result ≡ round_segments g rank
   makes result ranks mine same is g stands =
-      let one = made-stands g (round_buffers r) rank ok.turns (standing g stands) below (λ m its. member mine) in
+      let one = made-stands g (round_buffers r) rank ok.rounds (standing g stands) below (λ m its. member mine) in
       let all = same ∙ ok.ranks in
       is ∙ (rw all (sym one))
 
@@ -110,9 +110,9 @@ module _ (r : Inside) (now : RoundBuffers) (view : round_buffers r ≡ now) (ok 
 
       near : (m : ℕ) → IsMember r.members m → joined_by r.buffers m ≤ completed_by r.buffers rank + 2
       near m its =
-          let one = ok.turns.close.greatest m in
-          let two = ok.turns.close.greatest rank in
-          let three = ok.turns.close.near m rank its (below, member mine) in
+          let one = ok.rounds.close.greatest m in
+          let two = ok.rounds.close.greatest rank in
+          let three = ok.rounds.close.near m rank its (below, member mine) in
           omega arith
 
       one : (m : ℕ) → IsMember r.members m → (o : Option Contribution) → contribution_by r.buffers (completed_by r.buffers rank) m ≡ o → (p : Option Contribution) → contribution_by r.buffers (completed_by r.buffers rank) rank ≡ p
@@ -122,8 +122,8 @@ module _ (r : Inside) (now : RoundBuffers) (view : round_buffers r ≡ now) (ok 
           let no : ⊥ = cc in no)
       one m its (Some d) at None there = absurd (let none = rw there at is in let no : ⊥ = cc in no)
       one m its (Some d) at (Some e) there =
-          let whole = (ok.turns.agree.whole (completed_by r.buffers rank) m d its (near m its) at).0 in
-          let alike = ok.turns.agree.alike (completed_by r.buffers rank) m rank d e its (below, member mine) (near m its) (near rank (below, member mine)) at there in
+          let whole = (ok.rounds.agree.whole (completed_by r.buffers rank) m d its (near m its) at).0 in
+          let alike = ok.rounds.agree.alike (completed_by r.buffers rank) m rank d e its (below, member mine) (near m its) (near rank (below, member mine)) at there in
           let mine_is : Some e.args.coll ≡ Some (Allreduce op t n) = sym (ap coll_in there) ∙ sym is ∙ coll in
           let for_it : d.args.coll ≡ Allreduce op t n = alike ∙ (let inner : e.args.coll ≡ Allreduce op t n = cc in inner) in
           rw at (numbers d.args.coll d.args.values for_it whole)
@@ -134,30 +134,30 @@ module _ (r : Inside) (now : RoundBuffers) (view : round_buffers r ≡ now) (ok 
       → (g : Group) (op' : Op) (t' : NumType) (n' : ℕ) → StandsFor g now → coll_in (contribution_in g (round_of g rank) rank) ≡ Some (Allreduce op' t' n') → result ≡ round_reduction g rank op' t'
   folds result ranks own op t n mine same is coll folded g op' t' n' stands there =
       let here = standing g stands in
-      let turn = here.completed rank in
-      let greatest = ok.turns.close.greatest rank in
+      let round = here.completed rank in
+      let greatest = ok.rounds.close.greatest rank in
       let given = here.given (completed_by r.buffers rank) rank (omega arith) in
-      let given_there : coll_in (contribution_in g (completed_by r.buffers rank) rank) ≡ Some (Allreduce op' t' n') = rw turn at there in
+      let given_there : coll_in (contribution_in g (completed_by r.buffers rank) rank) ≡ Some (Allreduce op' t' n') = rw round at there in
       let alike : ◌≡◌ {A = Option Coll} (Some (Allreduce op t n)) (Some (Allreduce op' t' n')) = sym coll ∙ is ∙ sym (ap coll_in given) ∙ given_there in
       let ops : op ≡ op' = cc in
       let types : t ≡ t' = cc in
-      let one = fold-stands g (round_buffers r) rank ok.turns here below (λ m its. member mine) op' t' in
+      let one = fold-stands g (round_buffers r) rank ok.rounds here below (λ m its. member mine) op' t' in
       let all = same ∙ ok.ranks in
       folded ∙ (rw (all, ops, types) (sym one))
 
   pub joined-one : is_in now.members rank ≡ true → is_full_for now rank ≡ true → joined_by r.buffers rank ≡ completed_by r.buffers rank + 1
   joined-one mine full =
       let joined = full_for r.members r.buffers (completed_by r.buffers rank) (full_in full) rank (below, member mine) in
-      let greatest = ok.turns.close.greatest rank in
+      let greatest = ok.rounds.close.greatest rank in
       omega arith
 
   pub leaves : (b : Buffers) → is_in now.members rank ≡ true → is_full_for now rank ≡ true → b ≡ with_round_completed r.buffers rank → IsRounds (record { members = r.members; ranks = r.ranks; buffers = b })
-  leaves b mine full is = rw is (record { ranks = ok.ranks; turns = rounds-left r.members r.buffers rank ok.turns below (member mine) (full_in full) })
+  leaves b mine full is = rw is (record { ranks = ok.ranks; rounds = rounds-left r.members r.buffers rank ok.rounds below (member mine) (full_in full) })
 
   pub left-stands : (b : Buffers) → is_in now.members rank ≡ true → is_full_for now rank ≡ true → b ≡ with_round_completed r.buffers rank
       → (g : Group) → StandsFor g now → StandsFor (with_completed g rank) (record { members = r.members; buffers = b })
   left-stands b mine full is g stands =
-      rw is (stands-left g (round_buffers r) rank ok.turns (standing g stands) below (member mine) (full_in full) (full_for r.members r.buffers (completed_by r.buffers rank) (full_in full) rank (below, member mine)))
+      rw is (stands-left g (round_buffers r) rank ok.rounds (standing g stands) below (member mine) (full_in full) (full_for r.members r.buffers (completed_by r.buffers rank) (full_in full) rank (below, member mine)))
 
   pub joins : (c : Contribution) (members : Option ℕ) (ranks known : List ℕ) (b : Buffers) → may_join now rank c.args.coll ≡ true → HasItsValues c.args
       → members ≡ fixed_by r.members c.args.coll → ranks ≡ ranks_of members → b ≡ with_contribution r.buffers rank c → known ≡ r.ranks
@@ -167,9 +167,9 @@ module _ (r : Inside) (now : RoundBuffers) (view : round_buffers r ≡ now) (ok 
       let all = same ∙ ok.ranks in
       rw (given, listed, fixed) (record {
         ranks = refl;
-        turns = turns-given r.members r.buffers rank c ok.turns below (may c.args.coll mine).0 (may c.args.coll mine).1 (λ kept is. first kept (rw all is)) values;
+        rounds = rounds-given r.members r.buffers rank c ok.rounds below (may c.args.coll mine).0 (may c.args.coll mine).1 (λ kept is. first kept (rw all is)) values;
       })
 
   pub joined-stands : (c : Contribution) (members : Option ℕ) (b : Buffers) → members ≡ fixed_by r.members c.args.coll → b ≡ with_contribution r.buffers rank c
       → (g : Group) → StandsFor g now → rank < length g.contributions → StandsFor (with_joined g rank c) (record { members = members; buffers = b })
-  joined-stands c members b fixed given g stands within = rw (given, fixed) (stands-joined g (round_buffers r) rank c ok.turns (standing g stands) below within)
+  joined-stands c members b fixed given g stands within = rw (given, fixed) (stands-joined g (round_buffers r) rank c ok.rounds (standing g stands) below within)

@@ -1,4 +1,4 @@
--- What a contribution changes in the buffers: the count of its rank, and its slot in the buffer of its turn.
+-- What a contribution changes in the buffers: the count of its rank, and its slot in the buffer of its round.
 use Rattle.std.proofs.Common.{◌≡◌, ◌≢◌, ℕ, ◌+◌, ◌%◌, ◌≤◌, ◌<◌, Bool, true, false, ◌==◌, if◌then◌else◌, List, length, Option, None, Some, is_some, refl, sym, ◌∙◌, ap, arith}
 use Rattle.std.specs.Prelude.{nat_lt}
 use Rattle.std.specs.List.{slice_get, slice_set}
@@ -32,28 +32,28 @@ ordered {P} a b below same above = go (nat_lt a b) refl (nat_lt b a) refl
         let two : b < a → ⊥ = λ h. (let no = less b a h in let out : ⊥ = cc in out) in
         same (omega arith)
 
--- who has given to a turn has joined it
+-- who has given to a round has joined it
 tested : (t : Bool) (o : Option Contribution) → is_some (if t then o else None) ≡ true → t ≡ true
 tested true o h = refl
 tested false o h = absurd (let no : ⊥ = cc in no)
 
-pub some_joined : (b : Buffers) (turn m : ℕ) → is_some (contribution_by b turn m) ≡ true → turn < joined_by b m
-some_joined b turn m h = ltb-true turn (joined_by b m) (tested (nat_lt turn (joined_by b m)) (slice_get (buffer_of b turn) m) h)
+pub some_joined : (b : Buffers) (round m : ℕ) → is_some (contribution_by b round m) ≡ true → round < joined_by b m
+some_joined b round m h = ltb-true round (joined_by b m) (tested (nat_lt round (joined_by b m)) (slice_get (buffer_of b round) m) h)
 
-pub contributed_joined : (b : Buffers) (turn m : ℕ) (c : Contribution) → contribution_by b turn m ≡ Some c → turn < joined_by b m
-contributed_joined b turn m c at = some_joined b turn m (ap is_some at)
+pub contributed_joined : (b : Buffers) (round m : ℕ) (c : Contribution) → contribution_by b round m ≡ Some c → round < joined_by b m
+contributed_joined b round m c at = some_joined b round m (ap is_some at)
 
--- the other buffer is that of the turn before
-turned : (turn k : ℕ) → turn + 1 ≡ k → (t u : Bool) → (turn % 2 == 0) ≡ t → (k % 2 == 0) ≡ u → t ≡ u → ⊥
-turned turn k next true true this that same = let a = eqb-true (turn % 2) 0 this in let b = eqb-true (k % 2) 0 that in omega arith
-turned turn k next true false this that same = cc
-turned turn k next false true this that same = cc
-turned turn k next false false this that same =
-    let a : turn % 2 ≡ 0 → ⊥ = λ z. let no = eq-eqb (turn % 2) 0 z in let out : ⊥ = cc in out in
+-- the other buffer is that of the round before
+buffers-apart : (round k : ℕ) → round + 1 ≡ k → (t u : Bool) → (round % 2 == 0) ≡ t → (k % 2 == 0) ≡ u → t ≡ u → ⊥
+buffers-apart round k next true true this that same = let a = eqb-true (round % 2) 0 this in let b = eqb-true (k % 2) 0 that in omega arith
+buffers-apart round k next true false this that same = cc
+buffers-apart round k next false true this that same = cc
+buffers-apart round k next false false this that same =
+    let a : round % 2 ≡ 0 → ⊥ = λ z. let no = eq-eqb (round % 2) 0 z in let out : ⊥ = cc in out in
     let b : k % 2 ≡ 0 → ⊥ = λ z. let no = eq-eqb (k % 2) 0 z in let out : ⊥ = cc in out in
     omega arith
 
--- how the buffers look, by the parity of the turn and of the one that is asked for
+-- how the buffers look, by the parity of the round and of the one that is asked for
 same_parity : (t : Bool) (even odd : List Contribution) (rank : ℕ) (c : Contribution)
     → (if t then (if t then slice_set even rank c else even) else (if t then odd else slice_set odd rank c)) ≡ slice_set (if t then even else odd) rank c
 same_parity true even odd rank c = refl
@@ -74,8 +74,8 @@ any_parity false true even odd rank r c apart = refl
 any_parity false false even odd rank r c apart = slice_get-set_other odd rank r c (λ e. apart (sym e))
 
 -- a slot for each rank
-pub slot : (b : Buffers) → HasCapacity b → (turn rank : ℕ) → rank < 16 → (old : Contribution) × (slice_get (buffer_of b turn) rank ≡ Some old)
-slot b room turn rank below = pick (turn % 2 == 0)
+pub slot : (b : Buffers) → HasCapacity b → (round rank : ℕ) → rank < 16 → (old : Contribution) × (slice_get (buffer_of b round) rank ≡ Some old)
+slot b room round rank below = pick (round % 2 == 0)
   where
     pick : (t : Bool) → (old : Contribution) × (slice_get (if t then b.even else b.odd) rank ≡ Some old)
     pick true = there-within b.even rank (let long = room.even in omega arith)
@@ -90,12 +90,12 @@ module _ (b : Buffers) (room : HasCapacity b) (rank : ℕ) (c : Contribution) (b
   joined-other r apart = get_or-set_other b.joined rank r (joined_by b rank + 1) 0 apart
 
   -- what other ranks have given
-  pub contributed-other : (turn r : ℕ) → r ≢ rank → contribution_by (with_contribution b rank c) turn r ≡ contribution_by b turn r
-  contributed-other turn r apart =
+  pub contributed-other : (round r : ℕ) → r ≢ rank → contribution_by (with_contribution b rank c) round r ≡ contribution_by b round r
+  contributed-other round r apart =
       let count = joined-other r apart in
-      rw count (ap (λ (o : Option Contribution). if nat_lt turn (joined_by b r) then o else None) (any_parity (turn % 2 == 0) (joined_by b rank % 2 == 0) b.even b.odd rank r c apart))
+      rw count (ap (λ (o : Option Contribution). if nat_lt round (joined_by b r) then o else None) (any_parity (round % 2 == 0) (joined_by b rank % 2 == 0) b.even b.odd rank r c apart))
 
-  -- what the rank gives now, has given to the turn before, and has not given yet
+  -- what the rank gives now, has given to the round before, and has not given yet
   pub contributed-now : contribution_by (with_contribution b rank c) (joined_by b rank) rank ≡ Some c
   contributed-now =
       let count = joined-now in
@@ -103,17 +103,17 @@ module _ (b : Buffers) (room : HasCapacity b) (rank : ℕ) (c : Contribution) (b
       let there = slot b room (joined_by b rank) rank below in
       rw (count, test) (ap (λ (items : List Contribution). slice_get items rank) (same_parity (joined_by b rank % 2 == 0) b.even b.odd rank c) ∙ slice_get-set_same (buffer_of b (joined_by b rank)) rank there.0 c there.1)
 
-  pub contributed-before : (turn : ℕ) → turn + 1 ≡ joined_by b rank → contribution_by (with_contribution b rank c) turn rank ≡ contribution_by b turn rank
-  contributed-before turn next =
+  pub contributed-before : (round : ℕ) → round + 1 ≡ joined_by b rank → contribution_by (with_contribution b rank c) round rank ≡ contribution_by b round rank
+  contributed-before round next =
       let count = joined-now in
-      let test = less turn (joined_by b rank + 1) (omega arith) in
-      let was = less turn (joined_by b rank) (omega arith) in
-      rw (count, test, was) (ap (λ (items : List Contribution). slice_get items rank) (other_parity (turn % 2 == 0) (joined_by b rank % 2 == 0) b.even b.odd rank c (turned turn (joined_by b rank) next (turn % 2 == 0) (joined_by b rank % 2 == 0) refl refl)))
+      let test = less round (joined_by b rank + 1) (omega arith) in
+      let was = less round (joined_by b rank) (omega arith) in
+      rw (count, test, was) (ap (λ (items : List Contribution). slice_get items rank) (other_parity (round % 2 == 0) (joined_by b rank % 2 == 0) b.even b.odd rank c (buffers-apart round (joined_by b rank) next (round % 2 == 0) (joined_by b rank % 2 == 0) refl refl)))
 
-  pub contributed-later : (turn : ℕ) → joined_by b rank < turn → contribution_by (with_contribution b rank c) turn rank ≡ None
-  contributed-later turn later =
+  pub contributed-later : (round : ℕ) → joined_by b rank < round → contribution_by (with_contribution b rank c) round rank ≡ None
+  contributed-later round later =
       let count = joined-now in
-      let test = not_less turn (joined_by b rank + 1) (omega arith) in
+      let test = not_less round (joined_by b rank + 1) (omega arith) in
       rw (count, test) refl
 
   -- room stays

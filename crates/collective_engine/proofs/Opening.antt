@@ -1,4 +1,4 @@
--- Turns that no rank has joined.
+-- Rounds that no rank has joined.
 use Rattle.std.proofs.Common.{◌≡◌, ℕ, zero, suc, List, replicate, Option, refl, ◌∙◌, ap, arith}
 use Rattle.std.specs.Prelude.{slice_index}
 use Rattle.collective_engine.specs.Rounds.{IsRounds}
@@ -15,7 +15,7 @@ pub opens : (members : Option ℕ) (ranks : List ℕ) (b : Buffers) → ranks �
     → IsRounds (record { members = members; ranks = ranks; buffers = b })
 opens members ranks b listed room joined completed = record {
   ranks = listed;
-  turns = record {
+  rounds = record {
     room = room;
     close = record {
       least = λ r. let none = left_none r in omega arith;
@@ -24,8 +24,8 @@ opens members ranks b listed room joined completed = record {
       near = λ m n its theirs. let none = left_none m in omega arith;
     };
     agree = record {
-      alike = λ turn m n c d its theirs one two at there. absurd (let some = contributed_joined b turn m c at in let none = joined_none m in let no : ⊥ = omega arith in no);
-      whole = λ turn m c its one at. absurd (let some = contributed_joined b turn m c at in let none = joined_none m in let no : ⊥ = omega arith in no);
+      alike = λ round m n c d its theirs one two at there. absurd (let some = contributed_joined b round m c at in let none = joined_none m in let no : ⊥ = omega arith in no);
+      whole = λ round m c its one at. absurd (let some = contributed_joined b round m c at in let none = joined_none m in let no : ⊥ = omega arith in no);
     };
   };
 }

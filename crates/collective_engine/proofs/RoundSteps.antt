@@ -1,4 +1,4 @@
--- What a join and a leave keep: the counts stay close, and the contributions of a turn alike.
+-- What a join and a leave keep: the counts stay close, and the contributions of a round alike.
 use Rattle.std.proofs.Common.{◌≡◌, ◌≢◌, ℕ, ◌+◌, ◌≤◌, ◌<◌, true, Option, None, Some, is_some, refl, sym, ◌∙◌, ap, arith, inl, inr, ◌⊎◌}
 use Rattle.std.proofs.lemmas.List.{get_or-set_other, get_or-set_same, length-set}
 use Rattle.gaspi_types.proofs.Items.{same-or-not}
@@ -26,7 +26,7 @@ pub not_none : (members : Option ℕ) (coll : Coll) (rank : ℕ) → is_in (fixe
 not_none members coll rank mine none = let no : is_in None rank ≡ true = rw none at mine in cc
 
 module _ (members : Option ℕ) (b : Buffers) (rank : ℕ) (c : Contribution) (ok : AreRoundBuffers members b) (below : rank < 16) (mine : is_in (fixed_by members c.args.coll) rank ≡ true) (left : joined_by b rank ≡ completed_by b rank) where
-  -- no member is over one turn ahead
+  -- no member is over one round ahead
   pub ahead : (m : ℕ) → IsMember members m → joined_by b m ≤ completed_by b rank + 1
   ahead m its =
       let one = ok.close.greatest m in
@@ -60,32 +60,32 @@ module _ (members : Option ℕ) (b : Buffers) (rank : ℕ) (c : Contribution) (o
   }
 
   -- what a rank has given is the new contribution, or was there
-  was_contributed : (turn m : ℕ) (d : Contribution) → joined_by (with_contribution b rank c) m ≤ turn + 2 → contribution_by (with_contribution b rank c) turn m ≡ Some d
-      → ((turn ≡ joined_by b rank) × (d ≡ c)) ⊎ ((joined_by b m ≤ turn + 2) × (contribution_by b turn m ≡ Some d))
-  was_contributed turn m d bound at = same-or-not m rank (own m bound at)
-      (λ apart. inr (let more = more_joined m in omega arith, sym (contributed-other b ok.room rank c below turn m apart) ∙ at))
+  was_contributed : (round m : ℕ) (d : Contribution) → joined_by (with_contribution b rank c) m ≤ round + 2 → contribution_by (with_contribution b rank c) round m ≡ Some d
+      → ((round ≡ joined_by b rank) × (d ≡ c)) ⊎ ((joined_by b m ≤ round + 2) × (contribution_by b round m ≡ Some d))
+  was_contributed round m d bound at = same-or-not m rank (own m bound at)
+      (λ apart. inr (let more = more_joined m in omega arith, sym (contributed-other b ok.room rank c below round m apart) ∙ at))
     where
-      own : (m : ℕ) → joined_by (with_contribution b rank c) m ≤ turn + 2 → contribution_by (with_contribution b rank c) turn m ≡ Some d → m ≡ rank
-          → ((turn ≡ joined_by b rank) × (d ≡ c)) ⊎ ((joined_by b m ≤ turn + 2) × (contribution_by b turn m ≡ Some d))
+      own : (m : ℕ) → joined_by (with_contribution b rank c) m ≤ round + 2 → contribution_by (with_contribution b rank c) round m ≡ Some d → m ≡ rank
+          → ((round ≡ joined_by b rank) × (d ≡ c)) ⊎ ((joined_by b m ≤ round + 2) × (contribution_by b round m ≡ Some d))
       own m bound at same =
           let here = rw same at at in
           let near = rw same at bound in
           let now = joined-now b ok.room rank c below in
-          rw same (ordered turn (joined_by b rank)
-          (λ before. inr (omega arith, sym (contributed-before b ok.room rank c below turn (omega arith)) ∙ here))
+          rw same (ordered round (joined_by b rank)
+          (λ before. inr (omega arith, sym (contributed-before b ok.room rank c below round (omega arith)) ∙ here))
           (λ this. inl (this, (let is = contributed-now b ok.room rank c below in let there = rw this at here in let equal : c ≡ d = cc in sym equal)))
-          (λ later. absurd (let none = contributed-later b ok.room rank c below turn later in let no : ⊥ = cc in no)))
+          (λ later. absurd (let none = contributed-later b ok.room rank c below round later in let no : ⊥ = cc in no)))
 
   -- who has given is a member already
-  old_member : (turn m : ℕ) (d : Contribution) → IsMember (fixed_by members c.args.coll) m → contribution_by b turn m ≡ Some d → IsMember members m
-  old_member turn m d its at = go (kept_member members c.args.coll m its)
+  old_member : (round m : ℕ) (d : Contribution) → IsMember (fixed_by members c.args.coll) m → contribution_by b round m ≡ Some d → IsMember members m
+  old_member round m d its at = go (kept_member members c.args.coll m its)
     where
       go : ((members ≡ None) ⊎ IsMember members m) → IsMember members m
-      go (inl none) = absurd (let joined = contributed_joined b turn m d at in let zero = ok.close.early none m in let no : ⊥ = omega arith in no)
+      go (inl none) = absurd (let joined = contributed_joined b round m d at in let zero = ok.close.early none m in let no : ⊥ = omega arith in no)
       go (inr was) = was
 
   module _ (first : (kept : Coll) → coll_in (first_contribution (contribution_by b (completed_by b rank)) (ranks_of members)) ≡ Some kept → kept ≡ c.args.coll) where
-    -- what others have given to this turn is for the same
+    -- what others have given to this round is for the same
     agreed : (n : ℕ) (e : Contribution) → IsMember members n → contribution_by b (joined_by b rank) n ≡ Some e → e.args.coll ≡ c.args.coll
     agreed n e theirs at = go (first_contribution (contribution_by b (completed_by b rank)) (ranks_of members)) refl
       where
@@ -103,35 +103,35 @@ module _ (members : Option ℕ) (b : Buffers) (rank : ℕ) (c : Contribution) (o
             let same = ok.agree.alike (completed_by b rank) found.0 n f e found.1 theirs (omega arith) (omega arith) found.2 there in
             sym same ∙ first f.args.coll (ap coll_in is)
 
-    alike_given : (turn m n : ℕ) (d e : Contribution) → IsMember (fixed_by members c.args.coll) m → IsMember (fixed_by members c.args.coll) n
-        → joined_by (with_contribution b rank c) m ≤ turn + 2 → joined_by (with_contribution b rank c) n ≤ turn + 2
-        → contribution_by (with_contribution b rank c) turn m ≡ Some d → contribution_by (with_contribution b rank c) turn n ≡ Some e → d.args.coll ≡ e.args.coll
-    alike_given turn m n d e its theirs first_bound second_bound at there = go (was_contributed turn m d first_bound at) (was_contributed turn n e second_bound there)
+    alike_given : (round m n : ℕ) (d e : Contribution) → IsMember (fixed_by members c.args.coll) m → IsMember (fixed_by members c.args.coll) n
+        → joined_by (with_contribution b rank c) m ≤ round + 2 → joined_by (with_contribution b rank c) n ≤ round + 2
+        → contribution_by (with_contribution b rank c) round m ≡ Some d → contribution_by (with_contribution b rank c) round n ≡ Some e → d.args.coll ≡ e.args.coll
+    alike_given round m n d e its theirs first_bound second_bound at there = go (was_contributed round m d first_bound at) (was_contributed round n e second_bound there)
       where
-        go : ((turn ≡ joined_by b rank) × (d ≡ c)) ⊎ ((joined_by b m ≤ turn + 2) × (contribution_by b turn m ≡ Some d))
-            → ((turn ≡ joined_by b rank) × (e ≡ c)) ⊎ ((joined_by b n ≤ turn + 2) × (contribution_by b turn n ≡ Some e)) → d.args.coll ≡ e.args.coll
+        go : ((round ≡ joined_by b rank) × (d ≡ c)) ⊎ ((joined_by b m ≤ round + 2) × (contribution_by b round m ≡ Some d))
+            → ((round ≡ joined_by b rank) × (e ≡ c)) ⊎ ((joined_by b n ≤ round + 2) × (contribution_by b round n ≡ Some e)) → d.args.coll ≡ e.args.coll
         go (inl one) (inl two) = ap (λ (x : Contribution). x.args.coll) (one.1 ∙ sym two.1)
         go (inl one) (inr two) =
             let this = one.0 in
             let given = rw this at two.1 in
-            ap (λ (x : Contribution). x.args.coll) one.1 ∙ sym (agreed n e (old_member turn n e theirs two.1) given)
+            ap (λ (x : Contribution). x.args.coll) one.1 ∙ sym (agreed n e (old_member round n e theirs two.1) given)
         go (inr one) (inl two) =
             let this = two.0 in
             let given = rw this at one.1 in
-            agreed m d (old_member turn m d its one.1) given ∙ sym (ap (λ (x : Contribution). x.args.coll) two.1)
-        go (inr one) (inr two) = ok.agree.alike turn m n d e (old_member turn m d its one.1) (old_member turn n e theirs two.1) one.0 two.0 one.1 two.1
+            agreed m d (old_member round m d its one.1) given ∙ sym (ap (λ (x : Contribution). x.args.coll) two.1)
+        go (inr one) (inr two) = ok.agree.alike round m n d e (old_member round m d its one.1) (old_member round n e theirs two.1) one.0 two.0 one.1 two.1
 
-    whole_given : HasItsValues c.args → (turn m : ℕ) (d : Contribution) → IsMember (fixed_by members c.args.coll) m
-        → joined_by (with_contribution b rank c) m ≤ turn + 2 → contribution_by (with_contribution b rank c) turn m ≡ Some d → HasItsValues d.args
-    whole_given values turn m d its bound at = go (was_contributed turn m d bound at)
+    whole_given : HasItsValues c.args → (round m : ℕ) (d : Contribution) → IsMember (fixed_by members c.args.coll) m
+        → joined_by (with_contribution b rank c) m ≤ round + 2 → contribution_by (with_contribution b rank c) round m ≡ Some d → HasItsValues d.args
+    whole_given values round m d its bound at = go (was_contributed round m d bound at)
       where
-        go : ((turn ≡ joined_by b rank) × (d ≡ c)) ⊎ ((joined_by b m ≤ turn + 2) × (contribution_by b turn m ≡ Some d)) → HasItsValues d.args
+        go : ((round ≡ joined_by b rank) × (d ≡ c)) ⊎ ((joined_by b m ≤ round + 2) × (contribution_by b round m ≡ Some d)) → HasItsValues d.args
         go (inl one) = let is = one.1 in rw is values
-        go (inr one) = ok.agree.whole turn m d (old_member turn m d its one.1) one.0 one.1
+        go (inr one) = ok.agree.whole round m d (old_member round m d its one.1) one.0 one.1
 
-    -- a join keeps the turns in order
-    pub turns-given : HasItsValues c.args → AreRoundBuffers (fixed_by members c.args.coll) (with_contribution b rank c)
-    turns-given values = record {
+    -- a join keeps the rounds in order
+    pub rounds-given : HasItsValues c.args → AreRoundBuffers (fixed_by members c.args.coll) (with_contribution b rank c)
+    rounds-given values = record {
       room = room-contributed b ok.room rank c below;
       close = close_contributed;
       agree = record { alike = alike_given; whole = whole_given values };
@@ -139,9 +139,9 @@ module _ (members : Option ℕ) (b : Buffers) (rank : ℕ) (c : Contribution) (o
 
 -- Leaving.
 
-pub full_for : (members : Option ℕ) (b : Buffers) (turn : ℕ) → is_full (contribution_by b turn) (ranks_of members) ≡ true → (m : ℕ) → IsMember members m → turn < joined_by b m
-full_for members b turn full m its =
-    some_joined b turn m (each_member members (λ m. is_some (contribution_by b turn m) ≡ true) (all_tested (λ m. is_some (contribution_by b turn m)) (ranks_of members) full) m its)
+pub full_for : (members : Option ℕ) (b : Buffers) (round : ℕ) → is_full (contribution_by b round) (ranks_of members) ≡ true → (m : ℕ) → IsMember members m → round < joined_by b m
+full_for members b round full m its =
+    some_joined b round m (each_member members (λ m. is_some (contribution_by b round m) ≡ true) (all_tested (λ m. is_some (contribution_by b round m)) (ranks_of members) full) m its)
 
 module _ (members : Option ℕ) (b : Buffers) (rank : ℕ) (ok : AreRoundBuffers members b) (below : rank < 16) (mine : is_in members rank ≡ true) (full : is_full (contribution_by b (completed_by b rank)) (ranks_of members) ≡ true) where
   pub completed-now : completed_by (with_round_completed b rank) rank ≡ completed_by b rank + 1
@@ -153,7 +153,7 @@ module _ (members : Option ℕ) (b : Buffers) (rank : ℕ) (ok : AreRoundBuffers
   all_joined : (m : ℕ) → IsMember members m → completed_by b rank < joined_by b m
   all_joined m its = full_for members b (completed_by b rank) full m its
 
-  -- a leave keeps the turns in order
+  -- a leave keeps the rounds in order
   pub rounds-left : AreRoundBuffers members (with_round_completed b rank)
   rounds-left = record {
     room = record {

@@ -23,7 +23,7 @@ members-same g None is = rw is refl
 members-same g (Some mask) is = rw is refl
 
 module _ (g : Group) (t : RoundBuffers) (rank : ℕ) (ok : AreRoundBuffers t.members t.buffers) (stands : StandsFor g t) (below : rank < 16) (mine : (m : ℕ) → IsMember t.members m → is_in t.members rank ≡ true) where
-  -- what a member has given to the turn of another, the buffers have
+  -- what a member has given to the round of another, the buffers have
   reads : (m : ℕ) → IsMember t.members m → contribution_in g (completed_by t.buffers rank) m ≡ contribution_by t.buffers (completed_by t.buffers rank) m
   reads m its =
       let one = ok.close.greatest m in
@@ -36,24 +36,24 @@ module _ (g : Group) (t : RoundBuffers) (rank : ℕ) (ok : AreRoundBuffers t.mem
 
   pub first-stands : first_contribution (contribution_in g (round_of g rank)) (members_in g) ≡ first_contribution (contribution_by t.buffers (completed_by t.buffers rank)) (ranks_of t.members)
   first-stands =
-      let turn = stands.completed rank in
-      rw (turn, members-same g t.members stands.members) (first-alike (contribution_in g (completed_by t.buffers rank)) (contribution_by t.buffers (completed_by t.buffers rank)) (ranks_of t.members) all_read)
+      let round = stands.completed rank in
+      rw (round, members-same g t.members stands.members) (first-alike (contribution_in g (completed_by t.buffers rank)) (contribution_by t.buffers (completed_by t.buffers rank)) (ranks_of t.members) all_read)
 
   pub full-stands : is_round_full g rank ≡ is_full (contribution_by t.buffers (completed_by t.buffers rank)) (ranks_of t.members)
   full-stands =
-      let turn = stands.completed rank in
-      rw (turn, members-same g t.members stands.members) (full-alike (contribution_in g (completed_by t.buffers rank)) (contribution_by t.buffers (completed_by t.buffers rank)) (ranks_of t.members) all_read)
+      let round = stands.completed rank in
+      rw (round, members-same g t.members stands.members) (full-alike (contribution_in g (completed_by t.buffers rank)) (contribution_by t.buffers (completed_by t.buffers rank)) (ranks_of t.members) all_read)
 
   pub made-stands : round_segments g rank ≡ made_by (contribution_by t.buffers (completed_by t.buffers rank)) (ranks_of t.members)
   made-stands =
-      let turn = stands.completed rank in
-      rw (turn, members-same g t.members stands.members) (made-alike (contribution_in g (completed_by t.buffers rank)) (contribution_by t.buffers (completed_by t.buffers rank)) (ranks_of t.members) all_read)
+      let round = stands.completed rank in
+      rw (round, members-same g t.members stands.members) (made-alike (contribution_in g (completed_by t.buffers rank)) (contribution_by t.buffers (completed_by t.buffers rank)) (ranks_of t.members) all_read)
 
   pub fold-stands : (op : Op) (num_type : NumType) → round_reduction g rank op num_type ≡ reduction_of (contribution_by t.buffers (completed_by t.buffers rank)) op num_type (ranks_of t.members)
   fold-stands op num_type =
-      let turn = stands.completed rank in
+      let round = stands.completed rank in
       ap (λ (items : List ℤ). record { num_type = num_type; items = items })
-      (rw (turn, members-same g t.members stands.members) (folded-alike (contribution_in g (completed_by t.buffers rank)) (contribution_by t.buffers (completed_by t.buffers rank)) op num_type (ranks_of t.members) all_read))
+      (rw (round, members-same g t.members stands.members) (folded-alike (contribution_in g (completed_by t.buffers rank)) (contribution_by t.buffers (completed_by t.buffers rank)) op num_type (ranks_of t.members) all_read))
 
 -- The parts of a group with one of them changed.
 
@@ -86,14 +86,14 @@ module _ (g : Group) (t : RoundBuffers) (rank : ℕ) (c : Contribution) (ok : Ar
   joined_there : (r : ℕ) → r ≢ rank → contributions_of (with_joined g rank c) r ≡ contributions_of g r
   joined_there r apart = contributions-other g (fixed_by g.members c.args.coll) rank (λ (p : RankContributions). record p { contributions = p.contributions ++ c ∷ [] }) within r apart
 
-  own_contributed : (turn : ℕ) → joined_by (with_contribution t.buffers rank c) rank ≤ turn + 2 → slice_get ((contributions_of g rank).contributions ++ c ∷ []) turn ≡ contribution_by (with_contribution t.buffers rank c) turn rank
-  own_contributed turn bound =
+  own_contributed : (round : ℕ) → joined_by (with_contribution t.buffers rank c) rank ≤ round + 2 → slice_get ((contributions_of g rank).contributions ++ c ∷ []) round ≡ contribution_by (with_contribution t.buffers rank c) round rank
+  own_contributed round bound =
       let long = stands.joined rank in
       let now = joined-now t.buffers ok.room rank c below in
-      ordered turn (joined_by t.buffers rank)
-      (λ before. prefix-of-joined (contributions_of g rank).contributions (c ∷ []) turn (omega arith) ∙ stands.given turn rank (omega arith) ∙ sym (contributed-before t.buffers ok.room rank c below turn (omega arith)))
-      (λ this. behind-of-joined (contributions_of g rank).contributions (c ∷ []) 0 turn (omega arith) ∙ (rw this (sym (contributed-now t.buffers ok.room rank c below))))
-      (λ later. past ((contributions_of g rank).contributions ++ c ∷ []) turn (omega (arith, length-append (contributions_of g rank).contributions (c ∷ []))) ∙ sym (contributed-later t.buffers ok.room rank c below turn later))
+      ordered round (joined_by t.buffers rank)
+      (λ before. prefix-of-joined (contributions_of g rank).contributions (c ∷ []) round (omega arith) ∙ stands.given round rank (omega arith) ∙ sym (contributed-before t.buffers ok.room rank c below round (omega arith)))
+      (λ this. behind-of-joined (contributions_of g rank).contributions (c ∷ []) 0 round (omega arith) ∙ (rw this (sym (contributed-now t.buffers ok.room rank c below))))
+      (λ later. past ((contributions_of g rank).contributions ++ c ∷ []) round (omega (arith, length-append (contributions_of g rank).contributions (c ∷ []))) ∙ sym (contributed-later t.buffers ok.room rank c below round later))
 
   pub stands-joined : StandsFor (with_joined g rank c) (record { members = fixed_by t.members c.args.coll; buffers = with_contribution t.buffers rank c })
   stands-joined = record {
@@ -104,14 +104,14 @@ module _ (g : Group) (t : RoundBuffers) (rank : ℕ) (c : Contribution) (ok : Ar
     completed = λ r. same-or-not r rank
         (λ same. rw same (ap (λ (p : RankContributions). p.completed) joined_here ∙ stands.completed rank))
         (λ apart. ap (λ (p : RankContributions). p.completed) (joined_there r apart) ∙ stands.completed r);
-    given = λ turn r bound. same-or-not r rank (own turn r bound)
-        (λ apart. ap (λ (p : RankContributions). slice_get p.contributions turn) (joined_there r apart)
-        ∙ stands.given turn r (let was = joined-other t.buffers ok.room rank c below r apart in omega arith)
-        ∙ sym (contributed-other t.buffers ok.room rank c below turn r apart));
+    given = λ round r bound. same-or-not r rank (own round r bound)
+        (λ apart. ap (λ (p : RankContributions). slice_get p.contributions round) (joined_there r apart)
+        ∙ stands.given round r (let was = joined-other t.buffers ok.room rank c below r apart in omega arith)
+        ∙ sym (contributed-other t.buffers ok.room rank c below round r apart));
   }
     where
-      own : (turn r : ℕ) → joined_by (with_contribution t.buffers rank c) r ≤ turn + 2 → r ≡ rank → contribution_in (with_joined g rank c) turn r ≡ contribution_by (with_contribution t.buffers rank c) turn r
-      own turn r bound same = let near = rw same at bound in rw same (ap (λ (p : RankContributions). slice_get p.contributions turn) joined_here ∙ own_contributed turn near)
+      own : (round r : ℕ) → joined_by (with_contribution t.buffers rank c) r ≤ round + 2 → r ≡ rank → contribution_in (with_joined g rank c) round r ≡ contribution_by (with_contribution t.buffers rank c) round r
+      own round r bound same = let near = rw same at bound in rw same (ap (λ (p : RankContributions). slice_get p.contributions round) joined_here ∙ own_contributed round near)
 
 -- Leaving.
 
@@ -140,9 +140,9 @@ module _ (g : Group) (t : RoundBuffers) (rank : ℕ) (ok : AreRoundBuffers t.mem
     completed = λ r. same-or-not r rank
         (λ same. rw same (ap (λ (p : RankContributions). p.completed) left_here ∙ ap (λ (n : ℕ). n + 1) (stands.completed rank) ∙ sym (completed-now t.members t.buffers rank ok below mine full)))
         (λ apart. ap (λ (p : RankContributions). p.completed) (left_there r apart) ∙ stands.completed r ∙ sym (completed-other t.members t.buffers rank ok below mine full r apart));
-    given = λ turn r bound. same-or-not r rank (own turn r bound)
-        (λ apart. ap (λ (p : RankContributions). slice_get p.contributions turn) (left_there r apart) ∙ stands.given turn r bound);
+    given = λ round r bound. same-or-not r rank (own round r bound)
+        (λ apart. ap (λ (p : RankContributions). slice_get p.contributions round) (left_there r apart) ∙ stands.given round r bound);
   }
     where
-      own : (turn r : ℕ) → joined_by t.buffers r ≤ turn + 2 → r ≡ rank → contribution_in (with_completed g rank) turn r ≡ contribution_by t.buffers turn r
-      own turn r bound same = let near = rw same at bound in rw same (ap (λ (p : RankContributions). slice_get p.contributions turn) left_here ∙ stands.given turn rank near)
+      own : (round r : ℕ) → joined_by t.buffers r ≤ round + 2 → r ≡ rank → contribution_in (with_completed g rank) round r ≡ contribution_by t.buffers round r
+      own round r bound same = let near = rw same at bound in rw same (ap (λ (p : RankContributions). slice_get p.contributions round) left_here ∙ stands.given round rank near)

@@ -1,4 +1,4 @@
--- The turns of a group as they are kept. (GASPI: collectives)
+-- The rounds of a group as they are kept. (GASPI: collectives)
 use Rattle.std.specs.Prelude.{◌≡◌}
 use Rattle.collective_engine.specs.RoundBuffers.{RoundBuffers, AreRoundBuffers, ranks_of}
 use Rattle.collective_engine.specs.declared.rounds.Rounds.TheInside.{Inside}
@@ -9,4 +9,4 @@ round_buffers r = record { members = r.members; buffers = r.buffers }
 -- the members are kept as a list besides
 pub record IsRounds (r : Inside) : Type 0 where
   pub ranks : r.ranks ≡ ranks_of r.members
-  pub turns : AreRoundBuffers r.members r.buffers
+  pub rounds : AreRoundBuffers r.members r.buffers

@@ -8,8 +8,8 @@ use crate::slots::Slot;
 use gaspi_types::{Args, NoMemory, RankId, Sequence};
 use std::alloc::Global;
 
-/// Who has joined which turn of a group with what: of each rank the number of turns that it has joined, and of those that it has
-/// left, and its contributions to its last two turns, that to an even turn in one buffer and that to an odd turn in the other.
+/// Who has joined which round of a group with what: of each rank the number of rounds that it has joined, and of those that it has
+/// left, and its contributions to its last two rounds, that to an even round in one buffer and that to an odd round in the other.
 #[derive(Debug, Drop)]
 pub struct Buffers {
     pub(crate) joined: [u32; 16],
@@ -29,7 +29,7 @@ fn slots(alloc: Global) -> Result<Sequence<Slot>, NoMemory>
     Ok(slots)
 }
 
-/// Buffers of turns that no rank has joined.
+/// Buffers of rounds that no rank has joined.
 pub(crate) fn opening(alloc: Global) -> Result<Buffers, NoMemory>
     ensures room { IfOk result HasCapacity }
     ensures joined { IfOk result (λ buffers. buffers.joined ≡ replicate 16 0) }
@@ -43,7 +43,7 @@ pub(crate) fn opening(alloc: Global) -> Result<Buffers, NoMemory>
     })
 }
 
-/// How many turns a rank has joined, and how many of these it has left.
+/// How many rounds a rank has joined, and how many of these it has left.
 pub(crate) fn counts(buffers: &Buffers, rank: RankId) -> (u32, u32)
     ensures joined { result.0 ≡ joined_by buffers.now rank }
     ensures completed { result.1 ≡ completed_by buffers.now rank }
@@ -54,44 +54,44 @@ pub(crate) fn counts(buffers: &Buffers, rank: RankId) -> (u32, u32)
     )
 }
 
-/// The buffer of a turn.
-fn buffer_of(buffers: &Buffers, turn: u32) -> &Sequence<Slot>
-    ensures { result.now ≡ buffer_of buffers.now turn }
+/// The buffer of a round.
+fn buffer_of(buffers: &Buffers, round: u32) -> &Sequence<Slot>
+    ensures { result.now ≡ buffer_of buffers.now round }
 {
-    if turn % 2 == 0 {
+    if round % 2 == 0 {
         &buffers.even
     } else {
         &buffers.odd
     }
 }
 
-/// What a rank has given to a turn, of its last two.
-pub(crate) fn given(buffers: &Buffers, turn: u32, rank: RankId) -> Option<&Slot>
-    ensures { option_copied result ≡ contribution_by buffers.now turn rank }
+/// What a rank has given to a round, of its last two.
+pub(crate) fn given(buffers: &Buffers, round: u32, rank: RankId) -> Option<&Slot>
+    ensures { option_copied result ≡ contribution_by buffers.now round rank }
 {
-    if turn < buffers.joined[rank.index()] {
-        buffer_of(buffers, turn).get(rank.index())
+    if round < buffers.joined[rank.index()] {
+        buffer_of(buffers, round).get(rank.index())
     } else {
         None
     }
 }
 
-/// A rank gives to its turn. What it overwrites is its contribution of two turns before.
+/// A rank gives to its round. What it overwrites is its contribution of two rounds before.
 pub(crate) fn give(buffers: &mut Buffers, rank: RankId, args: &Args, generation: u32)
     requires room { HasCapacity buffers.old }
     requires count { joined_by buffers.old rank < 4294967295 }
     requires values { length args.now.values.items ≤ 255 }
     ensures { buffers.new ≡ with_contribution buffers.old rank (record { args = args.now; generation = generation }) }
 {
-    let turn = buffers.joined[rank.index()];
-    match turn % 2 {
+    let round = buffers.joined[rank.index()];
+    match round % 2 {
         0 => buffers.even.at_mut(rank.index()).put(args, generation),
         _ => buffers.odd.at_mut(rank.index()).put(args, generation),
     }
-    buffers.joined[rank.index()] = turn + 1;
+    buffers.joined[rank.index()] = round + 1;
 }
 
-/// A rank leaves its turn, the last that it has joined.
+/// A rank leaves its round, the last that it has joined.
 pub(crate) fn leave(buffers: &mut Buffers, rank: usize)
     requires bound { rank < 16 }
     requires joined { joined_by buffers.old rank ≡ completed_by buffers.old rank + 1 }

@@ -1,4 +1,4 @@
-//! The fold of a turn. (GASPI: allreduce)
+//! The fold of a round. (GASPI: allreduce)
 
 ghost use Rattle.std.specs.Prelude.{◌≡◌, ◌≤◌, IsSome, length};
 ghost use Rattle.std.specs.List.{AllByRecursion};
@@ -11,43 +11,43 @@ use crate::buffers::{Buffers, given};
 use gaspi_model::reduce;
 use gaspi_types::{NumType, Numbers, Op, RankId, Sequence};
 
-/// The numbers that a rank has given to a turn.
-fn values(buffers: &Buffers, turn: u32, rank: RankId) -> &[i128]
-    requires { IsSome (contribution_by buffers.now turn rank) }
-    ensures items { result.now ≡ values_in (contribution_by buffers.now turn rank) }
-    ensures range { AreInRange (contribution_by buffers.now turn rank) }
+/// The numbers that a rank has given to a round.
+fn values(buffers: &Buffers, round: u32, rank: RankId) -> &[i128]
+    requires { IsSome (contribution_by buffers.now round rank) }
+    ensures items { result.now ≡ values_in (contribution_by buffers.now round rank) }
+    ensures range { AreInRange (contribution_by buffers.now round rank) }
 {
-    given(buffers, turn, rank).unwrap().values()
+    given(buffers, round, rank).unwrap().values()
 }
 
-/// Folds what some members have given to a turn onto a total, in their order. All have given as many numbers, of its type.
+/// Folds what some members have given to a round onto a total, in their order. All have given as many numbers, of its type.
 fn fold_onto(
     buffers: &Buffers,
-    turn: u32,
+    round: u32,
     op: Op,
     num_type: NumType,
     total: &mut [i128],
     members: &[RankId],
 )
     requires range { AreInType num_type total.old }
-    requires given { AllByRecursion (λ m. GivesNumbers num_type (length total.old) (contribution_by buffers.now turn m)) members.now }
-    ensures folded { total.new ≡ reduced_onto (contribution_by buffers.now turn) op num_type total.old members.now }
+    requires given { AllByRecursion (λ m. GivesNumbers num_type (length total.old) (contribution_by buffers.now round m)) members.now }
+    ensures folded { total.new ≡ reduced_onto (contribution_by buffers.now round) op num_type total.old members.now }
     ensures range { AreInType num_type total.new }
 {
     match members {
         [] => {}
         [member, others @ ..] => {
-            reduce(op, num_type, total, values(buffers, turn, *member));
-            fold_onto(buffers, turn, op, num_type, total, others);
+            reduce(op, num_type, total, values(buffers, round, *member));
+            fold_onto(buffers, round, op, num_type, total, others);
         }
     }
 }
 
-/// What the numbers that some members have given to a turn come to, put into a room that is large enough. All have given `count`
+/// What the numbers that some members have given to a round come to, put into a room that is large enough. All have given `count`
 /// numbers of a type.
 pub(crate) fn fold(
     buffers: &Buffers,
-    turn: u32,
+    round: u32,
     op: Op,
     num_type: NumType,
     count: u32,
@@ -55,9 +55,9 @@ pub(crate) fn fold(
     members: &[RankId],
 ) -> Numbers
     requires room { count ≤ length room }
-    requires given { AllByRecursion (λ m. GivesNumbers num_type count (contribution_by buffers.now turn m)) members.now }
+    requires given { AllByRecursion (λ m. GivesNumbers num_type count (contribution_by buffers.now round m)) members.now }
     ensures fits { length result.items ≤ length room }
-    ensures numbers { result ≡ reduction_of (contribution_by buffers.now turn) op num_type members.now }
+    ensures numbers { result ≡ reduction_of (contribution_by buffers.now round) op num_type members.now }
 {
     match members {
         [] => {
@@ -66,9 +66,9 @@ pub(crate) fn fold(
         }
         [first, others @ ..] => {
             room.truncate(count as usize);
-            room.overwrite(0, values(buffers, turn, *first));
+            room.overwrite(0, values(buffers, round, *first));
             let mut items = room.into_vec();
-            fold_onto(buffers, turn, op, num_type, items.as_mut_slice(), others);
+            fold_onto(buffers, round, op, num_type, items.as_mut_slice(), others);
             Numbers::new(num_type, Sequence::from_vec(items))
         }
     }

@@ -1,4 +1,4 @@
-//! The generations of a turn. (GASPI: segment_create)
+//! The generations of a round. (GASPI: segment_create)
 
 ghost use Rattle.std.specs.Prelude.{◌≡◌};
 

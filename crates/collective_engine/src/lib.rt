@@ -1,8 +1,8 @@
-//! The collectives of one group: who has joined which turn with what, when a turn is full, and what it comes to, in two buffers.
+//! The collectives of one group: who has joined which round with what, when a round is full, and what it comes to, in two buffers.
 //! (GASPI: collectives)
 //!
-//! Ranks take turns one after another, and no member is over one turn ahead of another. So a rank's contributions to its last two
-//! turns are enough: one buffer has those of the even turns, and the other those of the odd ones. Contracts say what each call
+//! Ranks take rounds one after another, and no member is over one round ahead of another. So a rank's contributions to its last two
+//! rounds are enough: one buffer has those of the even rounds, and the other those of the odd ones. Contracts say what each call
 //! answers and leaves in the words of `gaspi_types` on groups, whose lists of contributions only grow, for each group that the
 //! buffers stand for. Only `Rounds::new` takes memory.
 #![tactic(auto)]

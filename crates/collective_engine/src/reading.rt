@@ -1,4 +1,4 @@
-//! What a turn comes to, read from the buffers. (GASPI: collectives)
+//! What a round comes to, read from the buffers. (GASPI: collectives)
 
 ghost use Rattle.std.specs.Prelude.{◌≡◌, ◌<◌, ◌≤◌, Some, OnOk, length};
 ghost use Rattle.gaspi_types.specs.Collectives.{first_contribution, fits, is_full, generation_in, made_by};
@@ -11,20 +11,20 @@ use crate::generations::Generations;
 use gaspi_model::check_fits;
 use gaspi_types::{Coll, MemberSegment, RankId, Refusal};
 
-/// What the first of some members that has joined a turn has joined it with.
-pub(crate) fn first_coll(buffers: &Buffers, turn: u32, members: &[RankId]) -> Option<Coll>
-    ensures { result ≡ coll_in (first_contribution (contribution_by buffers.now turn) members.now) }
+/// What the first of some members that has joined a round has joined it with.
+pub(crate) fn first_coll(buffers: &Buffers, round: u32, members: &[RankId]) -> Option<Coll>
+    ensures { result ≡ coll_in (first_contribution (contribution_by buffers.now round) members.now) }
 {
     match members {
         [] => None,
-        [member, others @ ..] => match given(buffers, turn, *member) {
+        [member, others @ ..] => match given(buffers, round, *member) {
             Some(slot) => Some(slot.coll()),
-            None => first_coll(buffers, turn, others),
+            None => first_coll(buffers, round, others),
         },
     }
 }
 
-/// Whether a rank may join its turn with a collective, which is that of some members who have joined it: else
+/// Whether a rank may join its round with a collective, which is that of some members who have joined it: else
 /// `CollectiveMismatch`.
 pub(crate) fn check(
     buffers: &Buffers,
@@ -36,42 +36,42 @@ pub(crate) fn check(
     ensures answer { result ≡ fits (first_contribution (contribution_by buffers.now (completed_by buffers.now rank)) members.now) coll }
     ensures equal { OnOk result ((kept : Coll) → coll_in (first_contribution (contribution_by buffers.now (completed_by buffers.now rank)) members.now) ≡ Some kept → kept ≡ coll) }
 {
-    let turn = buffers.completed[rank];
-    check_fits(first_coll(buffers, turn, members), coll)
+    let round = buffers.completed[rank];
+    check_fits(first_coll(buffers, round, members), coll)
 }
 
-/// What a rank has joined its turn with.
+/// What a rank has joined its round with.
 pub(crate) fn own_coll(buffers: &Buffers, rank: RankId) -> Option<Coll>
     ensures { result ≡ coll_in (contribution_by buffers.now (completed_by buffers.now rank) rank) }
 {
-    let turn = buffers.completed[rank.index()];
-    let slot = given(buffers, turn, rank)?;
+    let round = buffers.completed[rank.index()];
+    let slot = given(buffers, round, rank)?;
     Some(slot.coll())
 }
 
-/// Whether each of some members has joined a turn.
-pub(crate) fn is_full(buffers: &Buffers, turn: u32, members: &[RankId]) -> bool
-    ensures { result ≡ is_full (contribution_by buffers.now turn) members.now }
+/// Whether each of some members has joined a round.
+pub(crate) fn is_full(buffers: &Buffers, round: u32, members: &[RankId]) -> bool
+    ensures { result ≡ is_full (contribution_by buffers.now round) members.now }
 {
     members
         .iter()
-        .all(|member| given(buffers, turn, *member).is_some())
+        .all(|member| given(buffers, round, *member).is_some())
 }
 
-/// The generation that a rank has given to a turn.
-fn generation(buffers: &Buffers, turn: u32, rank: RankId) -> u32
-    ensures { result ≡ generation_in (contribution_by buffers.now turn rank) }
+/// The generation that a rank has given to a round.
+fn generation(buffers: &Buffers, round: u32, rank: RankId) -> u32
+    ensures { result ≡ generation_in (contribution_by buffers.now round rank) }
 {
-    match given(buffers, turn, rank) {
+    match given(buffers, round, rank) {
         Some(slot) => slot.generation(),
         None => 0,
     }
 }
 
-/// The generations that some members have given to a turn.
-pub(crate) fn generations(buffers: &Buffers, turn: u32, members: &[RankId]) -> Generations
+/// The generations that some members have given to a round.
+pub(crate) fn generations(buffers: &Buffers, round: u32, members: &[RankId]) -> Generations
     requires { length members.now ≤ 16 }
-    ensures { result ≡ made_by (contribution_by buffers.now turn) members.now }
+    ensures { result ≡ made_by (contribution_by buffers.now round) members.now }
 {
     let mut made = [MemberSegment {
         rank: RankId::of(0),
@@ -80,7 +80,7 @@ pub(crate) fn generations(buffers: &Buffers, turn: u32, members: &[RankId]) -> G
     for (place, member) in members.iter().enumerate() {
         made[place] = MemberSegment {
             rank: *member,
-            generation: generation(buffers, turn, *member),
+            generation: generation(buffers, round, *member),
         };
     }
     Generations {

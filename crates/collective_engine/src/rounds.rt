@@ -1,4 +1,4 @@
-//! The turns of one group. (GASPI: collectives)
+//! The rounds of one group. (GASPI: collectives)
 
 ghost use Rattle.std.specs.Prelude.{◌≡◌, ℕ, ◌<◌, ◌≤◌, true, Some, length, IfOk, OnOk, OnErr};
 ghost use Rattle.gaspi_types.specs.Collectives.{contribution_in, round_of, fixed_by, is_round_full, round_checks, round_reduction, round_segments, with_joined, with_completed};
@@ -18,7 +18,7 @@ use gaspi_types::{Args, Coll, NoMemory, Numbers, RankId, Refusal, Sequence, is_m
 use std::alloc::Global;
 use std::marker::Model;
 
-/// The turns of one group: its members, once they are fixed, and what ranks have joined them with. Contracts speak of each group,
+/// The rounds of one group: its members, once they are fixed, and what ranks have joined them with. Contracts speak of each group,
 /// of lists that only grow, which the buffers stand for; and the conditions of calls speak of the counts in the buffers.
 #[derive(Debug, Drop)]
 pub struct Rounds {
@@ -75,7 +75,7 @@ impl Rounds {
         })
     }
 
-    /// Whether a collective of a rank is that of members who have joined its turn: else `CollectiveMismatch`. The rank may come to
+    /// Whether a collective of a rank is that of members who have joined its round: else `CollectiveMismatch`. The rank may come to
     /// join, as `may_join` tells. (GASPI: collectives)
     pub fn fits(&self, rank: RankId, args: &Args) -> Result<(), Refusal>
         requires { may_join self.now rank args.now.coll ≡ true }
@@ -84,10 +84,10 @@ impl Rounds {
         check(&self.buffers, self.ranks.ranks(), rank.index(), args.coll)
     }
 
-    /// A rank joins its turn with a collective, whose values are as many as it says, and of a segment that it makes with its
-    /// generation, else with 0: `CollectiveMismatch` where that is not the collective of members who have joined the turn. As
+    /// A rank joins its round with a collective, whose values are as many as it says, and of a segment that it makes with its
+    /// generation, else with 0: `CollectiveMismatch` where that is not the collective of members who have joined the round. As
     /// `may_join` tells, the rank is a member, or the collective is the commit that fixes the members, of which it is one; and it has
-    /// left each turn that it joined, fewer than 4,294,967,295. It takes no memory. (GASPI: collectives)
+    /// left each round that it joined, fewer than 4,294,967,295. It takes no memory. (GASPI: collectives)
     pub fn join(&mut self, rank: RankId, args: &Args, generation: u32) -> Result<(), Refusal>
         requires rank { may_join self.old rank args.now.coll ≡ true }
         requires values { HasItsValues args.now }
@@ -113,7 +113,7 @@ impl Rounds {
         }
     }
 
-    /// Whether a rank may come to join its turn with a collective: what `join` asks of its rank.
+    /// Whether a rank may come to join its round with a collective: what `join` asks of its rank.
     pub fn may_join(&self, rank: RankId, coll: Coll) -> bool
         ensures { result ≡ may_join self.now rank coll }
     {
@@ -125,17 +125,17 @@ impl Rounds {
         is_one && joined == completed && joined < 4_294_967_295
     }
 
-    /// Whether every member has joined the turn of a rank, the first that it has not left. (GASPI: collectives)
+    /// Whether every member has joined the round of a rank, the first that it has not left. (GASPI: collectives)
     pub fn full(&self, rank: RankId) -> bool
         ensures value { result ≡ is_full_for self.now rank }
         ensures group { (g : Group) → StandsFor g self.now → result ≡ is_round_full g rank }
         ensures own { (g : Group) → StandsFor g self.now → contribution_in g (round_of g rank) rank ≡ own_contribution self.now rank }
     {
-        let turn = self.buffers.completed[rank.index()];
-        is_full(&self.buffers, turn, self.ranks.ranks())
+        let round = self.buffers.completed[rank.index()];
+        is_full(&self.buffers, round, self.ranks.ranks())
     }
 
-    /// How many numbers the turn of a rank comes to, which the rank has joined with an allreduce; else None.
+    /// How many numbers the round of a rank comes to, which the rank has joined with an allreduce; else None.
     pub fn elements(&self, rank: RankId) -> Option<u32>
         ensures { result ≡ elements_of (coll_in (own_contribution self.now rank)) }
     {
@@ -145,8 +145,8 @@ impl Rounds {
         }
     }
 
-    /// What the turn of a rank comes to, which is a member: the numbers of all members, reduced in the order of their ranks. Every
-    /// member has joined the turn, which is an allreduce, and the result is put into a room that is large enough, as `elements`
+    /// What the round of a rank comes to, which is a member: the numbers of all members, reduced in the order of their ranks. Every
+    /// member has joined the round, which is an allreduce, and the result is put into a room that is large enough, as `elements`
     /// tells: it has no more numbers than that room. It takes no memory. (GASPI: allreduce)
     pub fn result(&self, rank: RankId, room: Sequence<i128>) -> Numbers
         requires member { is_in self.now.members rank ≡ true }
@@ -156,27 +156,27 @@ impl Rounds {
         ensures numbers { (g : Group) (op : Op) (t : NumType) (n : ℕ) → StandsFor g self.now
             → coll_in (contribution_in g (round_of g rank) rank) ≡ Some (Allreduce op t n) → result ≡ round_reduction g rank op t }
     {
-        let turn = self.buffers.completed[rank.index()];
+        let round = self.buffers.completed[rank.index()];
         match own_coll(&self.buffers, rank) {
             Some(Coll::Allreduce(op, num_type, count)) => {
                 let members = self.ranks.ranks();
-                fold(&self.buffers, turn, op, num_type, count, room, members)
+                fold(&self.buffers, round, op, num_type, count, room, members)
             }
             _ => unreachable!(),
         }
     }
 
-    /// In which generation each member has made its segment in the turn of a rank, which is a member. It takes no memory.
+    /// In which generation each member has made its segment in the round of a rank, which is a member. It takes no memory.
     /// (GASPI: segment_create)
     pub fn generations(&self, rank: RankId) -> Generations
         requires { is_in self.now.members rank ≡ true }
         ensures { (g : Group) → StandsFor g self.now → result ≡ round_segments g rank }
     {
-        let turn = self.buffers.completed[rank.index()];
-        generations(&self.buffers, turn, self.ranks.ranks())
+        let round = self.buffers.completed[rank.index()];
+        generations(&self.buffers, round, self.ranks.ranks())
     }
 
-    /// A rank, which is a member, leaves its turn, which every member has joined. (GASPI: collectives)
+    /// A rank, which is a member, leaves its round, which every member has joined. (GASPI: collectives)
     pub fn leave(&mut self, rank: RankId)
         requires member { is_in self.old.members rank ≡ true }
         requires full { is_full_for self.old rank ≡ true }

@@ -1,4 +1,4 @@
-//! The parts of a runtime on which `run` stands: segments, slots, drafts, queues, inboxes, groups and their turns,
+//! The parts of a runtime on which `run` stands: segments, slots, drafts, queues, inboxes, groups and their rounds,
 //! and the nodes that are made of them.
 
 mod drafts;

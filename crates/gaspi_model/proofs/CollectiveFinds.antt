@@ -47,7 +47,7 @@ fresh (Some p) thread args h =
     absurd (check_then (p.thread == thread) (ActiveCollective p.thread) _ Fresh h (λ mine h1.
     check_then (has_same_args args p.args) (ResumeOther p.args.coll) _ Fresh h1 (λ same h2. (let no : ⊥ = cc in no))))
 
--- a collective that is done: it was pending for its caller with its arguments, and its turn is full
+-- a collective that is done: it was pending for its caller with its arguments, and its round is full
 pub record IsDone (posts : Posts) (group : Group) (me thread id : ℕ) (call : Call) (reply : Reply) (h : Handle) (p : PendingCollective) : Type 0 where
   pub running : is_running (thread_at posts thread) ≡ true
   pub staged : staged_at posts.groups me id call ≡ Ok h

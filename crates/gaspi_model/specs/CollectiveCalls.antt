@@ -86,7 +86,7 @@ segment_checks posts (calls.Create call) = alloc_checks posts.segments.own call.
 segment_checks posts call = Ok tt
 
 -- what a collective is refused for by what other ranks have brought to the group: a commit by the list that is fixed, each other by
--- the turn
+-- the round
 abbrev pub agreement_checks : Group → ℕ → Coll → Result (Unit {0}) Refusal
 agreement_checks group me (Commit mask) = fix_checks group.members mask
 agreement_checks group me coll = round_checks group me coll
@@ -99,12 +99,12 @@ fresh_result posts group me members call = do
   meets ← agreement_checks group me args.coll
   Ok (ready.Join args)
 
--- what it answers whose turn is full (allreduce: the numbers of all members)
+-- what it answers whose round is full (allreduce: the numbers of all members)
 abbrev pub full_reply : Group → ℕ → Call → Reply
 full_reply group me (calls.Allreduce call) = replies.List (round_reduction group me call.op call.values.num_type)
 full_reply group me call = replies.Done
 
--- one that is pending for its caller is ready where its turn is full
+-- one that is pending for its caller is ready where its round is full
 abbrev pub resumed_answer : Group → ℕ → Call → Ready
 resumed_answer group me call = if is_round_full group me then ready.Reply (full_reply group me call) else ready.NotReady
 

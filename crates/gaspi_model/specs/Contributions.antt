@@ -31,14 +31,14 @@ pub record IsOneOf (members : Option ℕ) (rank : ℕ) : Type 0 where
   pub fixed : members ≡ Some mask
   pub member : is_member mask rank ≡ true
 
--- A rank has given to one turn more than it has completed where a collective of it is pending on the group, which is the one that it
--- has given last, and else to as many; and it has completed no more turns than it has recorded events.
+-- A rank has given to one round more than it has completed where a collective of it is pending on the group, which is the one that it
+-- has given last, and else to as many; and it has completed no more rounds than it has recorded events.
 pub record AreSoundContributions (events : ℕ) (pending : Option PendingCollective) (part : RankContributions) : Type 0 where
   pub count : length part.contributions ≡ part.completed + pending_count pending
   pub last : (p : PendingCollective) → pending ≡ Some p → (c : Contribution) × (slice_get part.contributions part.completed ≡ Some c) × (c.args ≡ p.args)
   pub few : part.completed ≤ events
 
--- How far a rank has come with a group tells how many turns it has completed: none before it has committed it, and at least its
+-- How far a rank has come with a group tells how many rounds it has completed: none before it has committed it, and at least its
 -- commit after it; group 0 is committed from the start.
 pub record HasBegun (posts : Posts) (id completed : ℕ) : Type 0 where
   pub unmade : posts.groups.last_id < id → completed ≡ 0
@@ -55,23 +55,23 @@ pub record IsResumable (groups : Handles) (me id : ℕ) (args : Args) : Type 0 w
   pub staged : staged_at groups me id (joining_call id args) ≡ Ok handle
   pub own : args_of handle.members (joining_call id args) ≡ Some args
 
--- What is given to one turn agrees in all but values and generation; who gives is a member; and a commit has the list of ranks that
+-- What is given to one round agrees in all but values and generation; who gives is a member; and a commit has the list of ranks that
 -- is fixed.
 pub record IsSoundGroup (ranks : ℕ) (g : Group) : Type 0 where
   pub parts : length g.contributions ≡ ranks
-  pub agree : (turn rank other : ℕ) (c d : Contribution) → contribution_in g turn rank ≡ Some c → contribution_in g turn other ≡ Some d → c.args.coll ≡ d.args.coll
-  pub whole : (turn rank : ℕ) (c : Contribution) → contribution_in g turn rank ≡ Some c → HaveOwnValues c.args
-  pub members : (turn rank : ℕ) (c : Contribution) → contribution_in g turn rank ≡ Some c → IsOneOf g.members rank
-  pub commits : (turn rank : ℕ) (c : Contribution) (mask : ℕ) → contribution_in g turn rank ≡ Some c → c.args.coll ≡ Commit mask → g.members ≡ Some mask
+  pub agree : (round rank other : ℕ) (c d : Contribution) → contribution_in g round rank ≡ Some c → contribution_in g round other ≡ Some d → c.args.coll ≡ d.args.coll
+  pub whole : (round rank : ℕ) (c : Contribution) → contribution_in g round rank ≡ Some c → HaveOwnValues c.args
+  pub members : (round rank : ℕ) (c : Contribution) → contribution_in g round rank ≡ Some c → IsOneOf g.members rank
+  pub commits : (round rank : ℕ) (c : Contribution) (mask : ℕ) → contribution_in g round rank ≡ Some c → c.args.coll ≡ Commit mask → g.members ≡ Some mask
 
 -- a segment of that number and generation was made, and has that size where it is there
 abbrev pub WasMadeSo : Tables → ℕ → ℕ → ℕ → Type 0
 WasMadeSo tables segment generation size =
     WasMade tables segment generation × ((x : Extent) → extent_in tables.own segment ≡ Some x → x.generation ≡ generation → x.size ≡ size)
 
--- There are eight groups. What is pending may be looked at again. The first turn of each group but group 0 is its commit. Of a group
+-- There are eight groups. What is pending may be looked at again. The first round of each group but group 0 is its commit. Of a group
 -- that a rank has committed the same ranks are members in the whole world, and that rank is one. And each segment that a rank has
--- given to a turn was made.
+-- given to a round was made.
 pub record AreSoundCollectives (s : State) : Type 0 where
   pub eight : length s.groups ≡ 8
   pub groups : (id : ℕ) (g : Group) → slice_get s.groups id ≡ Some g → IsSoundGroup s.limits.ranks g
@@ -86,4 +86,4 @@ pub record AreSoundCollectives (s : State) : Type 0 where
   pub committed : (id : ℕ) (g : Group) (rank : ℕ) (posts : Posts) (h : Handle) → slice_get s.groups id ≡ Some g → slice_get s.posts rank ≡ Some posts
       → handle_at posts.groups id ≡ Some h → h.stage ≡ Committed → (g.members ≡ Some h.members) × (is_member h.members rank ≡ true)
   pub made : (id : ℕ) (g : Group) (rank : ℕ) (posts : Posts) → slice_get s.groups id ≡ Some g → slice_get s.posts rank ≡ Some posts
-      → (turn : ℕ) (c : Contribution) (seg size : ℕ) → contribution_in g turn rank ≡ Some c → c.args.coll ≡ Create seg size → WasMadeSo (tables_of posts) seg c.generation size
+      → (round : ℕ) (c : Contribution) (seg size : ℕ) → contribution_in g round rank ≡ Some c → c.args.coll ≡ Create seg size → WasMadeSo (tables_of posts) seg c.generation size

@@ -1,4 +1,4 @@
--- What is asked for in one turn of a group. (GASPI: collectives)
+-- What is asked for in one round of a group. (GASPI: collectives)
 use Rattle.std.specs.Prelude.{Option}
 use Rattle.std.specs.Option.{option_map}
 use Rattle.gaspi_types.specs.declared.collectives.Coll.{Coll}

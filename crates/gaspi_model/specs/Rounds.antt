@@ -1,4 +1,4 @@
--- Joins and completions of a rank on a group in a history, and what a collective finds of its turn. (GASPI: collectives)
+-- Joins and completions of a rank on a group in a history, and what a collective finds of its round. (GASPI: collectives)
 use Rattle.std.specs.Prelude.{◌≡◌, ℕ, ◌+◌, ◌<◌, ◌==◌, ◌&&◌, Bool, false, not, List, count_by, Option, None, Some, slice_get, slice_set, length, replicate}
 use Rattle.std.specs.Option.{option_and_then}
 use Rattle.gaspi_types.specs.CallRows.{row_of}
@@ -54,12 +54,12 @@ joins_on rank id history = count_by (is_join_on rank id) history
 abbrev pub completions_on : ℕ → ℕ → List Event → ℕ
 completions_on rank id history = count_by (is_completion_on rank id) history
 
--- What is given to a group stays given: its turns only grow, and its members stay.
+-- What is given to a group stays given: its rounds only grow, and its members stay.
 pub record Grows (g g' : Group) : Type 0 where
-  pub given : (turn rank : ℕ) (c : Contribution) → contribution_in g turn rank ≡ Some c → contribution_in g' turn rank ≡ Some c
+  pub given : (round rank : ℕ) (c : Contribution) → contribution_in g round rank ≡ Some c → contribution_in g' round rank ≡ Some c
   pub members : (mask : ℕ) → g.members ≡ Some mask → g'.members ≡ Some mask
 
--- Every member has given to the turn of a rank.
+-- Every member has given to the round of a rank.
 abbrev pub HaveAllContributed : ℕ → Group → ℕ → Type 0
 HaveAllContributed ranks group me = (rank : ℕ) → rank < ranks → IsOneOf group.members rank → (given : Contribution) × (contribution_in group (round_of group me) rank ≡ Some given)
 
@@ -74,7 +74,7 @@ pub record IsPendingAs (s : State) (c : CallerId) (id : ℕ) (call : Call) : Typ
   pub mine : pending.thread ≡ c.thread
   pub same : joining_call id pending.args ≡ call
 
--- It waits: its caller has not ended, and a member has not given to its rank's turn.
+-- It waits: its caller has not ended, and a member has not given to its rank's round.
 pub record IsPendingUnready (s : State) (c : CallerId) (id : ℕ) (call : Call) : Type 0 where
   pub pends : IsPendingAs s c id call
   pub running : slice_get pends.posts.threads c.thread ≡ Some Running
@@ -83,7 +83,7 @@ pub record IsPendingUnready (s : State) (c : CallerId) (id : ℕ) (call : Call) 
   pub member : IsOneOf pends.group.members late
   pub missing : contribution_in pends.group (round_of pends.group c.rank) late ≡ None
 
--- A caller's rank has committed a group, none of its collectives is pending there, and what was given to its turn is that collective,
+-- A caller's rank has committed a group, none of its collectives is pending there, and what was given to its round is that collective,
 -- values aside.
 pub record MayJoinRound (s : State) (c : CallerId) (id : ℕ) (coll : Coll) : Type 0 where
   pub posts : Posts
@@ -96,12 +96,12 @@ pub record MayJoinRound (s : State) (c : CallerId) (id : ℕ) (coll : Coll) : Ty
   pub none : item_at posts.pending id ≡ None
   pub alike : (rank : ℕ) (given : Contribution) → contribution_in group (round_of group c.rank) rank ≡ Some given → given.args.coll ≡ coll
 
--- what a rank gives to its turn stands there afterwards
+-- what a rank gives to its round stands there afterwards
 abbrev pub Contributes : State → ℕ → Group → ℕ → Contribution → Type 0
 Contributes t id group me c = (new : Group) × (slice_get t.groups id ≡ Some new) × (contribution_in new (round_of group me) me ≡ Some c)
 
 -- A join of any collective but a segment_create: its caller has not ended, and none of its rank was pending on the group. It gives to
--- its rank's turn and is pending for its caller; and nothing else has changed but the count of events.
+-- its rank's round and is pending for its caller; and nothing else has changed but the count of events.
 pub record IsJoinDone (s t : State) (c : CallerId) (id : ℕ) (args : Args) : Type 0 where
   pub posts : Posts
   pub group : Group
@@ -146,7 +146,7 @@ pub record IsCreateJoined (s t : State) (c : CallerId) (id : ℕ) (args : Args) 
   }
 
 -- A collective that is done: it was pending for its caller, which has not ended, with its arguments, and every member has given to its
--- turn. None is pending then, its rank has completed its turn, the posts of its rank are changed so, and nothing else has changed but the count of
+-- round. None is pending then, its rank has completed its round, the posts of its rank are changed so, and nothing else has changed but the count of
 -- events.
 pub record IsCompletionDone (s t : State) (c : CallerId) (id : ℕ) (call : Call) (change : Group → Posts → Posts) : Type 0 where
   pub pends : IsPendingAs s c id call
@@ -190,7 +190,7 @@ pub record AreMadeKnown (s t : State) (c : CallerId) (id segment size : ℕ) : T
   pub segments : (rank other : ℕ) → (other ≡ segment → ⊥) → known_of new rank other ≡ known_of posts rank other
   pub kept : new ≡ record (counted (with_pending id None posts)) { segments = record posts.segments { known = new.segments.known } }
 
--- An allreduce that is done answers the fold of what exactly the members have given to its turn, its caller's own values among them.
+-- An allreduce that is done answers the fold of what exactly the members have given to its round, its caller's own values among them.
 pub record IsReduction (s : State) (c : CallerId) (call : allreduce.Allreduce) (answer : TypedNumbers) : Type 0 where
   pub group : Group
   pub own : Contribution

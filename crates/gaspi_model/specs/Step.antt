@@ -78,7 +78,7 @@ completed limits me posts group thread id call reply = do
   })
 
 -- A join: its caller has a section, its collective may join with these arguments, and the rank has room. It is pending then for its
--- caller, and the rank has given to its turn.
+-- caller, and the rank has given to its round.
 abbrev pub joined : Limits → ℕ → Posts → Group → ℕ → ℕ → Args → Result PostsAndGroup Why
 joined limits me posts group thread id args = do
   there ← check (is_there (thread_at posts thread)) whys.Caller

@@ -30,8 +30,8 @@ pub fn check_type(num_type: NumType) -> Result<(), Refusal>
     }
 }
 
-/// A collective fits a turn where it is the one that members have joined the turn with, values aside: else `CollectiveMismatch`
-/// has the one that the first of them in rank order has. `first` is that one, or None where no member has joined the turn.
+/// A collective fits a round where it is the one that members have joined the round with, values aside: else `CollectiveMismatch`
+/// has the one that the first of them in rank order has. `first` is that one, or None where no member has joined the round.
 /// (GASPI: collectives)
 pub fn check_fits(first: Option<Coll>, coll: Coll) -> Result<(), Refusal>
     ensures answer { (given : Option Contribution) → coll_in given ≡ first → result ≡ fits given coll }

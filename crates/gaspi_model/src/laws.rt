@@ -95,9 +95,9 @@ ghost use Rattle.gaspi_model.specs.declared.states.State.{State};
 /// carried read or notification of a read, is there in its generation; and the ranges of entries lie within their segments.
 /// Group 0 of a rank is committed and has every rank; its other groups have the first numbers from 1 on, up to 7, and ranks
 /// of the world alone; and an inbox has at most INBOX messages, each from a rank of the world and of 1 to 4,096 bytes. A rank has
-/// given to one turn of a group more than it has completed where a collective of it is pending there, which is the one that it has
+/// given to one round of a group more than it has completed where a collective of it is pending there, which is the one that it has
 /// given last, and else to as many; what is pending may be looked at again: its rank has the group, as the collective wants it; what
-/// is given to one turn agrees in all but values and generation, and its givers are members.
+/// is given to one round agrees in all but values and generation, and its givers are members.
 pub fn soundness()
     ensures opens { (w : ShapeValue) → IsShape w → IsSound (opening w) }
     ensures steps { (s t : State) (e : Event) → IsSound s → step s e ≡ Ok t → IsSound t }
@@ -152,8 +152,8 @@ pub fn enabled()
 /// range, at the end of the inbox of the rank that it names, which may be its own; a receive takes the first message of its
 /// rank's inbox, writes its bytes, no more, into its range, and answers who sent it. A group that is made has the next number of its rank, is built yet
 /// and empty; one rank is added to a group that is built yet; and a group that is dropped, not group 0, is gone. A join
-/// gives one contribution to its rank's turn and is pending; that of a segment_create makes its segment besides, as an alloc does, and
-/// gives its generation; a collective that is done was pending for its caller with its arguments, every member has given to its turn,
+/// gives one contribution to its rank's round and is pending; that of a segment_create makes its segment besides, as an alloc does, and
+/// gives its generation; a collective that is done was pending for its caller with its arguments, every member has given to its round,
 /// and it is pending no more: a commit marks its group committed, a segment_create makes the segments of all members known, in the
 /// generations that they gave and in its size, and an allreduce answers the fold of what the members have given. An end ends its
 /// caller. A refusal or a timeout changes nothing; and in each case nothing else has changed but the count of events. (GASPI: one-sided
@@ -421,22 +421,22 @@ pub fn replies()
 {}
 
 /// Collectives over legal histories. A rank has joined a group once for each collective that it has completed there, and once
-/// more where one is pending; it has given to as many turns as it has joined, and completed as many as it has completed collectives: no
-/// contribution counts twice. What is given to one turn agrees in all but values and generation, and
-/// stays given. Two members that complete the same turn of an allreduce get the same list, which is (as `changes` says) the fold of
-/// what exactly the members have given to that turn. A barrier, and an allreduce of elements that may be reduced, join where their rank
-/// has committed the group, none is pending there, and what was given to the turn is that collective. A collective that is pending for its caller, which has not ended, with its
-/// arguments, answers where every member has given to its turn, an allreduce with numbers and each other that it is done, and is not
+/// more where one is pending; it has given to as many rounds as it has joined, and completed as many as it has completed collectives: no
+/// contribution counts twice. What is given to one round agrees in all but values and generation, and
+/// stays given. Two members that complete the same round of an allreduce get the same list, which is (as `changes` says) the fold of
+/// what exactly the members have given to that round. A barrier, and an allreduce of elements that may be reduced, join where their rank
+/// has committed the group, none is pending there, and what was given to the round is that collective. A collective that is pending for its caller, which has not ended, with its
+/// arguments, answers where every member has given to its round, an allreduce with numbers and each other that it is done, and is not
 /// ready where one has not; one that is not ready, or times out, is so pending, and a
 /// member has not given. A barrier that is done was joined by each member more often than its caller had
 /// completed collectives of the group before. (GASPI: collectives, allreduce, barrier)
 pub fn collectives()
     ensures counted { (w : ShapeValue) (history : List Event) (s : State) (rank id : ℕ) (posts : Posts) → IsShape w → reached w history ≡ Ok s → slice_get s.posts rank ≡ Some posts → id < 8
         → joins_on rank id history ≡ completions_on rank id history + pending_count (item_at posts.pending id) }
-    ensures turns { (w : ShapeValue) (history : List Event) (s : State) (rank id : ℕ) (g : Group) → IsShape w → reached w history ≡ Ok s → slice_get s.groups id ≡ Some g
+    ensures rounds { (w : ShapeValue) (history : List Event) (s : State) (rank id : ℕ) (g : Group) → IsShape w → reached w history ≡ Ok s → slice_get s.groups id ≡ Some g
         → (round_of g rank ≡ completions_on rank id history) × (length (contributions_of g rank).contributions ≡ joins_on rank id history) }
-    ensures agree { (w : ShapeValue) (history : List Event) (s : State) (id turn rank other : ℕ) (g : Group) (c d : Contribution) → IsShape w → reached w history ≡ Ok s
-        → slice_get s.groups id ≡ Some g → contribution_in g turn rank ≡ Some c → contribution_in g turn other ≡ Some d → c.args.coll ≡ d.args.coll }
+    ensures agree { (w : ShapeValue) (history : List Event) (s : State) (id round rank other : ℕ) (g : Group) (c d : Contribution) → IsShape w → reached w history ≡ Ok s
+        → slice_get s.groups id ≡ Some g → contribution_in g round rank ≡ Some c → contribution_in g round other ≡ Some d → c.args.coll ≡ d.args.coll }
     ensures grows { (s t : State) (e : Event) (id : ℕ) (g : Group) → IsSound s → step s e ≡ Ok t → slice_get s.groups id ≡ Some g
         → (g' : Group) × (slice_get t.groups id ≡ Some g') × Grows g g' }
     ensures same { (s t u v : State) (between : List Event) (c d : CallerId) (a b : allreduce.Allreduce) (x y : TypedNumbers) (g k : Group) → IsSound s

@@ -1,5 +1,5 @@
--- Collectives: what ranks give to the turns of a group, when a turn is full, and what it comes to. Most words speak of one turn by
--- what each rank has given to it, so that they serve lists of turns that only grow and buffers alike. (GASPI: collectives)
+-- Collectives: what ranks give to the rounds of a group, when a round is full, and what it comes to. Most words speak of one round by
+-- what each rank has given to it, so that they serve lists of rounds that only grow and buffers alike. (GASPI: collectives)
 use Rattle.std.specs.Prelude.{◌≡◌, ℕ, ◌+◌, ◌^◌, ℤ, pos, ◌+ℤ◌, Bool, true, false, not, ◌==◌, ◌&&◌, nat_eq, List, [], ◌∷◌, ◌++◌, length, map, filter, Option, None, Some, is_some, Result, Ok, slice_get}
 use Rattle.std.specs.Cmp.Lexicographic.{pointwise}
 use Rattle.std.specs.Int.{int_min, int_max, int_wrap, int_rem_euclid, w32, w64}
@@ -105,7 +105,7 @@ resume (Some p) thread args = do
   same ← check (has_same_args args p.args) (ResumeOther p.args.coll)
   Ok Same
 
--- One turn, by what each rank has given to it.
+-- One round, by what each rank has given to it.
 
 -- the ranks of a set, by rising number
 abbrev pub members_of : ℕ → List ℕ
@@ -124,7 +124,7 @@ abbrev pub first_contribution : (ℕ → Option Contribution) → List ℕ → O
 first_contribution given [] = None
 first_contribution given (m ∷ members) = or_later (given m) (first_contribution given members)
 
--- a collective fits a turn where what members have given to it is of that kind and those arguments, values aside
+-- a collective fits a round where what members have given to it is of that kind and those arguments, values aside
 abbrev pub fits : Option Contribution → Coll → Result (Unit {0}) Refusal
 fits None coll = Ok tt
 fits (Some c) coll = check (same_coll c.args.coll coll) (CollectiveMismatch c.args.coll)
@@ -153,7 +153,7 @@ generation_in (Some c) = c.generation
 abbrev pub made_by : (ℕ → Option Contribution) → List ℕ → List MemberSegment
 made_by given members = map (λ m. record { rank = m; generation = generation_in (given m) }) members
 
--- A group of the whole world: lists of turns that only grow.
+-- A group of the whole world: lists of rounds that only grow.
 
 abbrev pub no_contributions : RankContributions
 no_contributions = record { contributions = []; completed = 0 }
@@ -165,9 +165,9 @@ contributions_of g rank = part_or_none (slice_get g.contributions rank)
     part_or_none None = no_contributions
     part_or_none (Some part) = part
 
--- what a rank has given to a turn
+-- what a rank has given to a round
 abbrev pub contribution_in : Group → ℕ → ℕ → Option Contribution
-contribution_in g turn rank = slice_get (contributions_of g rank).contributions turn
+contribution_in g round rank = slice_get (contributions_of g rank).contributions round
 
 abbrev pub members_in : Group → List ℕ
 members_in g = members_or_none g.members
@@ -176,7 +176,7 @@ members_in g = members_or_none g.members
     members_or_none None = []
     members_or_none (Some mask) = members_of mask
 
--- the turn of a rank: the first that it has not completed
+-- the round of a rank: the first that it has not completed
 abbrev pub round_of : Group → ℕ → ℕ
 round_of g rank = (contributions_of g rank).completed
 
@@ -198,13 +198,13 @@ fixed_by (Some mask) coll = Some mask
 fixed_by None (Commit mask) = Some mask
 fixed_by None coll = None
 
--- a rank joins: it gives to its turn
+-- a rank joins: it gives to its round
 abbrev pub with_joined : Group → ℕ → Contribution → Group
 with_joined g rank c = record {
   members = fixed_by g.members c.args.coll;
   contributions = changed_at g.contributions rank (λ (p : RankContributions). record p { contributions = p.contributions ++ c ∷ [] });
 }
 
--- a rank has completed its turn
+-- a rank has completed its round
 abbrev pub with_completed : Group → ℕ → Group
 with_completed g rank = record g { contributions = changed_at g.contributions rank (λ (p : RankContributions). record p { completed = p.completed + 1 }) }

@@ -120,7 +120,7 @@ pub struct MemberSegment {
     pub generation: u32,
 }
 
-/// What a rank brings to one turn of a group: what it asks for, and for a segment that it makes its generation.
+/// What a rank brings to one round of a group: what it asks for, and for a segment that it makes its generation.
 #[derive(Debug, PartialEq, Eq, Drop)]
 pub struct Contribution {
     pub args: Args,
@@ -128,7 +128,7 @@ pub struct Contribution {
     pub generation: u32,
 }
 
-/// What one rank has had to do with a group: all that it has contributed, turn by turn, and how many of these turns it has
+/// What one rank has had to do with a group: all that it has contributed, round by round, and how many of these rounds it has
 /// completed.
 #[derive(Debug, PartialEq, Eq, Drop)]
 pub struct RankContributions {

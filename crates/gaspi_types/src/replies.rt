@@ -52,7 +52,7 @@ pub enum Refusal {
     ActiveCollective { thread: u32 },
     /// 19: that collective is pending for the caller, and the call is another one.
     ResumeOther { kept: Coll },
-    /// 20: a member takes part in the same turn with that collective.
+    /// 20: a member takes part in the same round with that collective.
     CollectiveMismatch { kept: Coll },
     /// 21: a list's length or a number of elements is outside its limits.
     BadCount,

@@ -1,4 +1,4 @@
--- What a collective met that may join, and one whose turn is full.
+-- What a collective met that may join, and one whose round is full.
 use Rattle.std.proofs.Common.{◌≡◌, ◌==◌, ℕ, ◌+◌, ◌<◌, ◌^◌, ◌&&◌, Bool, true, false, not, cond, nat_le, nat_lt, Option, None, Some, Result, Ok, Err, refl, sym, ap, subst, ◌∙◌, arith}
 use Rattle.std.proofs.lemmas.Bool.Decides.{nat_tests}
 use Rattle.gaspi_types.specs.Checks.{check, ok_or}

@@ -1,4 +1,4 @@
--- A collective that is resumed, and the turn of its group.
+-- A collective that is resumed, and the round of its group.
 use Rattle.std.proofs.Common.{◌≡◌, ◌==◌, ℕ, ◌-◌, ◌≤◌, true, filter, take, drop, get_or, arith, List, [], ◌∷◌, length, Option, None, Some, is_some, Ok, refl, sym, ap, subst, ◌∙◌}
 use Rattle.std.specs.List.{range_with_len}
 use Rattle.std.specs.Option.{unwrap_or}
@@ -90,7 +90,7 @@ resumed_same p thread args is =
     bind_then (check (has_same_args (Some args) p.args) _) _ _ more (λ u same more.
     same_args-same args p.args (check_holds _ _ _ same)))
 
--- so is what is given to the turn of an allreduce that is resumed
+-- so is what is given to the round of an allreduce that is resumed
 pub reducible_by : (g : Group) (me thread events members : ℕ) (pending : Option PendingCollective) (call : Call) → IsSoundGroup (length g.contributions) g → AreSoundContributions events pending (contributions_of g me)
     → resume pending thread (args_of members call) ≡ Ok Same → IsReducible g me call
 reducible_by g me thread events members None (calls.Allreduce call) group part is = absurd (let no : ⊥ = cc in no)

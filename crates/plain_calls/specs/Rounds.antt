@@ -1,4 +1,4 @@
--- The turn of a group at which a collective is looked at, answered and joins.
+-- The round of a group at which a collective is looked at, answered and joins.
 use Rattle.std.specs.Prelude.{◌≡◌, ℕ, length, Option, Some, Result, if◌then◌else◌}
 use Rattle.gaspi_types.specs.Checks.{◌>>=◌}
 use Rattle.gaspi_types.specs.Collectives.{contribution_in, round_of, with_completed}
@@ -16,12 +16,12 @@ use Rattle.gaspi_model.specs.CollectiveCalls.{element_checks, staged_at, complet
 use Rattle.gaspi_model.specs.Posting.{counted}
 use Rattle.gaspi_model.specs.declared.states.Posts.{Posts}
 
--- what is given to a turn is as many numbers each, of one type
+-- what is given to a round is as many numbers each, of one type
 abbrev pub AreAlike : (ℕ → Option Contribution) → NumType → ℕ → Type 0
 AreAlike given num_type count =
     (rank : ℕ) (c : Contribution) → given rank ≡ Some c → (c.args.values.num_type ≡ num_type) × (length c.args.values.items ≡ count)
 
--- so is what is given to the turn of an allreduce, and of its type
+-- so is what is given to the round of an allreduce, and of its type
 abbrev pub IsReducible : Group → ℕ → Call → Type 0
 IsReducible g rank (Allreduce call) = (count : ℕ) × AreAlike (contribution_in g (round_of g rank)) call.values.num_type count
 IsReducible g rank call = Unit {0}

@@ -150,7 +150,7 @@ pub fn check_fixed(fixed: Option<u32>, mask: u32) -> Result<(), Refusal>
     }
 }
 
-/// Checks a collective by what other ranks have brought to its group: a commit by the list that is fixed, each other by the turn.
+/// Checks a collective by what other ranks have brought to its group: a commit by the list that is fixed, each other by the round.
 fn check_agreement(group: &Group, me: RankId, coll: Coll) -> Result<(), Refusal>
     ensures { result ≡ agreement_checks group.now me coll }
 {
@@ -176,7 +176,7 @@ fn fresh_finds(
     Ok(Ready::Join(args))
 }
 
-/// What a collective answers whose turn is full. Only an allreduce takes memory, for its numbers. (GASPI: allreduce)
+/// What a collective answers whose round is full. Only an allreduce takes memory, for its numbers. (GASPI: allreduce)
 fn full_reply(alloc: Global, group: &Group, me: RankId, call: &Call) -> Result<Reply, NoMemory>
     requires full { is_round_full group.now me ≡ true }
     requires reducible { IsReducible group.now me call.now }
@@ -192,7 +192,7 @@ fn full_reply(alloc: Global, group: &Group, me: RankId, call: &Call) -> Result<R
     }
 }
 
-/// Looks at a collective that is pending for its caller: ready where its turn is full.
+/// Looks at a collective that is pending for its caller: ready where its round is full.
 fn resumed_finds(alloc: Global, group: &Group, me: RankId, call: &Call) -> Result<Ready, NoMemory>
     requires reducible { IsReducible group.now me call.now }
     ensures finds { IfOk result (λ ready. ready ≡ resumed_answer group.now me call.now) }
@@ -215,8 +215,8 @@ pub fn collective_ready(finds: Result<Ready, Refusal>) -> Ready
 }
 
 /// Looks at a collective of a rank on a group: it may join, with these arguments, or it is not ready, or it is refused or ready, with
-/// its reply. Only an allreduce takes memory, for its values and for the numbers of a full turn. The cost goes by members and
-/// elements, never by turns. (GASPI: collectives, timeouts)
+/// its reply. Only an allreduce takes memory, for its values and for the numbers of a full round. The cost goes by members and
+/// elements, never by rounds. (GASPI: collectives, timeouts)
 pub fn collective_look(
     alloc: Global,
     posts: &Posts,

@@ -1,4 +1,4 @@
-//! A collective joins its group, and completes its turn: the steps by a join and by a collective with its reply, on the posts of its
+//! A collective joins its group, and completes its round: the steps by a join and by a collective with its reply, on the posts of its
 //! caller's rank, its memory and its group. (GASPI: collectives, groups, segments)
 
 ghost use Rattle.std.specs.Prelude.{◌≡◌, ◌+◌, ◌<◌, ◌≤◌, ◌^◌, OnOk, OnErr, Some, Ok, false, true};
@@ -76,7 +76,7 @@ fn complete_parts(
     reply: &Reply,
 )
     requires room { is_idle reply.now ≡ false → CompletionIsBounded call.now }
-    requires turns { round_of group.old me + 1 < 2 ^ 32 }
+    requires rounds { round_of group.old me + 1 < 2 ^ 32 }
     requires events { posts.old.events + 1 < 2 ^ 32 }
     ensures posts { posts.new ≡ posts_after_collective posts.old group.old me id call.now reply.now }
     ensures group { group.new ≡ group_after_collective group.old me reply.now }
@@ -135,7 +135,7 @@ fn made_generation(posts: &Posts, coll: Coll) -> u32
     }
 }
 
-/// Gives a contribution to the turn of a rank, and makes the segment that its collective makes. Without memory nothing changes.
+/// Gives a contribution to the round of a rank, and makes the segment that its collective makes. Without memory nothing changes.
 /// (GASPI: collectives, segment_create)
 fn give(
     alloc: Global,
@@ -169,7 +169,7 @@ fn give(
     }
 }
 
-/// What a join leaves: its collective is pending for its caller, and the rank has given to its turn; and one event more. All memory is
+/// What a join leaves: its collective is pending for its caller, and the rank has given to its round; and one event more. All memory is
 /// taken first, and without it nothing changes.
 fn join_parts(
     alloc: Global,
@@ -211,7 +211,7 @@ fn join_parts(
 }
 
 /// Joins: the step by the join of a collective of a rank to a group with these arguments, which it may join, and the rank has room for
-/// the event. The collective is then pending for its caller, and the rank has given to its turn; a segment that it makes is there.
+/// the event. The collective is then pending for its caller, and the rank has given to its round; a segment that it makes is there.
 /// `taken` is the room that the rank has taken, before and after. Without memory nothing changes. (GASPI: collectives, segment_create)
 pub fn join(
     alloc: Global,

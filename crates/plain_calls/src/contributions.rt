@@ -1,5 +1,5 @@
-//! What ranks have given to the turns of a group, and what a turn comes to. The members of a group alone are walked, never its
-//! turns. (GASPI: collectives)
+//! What ranks have given to the rounds of a group, and what a round comes to. The members of a group alone are walked, never its
+//! rounds. (GASPI: collectives)
 
 ghost use Rattle.std.specs.Prelude.{◌≡◌, ℕ, ◌+◌, ◌<◌, ◌^◌, ◌++◌, ◌∷◌, [], length, true, is_some, IfOk, OnOk, OnErr};
 ghost use Rattle.std.specs.Option.{option_copied};
@@ -18,18 +18,18 @@ use gaspi_types::{
 use segment_store::set_known;
 use std::alloc::Global;
 
-/// What a rank has given to a turn of a group, if it has.
-fn given_in(group: &Group, turn: u32, rank: RankId) -> Option<&Contribution>
-    ensures { option_copied result ≡ contribution_in group.now turn rank }
+/// What a rank has given to a round of a group, if it has.
+fn given_in(group: &Group, round: u32, rank: RankId) -> Option<&Contribution>
+    ensures { option_copied result ≡ contribution_in group.now round rank }
 {
     match group.contributions.get(rank.index()) {
-        Some(part) => part.contributions.get(turn as usize),
+        Some(part) => part.contributions.get(round as usize),
         None => None,
     }
 }
 
-/// The turn of a rank: the first that it has not completed.
-fn turn_of(group: &Group, rank: RankId) -> u32
+/// The round of a rank: the first that it has not completed.
+fn round_of(group: &Group, rank: RankId) -> u32
     ensures { result ≡ round_of group.now rank }
 {
     match group.contributions.get(rank.index()) {
@@ -45,121 +45,121 @@ fn members_in(group: &Group) -> Members
     members_of(group.members.unwrap_or(0))
 }
 
-/// Whether every one of these ranks has given to a turn.
-fn is_full(group: &Group, turn: u32, members: &[RankId]) -> bool
-    ensures { result ≡ is_full (contribution_in group.now turn) members.now }
+/// Whether every one of these ranks has given to a round.
+fn is_full(group: &Group, round: u32, members: &[RankId]) -> bool
+    ensures { result ≡ is_full (contribution_in group.now round) members.now }
 {
     members
         .iter()
-        .all(|member| given_in(group, turn, *member).is_some())
+        .all(|member| given_in(group, round, *member).is_some())
 }
 
-/// Whether every member has given to the turn of a rank. (GASPI: collectives)
+/// Whether every member has given to the round of a rank. (GASPI: collectives)
 pub fn is_round_full(group: &Group, me: RankId) -> bool
     ensures { result ≡ is_round_full group.now me }
 {
-    is_full(group, turn_of(group, me), members_in(group).ranks())
+    is_full(group, round_of(group, me), members_in(group).ranks())
 }
 
-/// The collective with which the first of these ranks has joined a turn that has joined it.
-fn first_coll(group: &Group, turn: u32, members: &[RankId]) -> Option<Coll>
-    ensures { result ≡ coll_in (first_contribution (contribution_in group.now turn) members.now) }
+/// The collective with which the first of these ranks has joined a round that has joined it.
+fn first_coll(group: &Group, round: u32, members: &[RankId]) -> Option<Coll>
+    ensures { result ≡ coll_in (first_contribution (contribution_in group.now round) members.now) }
 {
     match members {
         [] => None,
-        [member, others @ ..] => match given_in(group, turn, *member) {
+        [member, others @ ..] => match given_in(group, round, *member) {
             Some(given) => Some(given.args.coll),
-            None => first_coll(group, turn, others),
+            None => first_coll(group, round, others),
         },
     }
 }
 
-/// Checks that a collective is the one with which members have joined the turn of a rank, values aside. (GASPI: collectives)
+/// Checks that a collective is the one with which members have joined the round of a rank, values aside. (GASPI: collectives)
 pub fn check_round(group: &Group, me: RankId, coll: Coll) -> Result<(), Refusal>
     ensures { result ≡ round_checks group.now me coll }
 {
-    let first = first_coll(group, turn_of(group, me), members_in(group).ranks());
+    let first = first_coll(group, round_of(group, me), members_in(group).ranks());
     check_fits(first, coll)
 }
 
-/// The values that a rank has given to a turn: of one that has not, none.
-fn values_in(group: &Group, turn: u32, rank: RankId) -> &[i128]
-    ensures values { result.now ≡ values_in (contribution_in group.now turn rank) }
-    ensures range { (num_type : NumType) (count : ℕ) → AreAlike (contribution_in group.now turn) num_type count → AreInType num_type result.now }
+/// The values that a rank has given to a round: of one that has not, none.
+fn values_in(group: &Group, round: u32, rank: RankId) -> &[i128]
+    ensures values { result.now ≡ values_in (contribution_in group.now round rank) }
+    ensures range { (num_type : NumType) (count : ℕ) → AreAlike (contribution_in group.now round) num_type count → AreInType num_type result.now }
 {
-    match given_in(group, turn, rank) {
+    match given_in(group, round, rank) {
         Some(given) => given.args.values.items(),
         None => &[],
     }
 }
 
-/// Reduces what a rank has given to a turn onto a total.
+/// Reduces what a rank has given to a round onto a total.
 fn reduce_given(
     total: &mut [i128],
     op: Op,
     num_type: NumType,
     group: &Group,
-    turn: u32,
+    round: u32,
     rank: RankId,
 )
-    requires given { is_some (contribution_in group.now turn rank) ≡ true }
-    requires alike { AreAlike (contribution_in group.now turn) num_type (length total.old) }
+    requires given { is_some (contribution_in group.now round rank) ≡ true }
+    requires alike { AreAlike (contribution_in group.now round) num_type (length total.old) }
     requires range { AreInType num_type total.old }
-    ensures reduced { total.new ≡ combined op num_type total.old (values_in (contribution_in group.now turn rank)) }
+    ensures reduced { total.new ≡ combined op num_type total.old (values_in (contribution_in group.now round rank)) }
     ensures range { AreInType num_type total.new }
 {
-    reduce(op, num_type, total, values_in(group, turn, rank));
+    reduce(op, num_type, total, values_in(group, round, rank));
 }
 
-/// Reduces what ranks have given to a turn onto a total, one rank after another.
+/// Reduces what ranks have given to a round onto a total, one rank after another.
 fn fold_onto(
     total: &mut [i128],
     op: Op,
     num_type: NumType,
     group: &Group,
-    turn: u32,
+    round: u32,
     members: &[RankId],
 )
-    requires full { is_full (contribution_in group.now turn) members.now ≡ true }
-    requires alike { AreAlike (contribution_in group.now turn) num_type (length total.old) }
+    requires full { is_full (contribution_in group.now round) members.now ≡ true }
+    requires alike { AreAlike (contribution_in group.now round) num_type (length total.old) }
     requires range { AreInType num_type total.old }
-    ensures folded { total.new ≡ reduced_onto (contribution_in group.now turn) op num_type total.old members.now }
+    ensures folded { total.new ≡ reduced_onto (contribution_in group.now round) op num_type total.old members.now }
     ensures range { AreInType num_type total.new }
 {
     match members {
         [] => {}
         [member, others @ ..] => {
-            reduce_given(total, op, num_type, group, turn, *member);
-            fold_onto(total, op, num_type, group, turn, others);
+            reduce_given(total, op, num_type, group, round, *member);
+            fold_onto(total, op, num_type, group, round, others);
         }
     }
 }
 
-/// What the values come to that ranks have given to a turn, one rank after another.
+/// What the values come to that ranks have given to a round, one rank after another.
 fn fold(
     alloc: Global,
     op: Op,
     num_type: NumType,
     group: &Group,
-    turn: u32,
+    round: u32,
     members: &[RankId],
 ) -> Result<Numbers, NoMemory>
-    requires full { is_full (contribution_in group.now turn) members.now ≡ true }
-    requires alike { (count : ℕ) × AreAlike (contribution_in group.now turn) num_type count }
-    ensures { IfOk result (λ numbers. numbers ≡ reduction_of (contribution_in group.now turn) op num_type members.now) }
+    requires full { is_full (contribution_in group.now round) members.now ≡ true }
+    requires alike { (count : ℕ) × AreAlike (contribution_in group.now round) num_type count }
+    ensures { IfOk result (λ numbers. numbers ≡ reduction_of (contribution_in group.now round) op num_type members.now) }
 {
     match members {
         [] => Ok(Numbers::new(num_type, Sequence::new(alloc))),
         [first, others @ ..] => {
-            let mut total = Vec::from_slice(alloc, values_in(group, turn, *first))?;
+            let mut total = Vec::from_slice(alloc, values_in(group, round, *first))?;
             let items = total.as_mut_slice();
-            fold_onto(items, op, num_type, group, turn, others);
+            fold_onto(items, op, num_type, group, round, others);
             Ok(Numbers::new(num_type, Sequence::from_vec(total)))
         }
     }
 }
 
-/// What the values of all members come to in the full turn of a rank, in the order of their ranks. (GASPI: allreduce)
+/// What the values of all members come to in the full round of a rank, in the order of their ranks. (GASPI: allreduce)
 pub fn round_reduction(
     alloc: Global,
     group: &Group,
@@ -171,43 +171,50 @@ pub fn round_reduction(
     requires alike { (count : ℕ) × AreAlike (contribution_in group.now (round_of group.now me)) num_type count }
     ensures { IfOk result (λ numbers. numbers ≡ round_reduction group.now me op num_type) }
 {
-    let turn = turn_of(group, me);
+    let round = round_of(group, me);
     let members = members_in(group);
-    fold(alloc, op, num_type, group, turn, members.ranks())
+    fold(alloc, op, num_type, group, round, members.ranks())
 }
 
-/// The generation of the segment that a rank has given to a turn: of one that has not, 0.
-fn generation_in(group: &Group, turn: u32, rank: RankId) -> u32
-    ensures { result ≡ generation_in (contribution_in group.now turn rank) }
+/// The generation of the segment that a rank has given to a round: of one that has not, 0.
+fn generation_in(group: &Group, round: u32, rank: RankId) -> u32
+    ensures { result ≡ generation_in (contribution_in group.now round rank) }
 {
-    match given_in(group, turn, rank) {
+    match given_in(group, round, rank) {
         Some(given) => given.generation,
         None => 0,
     }
 }
 
-/// Makes a segment of each of these ranks known, in the generation that it has given to a turn.
-fn make_known(posts: &mut Posts, group: &Group, turn: u32, members: &[RankId], seg: u64, size: u32)
-    ensures { posts.new ≡ with_made_known seg size (made_by (contribution_in group.now turn) members.now) posts.old }
+/// Makes a segment of each of these ranks known, in the generation that it has given to a round.
+fn make_known(posts: &mut Posts, group: &Group, round: u32, members: &[RankId], seg: u64, size: u32)
+    ensures { posts.new ≡ with_made_known seg size (made_by (contribution_in group.now round) members.now) posts.old }
 {
     match members {
         [] => {}
         [member, others @ ..] => {
-            let generation = generation_in(group, turn, *member);
+            let generation = generation_in(group, round, *member);
             let extent = Some(Extent { generation, size });
             set_known(&mut posts.segments, *member, seg, extent);
-            make_known(posts, group, turn, others, seg, size);
+            make_known(posts, group, round, others, seg, size);
         }
     }
 }
 
-/// Makes the segments of all members known, in the generations that they have given to the turn of a rank.
+/// Makes the segments of all members known, in the generations that they have given to the round of a rank.
 /// (GASPI: segment_create)
 pub fn register_round(posts: &mut Posts, group: &Group, me: RankId, seg: u64, size: u32)
     ensures { posts.new ≡ with_made_known seg size (round_segments group.now me) posts.old }
 {
     let members = members_in(group);
-    make_known(posts, group, turn_of(group, me), members.ranks(), seg, size);
+    make_known(
+        posts,
+        group,
+        round_of(group, me),
+        members.ranks(),
+        seg,
+        size,
+    );
 }
 
 /// The members of a group that a collective joins: the first commit fixes them.
@@ -231,7 +238,7 @@ fn give(part: &mut RankContributions, contribution: Contribution) -> Result<(), 
     part.contributions.push(contribution)
 }
 
-/// A rank joins: it gives to its turn, and the first commit fixes the members. Without memory nothing changes.
+/// A rank joins: it gives to its round, and the first commit fixes the members. Without memory nothing changes.
 /// (GASPI: collectives)
 #[tactic(auto, using(crate::proofs::PostedEntries::posts_lemmas))]
 pub fn join_round(group: &mut Group, me: RankId, contribution: Contribution) -> Result<(), NoMemory>
@@ -247,7 +254,7 @@ pub fn join_round(group: &mut Group, me: RankId, contribution: Contribution) -> 
     Ok(())
 }
 
-/// A rank has completed its turn. (GASPI: collectives)
+/// A rank has completed its round. (GASPI: collectives)
 pub fn complete_round(group: &mut Group, me: RankId)
     requires { round_of group.old me + 1 < 2 ^ 32 }
     ensures { group.new ≡ with_completed group.old me }

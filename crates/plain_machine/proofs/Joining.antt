@@ -40,10 +40,10 @@ use Rattle.plain_machine.proofs.Recorded.{declared_there}
 sound_none : IsSoundGroup 0 empty_group
 sound_none = record {
   parts = refl;
-  agree = λ turn rank other a b given more. absurd (let no : ⊥ = cc in no);
-  whole = λ turn rank a given. absurd (let no : ⊥ = cc in no);
-  members = λ turn rank a given. absurd (let no : ⊥ = cc in no);
-  commits = λ turn rank a mask given more. absurd (let no : ⊥ = cc in no);
+  agree = λ round rank other a b given more. absurd (let no : ⊥ = cc in no);
+  whole = λ round rank a given. absurd (let no : ⊥ = cc in no);
+  members = λ round rank a given. absurd (let no : ⊥ = cc in no);
+  commits = λ round rank a mask given more. absurd (let no : ⊥ = cc in no);
 }
 
 pub group_sound : (s : State) (id : ℕ) → IsSound s → IsSoundGroup (length (group_in s id).contributions) (group_in s id)

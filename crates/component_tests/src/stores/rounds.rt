@@ -8,7 +8,7 @@ fn opening(alloc: Global, members: Option<u32>) -> Result<Rounds, NoMemory> {
     Rounds::new(alloc, members)
 }
 
-/// Whether a rank joins its turn with a sum of one number.
+/// Whether a rank joins its round with a sum of one number.
 fn adds(alloc: Global, rounds: &mut Rounds, rank: RankId, number: i32) -> Result<bool, NoMemory> {
     let items = Sequence::copied_from(alloc, &[i128::from(number)])?;
     let args = Args {
@@ -20,7 +20,7 @@ fn adds(alloc: Global, rounds: &mut Rounds, rank: RankId, number: i32) -> Result
     Ok(is_allowed && may && rounds.join(rank, &args, 0).is_ok())
 }
 
-/// Whether a rank joins its turn with the commit of a list, which fits.
+/// Whether a rank joins its round with the commit of a list, which fits.
 fn commits(alloc: Global, rounds: &mut Rounds, rank: RankId, mask: u32) -> bool {
     let args = Args {
         coll: Coll::Commit(mask),
@@ -30,7 +30,7 @@ fn commits(alloc: Global, rounds: &mut Rounds, rank: RankId, mask: u32) -> bool 
     fits && rounds.join(rank, &args, 0).is_ok()
 }
 
-/// Whether a rank joins its turn with a segment that it made in a generation.
+/// Whether a rank joins its round with a segment that it made in a generation.
 fn creates(alloc: Global, rounds: &mut Rounds, rank: RankId, generation: u32) -> bool {
     let args = Args {
         coll: Coll::Create(0, 8),
@@ -39,12 +39,12 @@ fn creates(alloc: Global, rounds: &mut Rounds, rank: RankId, generation: u32) ->
     rounds.may_join(rank, args.coll) && rounds.join(rank, &args, generation).is_ok()
 }
 
-/// Whether every member has joined the turn of a rank.
+/// Whether every member has joined the round of a rank.
 fn is_full(rounds: &Rounds, rank: RankId) -> bool {
     rounds.full(rank)
 }
 
-/// Whether a rank leaves its turn, which is full.
+/// Whether a rank leaves its round, which is full.
 fn leaves(rounds: &mut Rounds, rank: RankId) -> bool {
     let may = rounds.is_member(rank) && rounds.full(rank);
     if may {
@@ -53,7 +53,7 @@ fn leaves(rounds: &mut Rounds, rank: RankId) -> bool {
     may
 }
 
-/// Whether the turn of a rank comes to one number, which is that.
+/// Whether the round of a rank comes to one number, which is that.
 fn comes_to(alloc: Global, rounds: &Rounds, rank: RankId, number: i128) -> Result<bool, NoMemory> {
     let room = Sequence::copied_from(alloc, &[0])?;
     let is_full = rounds.is_member(rank) && rounds.full(rank);
@@ -70,7 +70,7 @@ fn has_made(rounds: &Rounds, rank: RankId, generation: u32) -> bool {
     rounds.is_member(rank) && rounds.generations(rank).as_slice() == made.as_slice()
 }
 
-/// Whether both ranks join the first turn, which is full then and not before.
+/// Whether both ranks join the first round, which is full then and not before.
 fn both_join(
     alloc: Global,
     rounds: &mut Rounds,
@@ -82,14 +82,14 @@ fn both_join(
     Ok(first && second && is_full(rounds, fast))
 }
 
-/// Whether a rank joins the next turn, once it has left its first.
+/// Whether a rank joins the next round, once it has left its first.
 fn goes_on(alloc: Global, rounds: &mut Rounds, rank: RankId) -> Result<bool, NoMemory> {
     let left = leaves(rounds, rank);
     Ok(left && adds(alloc, rounds, rank, 2)?)
 }
 
 #[test]
-fn slow_rank_gets_its_own_turn(rt: HostRuntime) -> Result<(), Fail> {
+fn slow_rank_gets_its_own_round(rt: HostRuntime) -> Result<(), Fail> {
     let alloc = rt.alloc();
     let (fast, slow) = (RankId::of(0), RankId::of(3));
     let mut rounds = opening(alloc, Some(0b1001))?;

@@ -37,14 +37,14 @@ left s c id args posts memory g coll = record s {
   groups = slice_set s.groups id (with_joined g c.rank (record { args = args; generation = made_generation posts coll }));
 }
 
--- what a rank gives stands in its turn
+-- what a rank gives stands in its round
 gives : (s t : State) (id me : ℕ) (posts : Posts) (g : Group) (part : RankContributions) (c : Contribution) → IsSound s → slice_get s.posts me ≡ Some posts → IsThere s me id g part → item_at posts.pending id ≡ None
     → t.groups ≡ slice_set s.groups id (with_joined g me c) → Contributes t id g me c
 gives s t id me posts g part c sound hp there none leaves =
     let count = (sound.collectives.parts id g me posts there.there hp).count in
     let idle : pending_count (item_at posts.pending id) ≡ 0 = ap pending_count none in
     let was = contributions-there g me part there.part_there in
-    let turn : (contributions_of g me).completed ≡ part.completed = ap (λ (q : RankContributions). q.completed) was in
+    let round : (contributions_of g me).completed ≡ part.completed = ap (λ (q : RankContributions). q.completed) was in
     let many : length (contributions_of g me).contributions ≡ length part.contributions = ap (λ (q : RankContributions). length q.contributions) was in
     let now = contributions-changed g me part (λ (q : RankContributions). record q { contributions = q.contributions ++ c ∷ [] }) (fixed_by g.members c.args.coll) there.part_there in (
       with_joined g me c,

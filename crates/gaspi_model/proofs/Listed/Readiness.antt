@@ -1,4 +1,4 @@
--- A collective that is pending answers where every member has given to its turn, and else is not ready.
+-- A collective that is pending answers where every member has given to its round, and else is not ready.
 use Rattle.std.proofs.Common.{◌≡◌, ℕ, ◌<◌, Bool, true, false, List, [], ◌∷◌, filter, Option, None, Some, is_some, Result, Ok, Err, refl, sym, ap, ◌∙◌, subst, arith}
 use Rattle.std.specs.List.{slice_get, list_all, range_with_len}
 use Rattle.std.proofs.lemmas.Bool.{eq-eqb}
@@ -94,7 +94,7 @@ pending-members s posts g me id p sound hp hg pends rank one =
         let own : args_of may.handle.members (calls.Commit x) ≡ Some p.args = subst (λ (c : Call). args_of may.handle.members c ≡ Some p.args) same may.own in
         (sound.collectives.groups id g hg).commits (round_of g me) me last.0 may.handle.members last.1 (ap (λ (a : Args). a.coll) last.2 ∙ commit-args may.handle.members x p.args own)
 
--- A turn is full where every member has given.
+-- A round is full where every member has given.
 
 filter-all : (p test : ℕ → Bool) (xs : List ℕ) → ((m : ℕ) → p m ≡ true → test m ≡ true) → list_all test (filter p xs) ≡ true
 filter-all p test [] every = refl
@@ -186,7 +186,7 @@ answer-cases {P} posts g me thread id call found is refused pends joins = by-run
     by-running true runs = by-result (collective_result posts g me thread id call) runs refl (rw runs at is)
     by-running false ended = refused CallerEnded (sym (rw ended at is))
 
--- a collective that is pending and whose turn is not full waits
+-- a collective that is pending and whose round is not full waits
 waiting : (s : State) (c : CallerId) (id : ℕ) (call : Call) (posts : Posts) (h : Handle) (p : PendingCollective) → IsSound s → slice_get s.posts c.rank ≡ Some posts → (row_of call).group ≡ Some id
     → is_running (thread_at posts c.thread) ≡ true → staged_at posts.groups c.rank id call ≡ Ok h → IsResumed (item_at posts.pending id) c.thread (args_of h.members call) p
     → is_round_full (group_in s id) c.rank ≡ false → IsPendingUnready s c id call

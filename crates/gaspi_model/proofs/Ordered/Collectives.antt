@@ -1,4 +1,4 @@
--- Joins and completions: each contribution counts once, and members of a turn get the same.
+-- Joins and completions: each contribution counts once, and members of a round get the same.
 use Rattle.std.proofs.Common.{◌≡◌, ℕ, zero, suc, ◌+◌, ◌<◌, Bool, true, false, not, ◌==◌, ◌&&◌, List, [], ◌∷◌, ◌++◌, length, filter, cond, ℤ, Option, None, Some, is_some, Ok, refl, sym, ap, ◌∙◌, subst, arith}
 use Rattle.std.specs.List.{slice_get, slice_set, list_all, range_with_len}
 use Rattle.std.specs.Option.{option_map}
@@ -63,25 +63,25 @@ joins-once : Bool → ℕ
 joins-once b = cond b 1 0
 
 -- What becomes of a group by an event.
-record Turned (e : Event) (id : ℕ) (g g' : Group) : Type 0 where
+record RoundsAfter (e : Event) (id : ℕ) (g g' : Group) : Type 0 where
   grows : Grows g g'
   joins : (rank : ℕ) → length (contributions_of g' rank).contributions ≡ length (contributions_of g rank).contributions + joins-once (is_join_on rank id e)
   completes : (rank : ℕ) → (contributions_of g' rank).completed ≡ (contributions_of g rank).completed + joins-once (is_completion_on rank id e)
 
-unturned : (e : Event) (id : ℕ) (g : Group) → ((rank : ℕ) → is_join_on rank id e ≡ false) → ((rank : ℕ) → is_completion_on rank id e ≡ false) → Turned e id g g
+same-contributions : (e : Event) (id : ℕ) (g : Group) → ((rank : ℕ) → is_join_on rank id e ≡ false) → ((rank : ℕ) → is_completion_on rank id e ≡ false) → RoundsAfter e id g g
 unfolding joins-once
-unturned e id g joins completes = record {
-  grows = record { given = λ turn rank c given. given; members = λ mask is. is };
+same-contributions e id g joins completes = record {
+  grows = record { given = λ round rank c given. given; members = λ mask is. is };
   joins = λ rank. rw (joins rank) (omega arith);
   completes = λ rank. rw (completes rank) (omega arith);
 }
 
 -- the group after an event, where its number has it
-abbrev IsTurned : State → Event → ℕ → Group → Type 0
-IsTurned t e id g = (g' : Group) × (slice_get t.groups id ≡ Some g') × Turned e id g g'
+abbrev HasRoundsAfter : State → Event → ℕ → Group → Type 0
+HasRoundsAfter t e id g = (g' : Group) × (slice_get t.groups id ≡ Some g') × RoundsAfter e id g g'
 
-same-turned : (s t : State) (e : Event) (id : ℕ) (g : Group) → t.groups ≡ s.groups → slice_get s.groups id ≡ Some g → ((rank : ℕ) → is_join_on rank id e ≡ false) → ((rank : ℕ) → is_completion_on rank id e ≡ false) → IsTurned t e id g
-same-turned s t e id g same at joins completes = (g, ap (λ (all : List Group). slice_get all id) same ∙ at, unturned e id g joins completes)
+same-rounds : (s t : State) (e : Event) (id : ℕ) (g : Group) → t.groups ≡ s.groups → slice_get s.groups id ≡ Some g → ((rank : ℕ) → is_join_on rank id e ≡ false) → ((rank : ℕ) → is_completion_on rank id e ≡ false) → HasRoundsAfter t e id g
+same-rounds s t e id g same at joins completes = (g, ap (λ (all : List Group). slice_get all id) same ∙ at, same-contributions e id g joins completes)
 
 and-false : (a : Bool) → (a && false) ≡ false
 and-false true = refl
@@ -91,9 +91,9 @@ false-and : (b : Bool) → (false && b) ≡ false
 false-and true = refl
 false-and false = refl
 
--- a group of which one rank has completed its turn
-completed-turned : (g : Group) (me : ℕ) (part : RankContributions) → slice_get g.contributions me ≡ Some part → Grows g (with_completed g me)
-completed-turned g me part at = record { given = λ turn rank c given. contributed-completed g me turn rank part at ∙ given; members = λ mask is. is }
+-- a group of which one rank has completed its round
+completed-rounds : (g : Group) (me : ℕ) (part : RankContributions) → slice_get g.contributions me ≡ Some part → Grows g (with_completed g me)
+completed-rounds g me part at = record { given = λ round rank c given. contributed-completed g me round rank part at ∙ given; members = λ mask is. is }
 
 by-rank : {P : Type 0} (a b : ℕ) → ((a == b) ≡ true → a ≡ b → P) → ((a == b) ≡ false → (a ≡ b → ⊥) → P) → P
 by-rank {P} a b same other = go (a == b) refl
@@ -102,24 +102,24 @@ by-rank {P} a b same other = go (a == b) refl
     go true is = same is (eqb-true a b is)
     go false is = other is (λ e. eqb-false a b is e)
 
-done-turned : (s t : State) (c : CallerId) (k : ℕ) (call : Call) (reply : Reply) (id : ℕ) (g : Group) → (row_of call).group ≡ Some k → is_idle reply ≡ false → IsSound s → step s (Called c call reply) ≡ Ok t → slice_get s.groups id ≡ Some g
-    → IsTurned t (Called c call reply) id g
+done-rounds : (s t : State) (c : CallerId) (k : ℕ) (call : Call) (reply : Reply) (id : ℕ) (g : Group) → (row_of call).group ≡ Some k → is_idle reply ≡ false → IsSound s → step s (Called c call reply) ≡ Ok t → slice_get s.groups id ≡ Some g
+    → HasRoundsAfter t (Called c call reply) id g
 unfolding joins-once
-done-turned s t c k call reply id g named awake sound h at =
+done-rounds s t c k call reply id g named awake sound h at =
     let made = done-step s t c k call reply named awake sound h in
     let m = made.5 in
     let old = made.1 in
     let part = made.2 in
     let all : t.groups ≡ slice_set s.groups k (with_completed old c.rank) = ap (λ (x : State). x.groups) m.leaves in
-    by-rank {P = IsTurned t (Called c call reply) id g} k id
+    by-rank {P = HasRoundsAfter t (Called c call reply) id g} k id
     (λ is same.
     let one : old ≡ g = (let some : ◌≡◌ {A = Option Group} (Some old) (Some g) = sym m.there.there ∙ subst (λ (n : ℕ). slice_get s.groups n ≡ Some g) (sym same) at in cc) in
     let part_there = m.there.part_there in
-    subst (λ (x : Group). IsTurned t (Called c call reply) id x) one (
+    subst (λ (x : Group). HasRoundsAfter t (Called c call reply) id x) one (
       with_completed old c.rank,
       ap (λ (gs : List Group). slice_get gs id) all ∙ subst (λ (n : ℕ). slice_get (slice_set s.groups k (with_completed old c.rank)) n ≡ Some (with_completed old c.rank)) same (slice_get-set_same s.groups k old (with_completed old c.rank) m.there.there),
       record {
-        grows = completed-turned old c.rank part part_there;
+        grows = completed-rounds old c.rank part part_there;
         joins = λ rank. by-rank {P = length (contributions_of (with_completed old c.rank) rank).contributions ≡ length (contributions_of old rank).contributions + 0} c.rank rank
             (λ here mine.
             let now = contributions-changed old c.rank part (λ (q : RankContributions). record q { completed = q.completed + 1 }) old.members part_there in
@@ -141,12 +141,12 @@ done-turned s t c k call reply id g named awake sound h at =
     (λ is apart. (
       g,
       ap (λ (gs : List Group). slice_get gs id) all ∙ slice_get-set_other s.groups k id (with_completed old c.rank) apart ∙ at,
-      unturned (Called c call reply) id g (λ rank. refl) (λ rank. rw (named, is) (ap (λ (b : Bool). b && not (is_idle reply)) (and-false (c.rank == rank)) ∙ false-and (not (is_idle reply)))),
+      same-contributions (Called c call reply) id g (λ rank. refl) (λ rank. rw (named, is) (ap (λ (b : Bool). b && not (is_idle reply)) (and-false (c.rank == rank)) ∙ false-and (not (is_idle reply)))),
     ))
 
-joined-turned : (s t : State) (c : CallerId) (k : ℕ) (args : Args) (id : ℕ) (g : Group) → IsSound s → step s (Joined c k args) ≡ Ok t → slice_get s.groups id ≡ Some g → IsTurned t (Joined c k args) id g
+joined-rounds : (s t : State) (c : CallerId) (k : ℕ) (args : Args) (id : ℕ) (g : Group) → IsSound s → step s (Joined c k args) ≡ Ok t → slice_get s.groups id ≡ Some g → HasRoundsAfter t (Joined c k args) id g
 unfolding joins-once
-joined-turned s t c k args id g sound h at =
+joined-rounds s t c k args id g sound h at =
     let made = join-step s t c k args sound h in
     let m = made.5 in
     let posts = made.0 in
@@ -154,10 +154,10 @@ joined-turned s t c k args id g sound h at =
     let part = made.2 in
     let new = with_joined old c.rank (contribution_of posts args) in
     let all : t.groups ≡ slice_set s.groups k new = ap (λ (x : State). x.groups) m.leaves in
-    by-rank {P = IsTurned t (Joined c k args) id g} k id
+    by-rank {P = HasRoundsAfter t (Joined c k args) id g} k id
     (λ is same.
     let one : old ≡ g = (let some : ◌≡◌ {A = Option Group} (Some old) (Some g) = sym m.there.there ∙ subst (λ (n : ℕ). slice_get s.groups n ≡ Some g) (sym same) at in cc) in
-    subst (λ (x : Group). IsTurned t (Joined c k args) id x) one (
+    subst (λ (x : Group). HasRoundsAfter t (Joined c k args) id x) one (
       new,
       ap (λ (gs : List Group). slice_get gs id) all ∙ subst (λ (n : ℕ). slice_get (slice_set s.groups k new) n ≡ Some new) same (slice_get-set_same s.groups k old new m.there.there),
       given-more old part (contribution_of posts args) m.there.part_there is,
@@ -165,22 +165,22 @@ joined-turned s t c k args id g sound h at =
     (λ is apart. (
       g,
       ap (λ (gs : List Group). slice_get gs id) all ∙ slice_get-set_other s.groups k id new apart ∙ at,
-      unturned (Joined c k args) id g (λ rank. rw is (and-false (c.rank == rank))) (λ rank. refl),
+      same-contributions (Joined c k args) id g (λ rank. rw is (and-false (c.rank == rank))) (λ rank. refl),
     ))
   where
     more : (xs : List Contribution) (y : Contribution) → length (xs ++ y ∷ []) ≡ length xs + 1
     more [] y = refl
     more (x ∷ xs) y = ap (λ (n : ℕ). suc n) (more xs y) ∙ omega arith
 
-    given-more : (old : Group) (part : RankContributions) (x : Contribution) → slice_get old.contributions c.rank ≡ Some part → (k == id) ≡ true → Turned (Joined c k args) id old (with_joined old c.rank x)
+    given-more : (old : Group) (part : RankContributions) (x : Contribution) → slice_get old.contributions c.rank ≡ Some part → (k == id) ≡ true → RoundsAfter (Joined c k args) id old (with_joined old c.rank x)
     given-more old part x part_there is = record {
       grows = record {
-        given = λ turn rank d given. by-rank {P = contribution_in (with_joined old c.rank x) turn rank ≡ Some d} c.rank rank
+        given = λ round rank d given. by-rank {P = contribution_in (with_joined old c.rank x) round rank ≡ Some d} c.rank rank
             (λ here mine.
             let now = subst (λ (r : ℕ). contributions_of (with_joined old c.rank x) r ≡ record part { contributions = part.contributions ++ x ∷ [] }) mine (contributions-changed old c.rank part (λ (q : RankContributions). record q { contributions = q.contributions ++ x ∷ [] }) (fixed_by old.members x.args.coll) part_there) in
-            let was : slice_get part.contributions turn ≡ Some d = ap (λ (q : RankContributions). slice_get q.contributions turn) (sym (subst (λ (r : ℕ). contributions_of old r ≡ part) mine (contributions-there old c.rank part part_there))) ∙ given in
-            ap (λ (q : RankContributions). slice_get q.contributions turn) now ∙ prefix-of-joined part.contributions (x ∷ []) turn (slice_get_within part.contributions turn d was) ∙ was)
-            (λ here apart. ap (λ (q : RankContributions). slice_get q.contributions turn) (contributions-other old c.rank rank (λ (q : RankContributions). record q { contributions = q.contributions ++ x ∷ [] }) (fixed_by old.members x.args.coll) apart) ∙ given);
+            let was : slice_get part.contributions round ≡ Some d = ap (λ (q : RankContributions). slice_get q.contributions round) (sym (subst (λ (r : ℕ). contributions_of old r ≡ part) mine (contributions-there old c.rank part part_there))) ∙ given in
+            ap (λ (q : RankContributions). slice_get q.contributions round) now ∙ prefix-of-joined part.contributions (x ∷ []) round (slice_get_within part.contributions round d was) ∙ was)
+            (λ here apart. ap (λ (q : RankContributions). slice_get q.contributions round) (contributions-other old c.rank rank (λ (q : RankContributions). record q { contributions = q.contributions ++ x ∷ [] }) (fixed_by old.members x.args.coll) apart) ∙ given);
         members = λ mask has. fixed-stays old.members x.args.coll mask has;
       };
       joins = λ rank. by-rank {P = length (contributions_of (with_joined old c.rank x) rank).contributions ≡ length (contributions_of old rank).contributions + joins-once (is_join_on rank id (Joined c k args))} c.rank rank
@@ -197,50 +197,50 @@ joined-turned s t c k args id g sound h at =
           (λ here apart. rw (contributions-other old c.rank rank (λ (q : RankContributions). record q { contributions = q.contributions ++ x ∷ [] }) (fixed_by old.members x.args.coll) apart) (omega arith));
     }
 
-step-turned : (s t : State) (e : Event) (id : ℕ) (g : Group) → IsSound s → step s e ≡ Ok t → slice_get s.groups id ≡ Some g → IsTurned t e id g
-step-turned s t (Joined c k args) id g sound h at = joined-turned s t c k args id g sound h at
-step-turned s t (Take origin queue target number outcome) id g sound h at =
-    same-turned s t (Take origin queue target number outcome) id g (ap (λ (x : State). x.groups) (step-take s t origin queue target number outcome h).4.leaves) at (λ rank. refl) (λ rank. refl)
-step-turned s t (Put origin queue target number outcome) id g sound h at =
-    same-turned s t (Put origin queue target number outcome) id g (ap (λ (x : State). x.groups) (step-put s t origin queue target number outcome h).4.leaves) at (λ rank. refl) (λ rank. refl)
-step-turned s t (Called c call reply) id g sound h at = by-group (row_of call).group refl (is_idle reply) refl
+step-rounds : (s t : State) (e : Event) (id : ℕ) (g : Group) → IsSound s → step s e ≡ Ok t → slice_get s.groups id ≡ Some g → HasRoundsAfter t e id g
+step-rounds s t (Joined c k args) id g sound h at = joined-rounds s t c k args id g sound h at
+step-rounds s t (Take origin queue target number outcome) id g sound h at =
+    same-rounds s t (Take origin queue target number outcome) id g (ap (λ (x : State). x.groups) (step-take s t origin queue target number outcome h).4.leaves) at (λ rank. refl) (λ rank. refl)
+step-rounds s t (Put origin queue target number outcome) id g sound h at =
+    same-rounds s t (Put origin queue target number outcome) id g (ap (λ (x : State). x.groups) (step-put s t origin queue target number outcome h).4.leaves) at (λ rank. refl) (λ rank. refl)
+step-rounds s t (Called c call reply) id g sound h at = by-group (row_of call).group refl (is_idle reply) refl
   where
-    by-group : (o : Option ℕ) → (row_of call).group ≡ o → (b : Bool) → is_idle reply ≡ b → IsTurned t (Called c call reply) id g
+    by-group : (o : Option ℕ) → (row_of call).group ≡ o → (b : Bool) → is_idle reply ≡ b → HasRoundsAfter t (Called c call reply) id g
     by-group None plain b idle =
-        same-turned s t (Called c call reply) id g (ap (λ (x : State). x.groups) (step-called s t c call reply plain h).3.leaves) at (λ rank. refl) (λ rank. rw plain (ap (λ (b : Bool). b && not (is_idle reply)) (and-false (c.rank == rank)) ∙ false-and (not (is_idle reply))))
+        same-rounds s t (Called c call reply) id g (ap (λ (x : State). x.groups) (step-called s t c call reply plain h).3.leaves) at (λ rank. refl) (λ rank. rw plain (ap (λ (b : Bool). b && not (is_idle reply)) (and-false (c.rank == rank)) ∙ false-and (not (is_idle reply))))
     by-group (Some k) named true idle =
-        same-turned s t (Called c call reply) id g (ap (λ (x : State). x.groups) (only-counted s t c call reply idle h).after) at (λ rank. refl)
+        same-rounds s t (Called c call reply) id g (ap (λ (x : State). x.groups) (only-counted s t c call reply idle h).after) at (λ rank. refl)
         (λ rank. rw (named, idle) (and-false ((c.rank == rank) && (k == id))))
-    by-group (Some k) named false awake = done-turned s t c k call reply id g named awake sound h at
+    by-group (Some k) named false awake = done-rounds s t c k call reply id g named awake sound h at
 
 pub group-grows : (s t : State) (e : Event) (id : ℕ) (g : Group) → IsSound s → step s e ≡ Ok t → slice_get s.groups id ≡ Some g → (g' : Group) × (slice_get t.groups id ≡ Some g') × Grows g g'
-group-grows s t e id g sound h at = let turned = step-turned s t e id g sound h at in (turned.0, turned.1, turned.2.grows)
+group-grows s t e id g sound h at = let grown = step-rounds s t e id g sound h at in (grown.0, grown.1, grown.2.grows)
 
 -- the same of events one after another
-record TurnedBy (events : List Event) (id : ℕ) (g g' : Group) : Type 0 where
+record RoundsGrowBy (events : List Event) (id : ℕ) (g g' : Group) : Type 0 where
   grows : Grows g g'
   joins : (rank : ℕ) → length (contributions_of g' rank).contributions ≡ length (contributions_of g rank).contributions + joins_on rank id events
   completes : (rank : ℕ) → (contributions_of g' rank).completed ≡ (contributions_of g rank).completed + completions_on rank id events
 
 grows-on : (g g' g'' : Group) → Grows g g' → Grows g' g'' → Grows g g''
-grows-on g g' g'' one two = record { given = λ turn rank c given. two.given turn rank c (one.given turn rank c given); members = λ mask is. two.members mask (one.members mask is) }
+grows-on g g' g'' one two = record { given = λ round rank c given. two.given round rank c (one.given round rank c given); members = λ mask is. two.members mask (one.members mask is) }
 
-all-turned : (s t : State) (events : List Event) (id : ℕ) (g : Group) → IsSound s → after s events ≡ Ok t → slice_get s.groups id ≡ Some g → (g' : Group) × (slice_get t.groups id ≡ Some g') × TurnedBy events id g g'
+all-rounds : (s t : State) (events : List Event) (id : ℕ) (g : Group) → IsSound s → after s events ≡ Ok t → slice_get s.groups id ≡ Some g → (g' : Group) × (slice_get t.groups id ≡ Some g') × RoundsGrowBy events id g g'
 unfolding joins-once
-all-turned s t [] id g sound h at =
+all-rounds s t [] id g sound h at =
     let same : s ≡ t = cc in (
       g,
       subst (λ (x : State). slice_get x.groups id ≡ Some g) same at,
       record {
-        grows = record { given = λ turn rank c given. given; members = λ mask is. is };
+        grows = record { given = λ round rank c given. given; members = λ mask is. is };
         joins = λ rank. (omega arith);
         completes = λ rank. (omega arith);
       },
     )
-all-turned s t (e ∷ events) id g sound h at =
+all-rounds s t (e ∷ events) id g sound h at =
     let first = after-first s t e events h in
-    let one = step-turned s first.0 e id g sound first.1 at in
-    let rest = all-turned first.0 t events id one.0 (steps s first.0 e sound first.1) first.2 one.1 in (
+    let one = step-rounds s first.0 e id g sound first.1 at in
+    let rest = all-rounds first.0 t events id one.0 (steps s first.0 e sound first.1) first.2 one.1 in (
       rest.0,
       rest.1,
       record {
@@ -278,7 +278,7 @@ record Counted (w : ShapeValue) (history : List Event) (s : State) (id : ℕ) : 
 counted : (w : ShapeValue) (history : List Event) (s : State) (id : ℕ) → IsShape w → reached w history ≡ Ok s → id < 8 → Counted w history s id
 counted w history s id world h less =
     let start = opening_group w.limits.ranks id in
-    let all = all-turned (opening w) s history id start (opens w world) h (opening-there w id less) in
+    let all = all-rounds (opening w) s history id start (opens w world) h (opening-there w id less) in
     record {
       group = all.0;
       there = all.1;
@@ -307,12 +307,12 @@ rounds-counted w history s rank id g world h at =
       subst (λ (x : Group). length (contributions_of x rank).contributions ≡ joins_on rank id history) same (count.joins rank),
     )
 
-pub rounds-agree : (w : ShapeValue) (history : List Event) (s : State) (id turn rank other : ℕ) (g : Group) (c d : Contribution) → IsShape w → reached w history ≡ Ok s → slice_get s.groups id ≡ Some g
-    → contribution_in g turn rank ≡ Some c → contribution_in g turn other ≡ Some d → c.args.coll ≡ d.args.coll
-rounds-agree w history s id turn rank other g c d world h at given given' =
-    ((reached-sound w history s world h).collectives.groups id g at).agree turn rank other c d given given'
+pub rounds-agree : (w : ShapeValue) (history : List Event) (s : State) (id round rank other : ℕ) (g : Group) (c d : Contribution) → IsShape w → reached w history ≡ Ok s → slice_get s.groups id ≡ Some g
+    → contribution_in g round rank ≡ Some c → contribution_in g round other ≡ Some d → c.args.coll ≡ d.args.coll
+rounds-agree w history s id round rank other g c d world h at given given' =
+    ((reached-sound w history s world h).collectives.groups id g at).agree round rank other c d given given'
 
--- What a full turn says of each member.
+-- What a full round says of each member.
 and-second : (a b : Bool) → (a && b) ≡ true → b ≡ true
 and-second true b h = h
 and-second false b h = absurd (let no : ⊥ = cc in no)
@@ -446,7 +446,7 @@ folds-alike given given' op t [] alike = refl
 folds-alike given given' op t (m ∷ xs) alike =
     ap (λ (o : Option Contribution). reduced_onto given op t (values_in o) xs) (alike 0 m refl) ∙ fold-alike given given' op t xs (values_in (given' m)) (λ k x at. alike (suc k) x at)
 
--- an item of a full turn
+-- an item of a full round
 full-at : (given : ℕ → Option Contribution) (xs : List ℕ) (k m : ℕ) → list_all (λ n. is_some (given n)) xs ≡ true → slice_get xs k ≡ Some m → (c : Contribution) × (given m ≡ Some c)
 full-at given xs k m full at = go (given m) refl
   where
@@ -454,10 +454,10 @@ full-at given xs k m full at = go (given m) refl
     go (Some c) is = (c, is)
     go None is = absurd (let some = each-passes (λ n. is_some (given n)) xs k m full at in let none : is_some {T = Contribution} None ≡ true = subst (λ (o : Option Contribution). is_some o ≡ true) is some in let no : ⊥ = cc in no)
 
--- Two members that complete the same turn of a group get the same list.
+-- Two members that complete the same round of a group get the same list.
 pub same-fold : (s t u v : State) (between : List Event) (c d : CallerId) (a b : allreduce.Allreduce) (x y : TypedNumbers) (g k : Group) → IsSound s → step s (Called c (calls.Allreduce a) (replies.List x)) ≡ Ok t → after t between ≡ Ok u
     → step u (Called d (calls.Allreduce b) (replies.List y)) ≡ Ok v → a.group ≡ b.group → slice_get s.groups a.group ≡ Some g → slice_get u.groups b.group ≡ Some k → round_of g c.rank ≡ round_of k d.rank → x ≡ y
-same-fold s t u v between c d a b x y g k sound h later h' same_group at at' turns =
+same-fold s t u v between c d a b x y g k sound h later h' same_group at at' rounds =
     let sound_t = steps s t (Called c (calls.Allreduce a) (replies.List x)) sound h in
     let sound_u = after-sound t u between sound_t later in
     let one = done-step s t c a.group (calls.Allreduce a) (replies.List x) refl refl sound h in
@@ -468,13 +468,13 @@ same-fold s t u v between c d a b x y g k sound h later h' same_group at at' tur
     let k_is : fold'.group ≡ k = (let some : ◌≡◌ {A = Option Group} (Some fold'.group) (Some k) = sym fold'.group_there ∙ at' in cc) in
     let g_one : one.1 ≡ g = (let some : ◌≡◌ {A = Option Group} (Some one.1) (Some g) = sym one.5.there.there ∙ at in cc) in
     let full : is_round_full g c.rank ≡ true = subst (λ (z : Group). is_round_full z c.rank ≡ true) g_one one.5.done.full in
-    let first = step-turned s t (Called c (calls.Allreduce a) (replies.List x)) a.group g sound h at in
-    let rest = all-turned t u between a.group first.0 sound_t later first.1 in
+    let first = step-rounds s t (Called c (calls.Allreduce a) (replies.List x)) a.group g sound h at in
+    let rest = all-rounds t u between a.group first.0 sound_t later first.1 in
     let last_is : rest.0 ≡ k = (let some : ◌≡◌ {A = Option Group} (Some rest.0) (Some k) = sym rest.1 ∙ subst (λ (n : ℕ). slice_get u.groups n ≡ Some k) (sym same_group) at' in cc) in
     let grows : Grows g k = subst (λ (z : Group). Grows g z) last_is (grows-on g first.0 rest.0 first.2.grows rest.2.grows) in
     let mine : contribution_in g (round_of g c.rank) c.rank ≡ Some fold.own = subst (λ (z : Group). contribution_in z (round_of z c.rank) c.rank ≡ Some fold.own) g_is fold.given in
     let theirs : contribution_in k (round_of k d.rank) d.rank ≡ Some fold'.own = subst (λ (z : Group). contribution_in z (round_of z d.rank) d.rank ≡ Some fold'.own) k_is fold'.given in
-    let mine' : contribution_in k (round_of k d.rank) c.rank ≡ Some fold.own = subst (λ (n : ℕ). contribution_in k n c.rank ≡ Some fold.own) turns (grows.given (round_of g c.rank) c.rank fold.own mine) in
+    let mine' : contribution_in k (round_of k d.rank) c.rank ≡ Some fold.own = subst (λ (n : ℕ). contribution_in k n c.rank ≡ Some fold.own) rounds (grows.given (round_of g c.rank) c.rank fold.own mine) in
     let colls_same = (sound_u.collectives.groups b.group k at').agree (round_of k d.rank) c.rank d.rank fold.own fold'.own mine' theirs in
     let coll : colls.Allreduce a.op a.values.num_type (length a.values.items) ≡ colls.Allreduce b.op b.values.num_type (length b.values.items) =
     ap (λ (z : Args). z.coll) (sym fold.values) ∙ colls_same ∙ ap (λ (z : Args). z.coll) fold'.values in
@@ -484,7 +484,7 @@ same-fold s t u v between c d a b x y g k sound h later h' same_group at at' tur
     let members : members_in g ≡ members_in k = rw (one_of.fixed, grows.members one_of.mask one_of.fixed) refl in
     let alike = folds-alike (contribution_in g (round_of g c.rank)) (contribution_in k (round_of k d.rank)) a.op a.values.num_type (members_in g) (λ n m here.
     let there = full-at (contribution_in g (round_of g c.rank)) (members_in g) n m full here in
-    there.1 ∙ sym (subst (λ (z : ℕ). contribution_in k z m ≡ Some there.0) turns (grows.given (round_of g c.rank) m there.0 there.1))) in
+    there.1 ∙ sym (subst (λ (z : ℕ). contribution_in k z m ≡ Some there.0) rounds (grows.given (round_of g c.rank) m there.0 there.1))) in
     fold.answers
     ∙ ap (λ (z : Group). round_reduction z c.rank a.op a.values.num_type) g_is
     ∙ ap (λ (items : List ℤ). typed a.values.num_type items) alike

@@ -226,9 +226,9 @@ completion-meets s t posts g part me thread id call reply h p sound hp there don
         subst (λ (z : Handle). is_member z.members me ≡ true) now built.member,
       ))
       (λ old committed told. sound.collectives.committed id g me posts k there.there hp (sym (ap (λ (gs : Handles). handle_at gs id) (told posts g)) ∙ at) stage);
-  made = λ turn c seg size given coll.
+  made = λ round c seg size given coll.
       subst (λ (tables : Tables). WasMadeSo tables seg c.generation size) (sym own)
-      (sound.collectives.made id g me posts there.there hp turn c seg size (sym (contributed-completed g me turn me part there.part_there) ∙ given) coll);
+      (sound.collectives.made id g me posts there.there hp round c seg size (sym (contributed-completed g me round me part there.part_there) ∙ given) coll);
 }
   where
     own : tables_of (completed_posts posts g me id call) ≡ tables_of posts

@@ -93,9 +93,9 @@ collectives-stay s t sound limits same from = record {
       resumable-stays b.0.groups posts.groups rank id p.args b.2.made may (λ h there. b.2.held id h p was may.made there);
   first = λ id g rank c at other given. sound.first id g rank c (there id g at) other given;
   committed = λ id g rank posts h at hp hh stage. let b = from rank posts hp in sound.committed id g rank b.0 h (there id g at) b.1 (b.2.committed id h hh stage) stage;
-  made = λ id g rank posts at hp turn c seg size given coll.
+  made = λ id g rank posts at hp round c seg size given coll.
       let b = from rank posts hp in
-      made-so-stays (tables_of b.0) (tables_of posts) seg c.generation size b.2.succeeds (sound.made id g rank b.0 (there id g at) b.1 turn c seg size given coll);
+      made-so-stays (tables_of b.0) (tables_of posts) seg c.generation size b.2.succeeds (sound.made id g rank b.0 (there id g at) b.1 round c seg size given coll);
 }
   where
     there : (id : ℕ) (g : Group) → slice_get t.groups id ≡ Some g → slice_get s.groups id ≡ Some g
@@ -121,7 +121,7 @@ pub record Meets (s t : State) (me id : ℕ) (posts after : Posts) (g g' : Group
   pub group : IsSoundGroup s.limits.ranks g'
   pub first : (rank : ℕ) (c : Contribution) → (id ≡ 0 → ⊥) → contribution_in g' 0 rank ≡ Some c → (mask : ℕ) × (c.args.coll ≡ Commit mask)
   pub committed : (h : Handle) → handle_at after.groups id ≡ Some h → h.stage ≡ Committed → (g'.members ≡ Some h.members) × (is_member h.members me ≡ true)
-  pub made : (turn : ℕ) (c : Contribution) (seg size : ℕ) → contribution_in g' turn me ≡ Some c → c.args.coll ≡ Create seg size → WasMadeSo (tables_of after) seg c.generation size
+  pub made : (round : ℕ) (c : Contribution) (seg size : ℕ) → contribution_in g' round me ≡ Some c → c.args.coll ≡ Create seg size → WasMadeSo (tables_of after) seg c.generation size
 
 -- an item of a table of which one was set
 pub at-set : {A P : Type 0} (table : List A) (place : ℕ) (old new : A) (k : ℕ) (x : A) → slice_get table place ≡ Some old → slice_get (slice_set table place new) k ≡ Some x
@@ -184,15 +184,15 @@ collectives-meet s t me id posts after g g' sound m = record {
       let kept = sound.committed k x me posts h was m.there old stage in
       (kept.0, subst (λ (r : ℕ). is_member h.members r ≡ true) mine kept.1))
       (λ was was_p. sound.committed k x rank p h was was_p hh stage);
-  made = λ k x rank p at hp turn c seg size given coll.
+  made = λ k x rank p at hp round c seg size given coll.
       of-both k x rank p at hp {P = WasMadeSo (tables_of p) seg c.generation size}
-      (λ same mine is is_p. rw is_p (m.made turn c seg size (subst (λ (r : ℕ). contribution_in g' turn r ≡ Some c) (sym mine) (rw (sym is) given)) coll))
+      (λ same mine is is_p. rw is_p (m.made round c seg size (subst (λ (r : ℕ). contribution_in g' round r ≡ Some c) (sym mine) (rw (sym is) given)) coll))
       (λ same apart is was_p.
-      sound.made id g rank p m.group_there was_p turn c seg size (ap (λ (part : RankContributions). slice_get part.contributions turn) (sym (m.parts rank apart)) ∙ rw (sym is) given) coll)
+      sound.made id g rank p m.group_there was_p round c seg size (ap (λ (part : RankContributions). slice_get part.contributions round) (sym (m.parts rank apart)) ∙ rw (sym is) given) coll)
       (λ apart mine was is_p.
       rw is_p (made-so-stays (tables_of posts) (tables_of after) seg c.generation size m.succeeds
-      (sound.made k x me posts was m.there turn c seg size (subst (λ (r : ℕ). contribution_in x turn r ≡ Some c) (sym mine) given) coll)))
-      (λ was was_p. sound.made k x rank p was was_p turn c seg size given coll);
+      (sound.made k x me posts was m.there round c seg size (subst (λ (r : ℕ). contribution_in x round r ≡ Some c) (sym mine) given) coll)))
+      (λ was was_p. sound.made k x rank p was was_p round c seg size given coll);
 }
   where
     length-kept : (all : List Group) (place : ℕ) (x : Group) → length (slice_set all place x) ≡ length all

@@ -158,23 +158,23 @@ join-brings s posts g part me thread id args h few sound hp there may mine = rec
     group : IsSoundGroup s.limits.ranks g
     group = sound.collectives.groups id g there.there
 
-    turn : round_of g me ≡ length part.contributions
-    turn = ap (λ (q : RankContributions). q.completed) (contributions-there g me part there.part_there) ∙ (let count = mine.count in omega arith)
+    round : round_of g me ≡ length part.contributions
+    round = ap (λ (q : RankContributions). q.completed) (contributions-there g me part there.part_there) ∙ (let count = mine.count in omega arith)
 
     agrees : (rank : ℕ) (d : Contribution) → contribution_in g (length part.contributions) rank ≡ Some d → d.args.coll ≡ args.coll
     agrees rank d given = join-cases {P = d.args.coll ≡ args.coll} posts g me thread id args h may
         (λ coll built.
         let begun = sound.collectives.begun id g me posts there.there hp in
         let none : part.completed ≡ 0 = sym (ap (λ (q : RankContributions). q.completed) (contributions-there g me part there.part_there)) ∙ begun.building h built.built.there built.built.building in
-        let zero_turn : length part.contributions ≡ 0 = (let count = mine.count in omega arith) in
-        let first_given : contribution_in g 0 rank ≡ Some d = subst (λ (k : ℕ). contribution_in g k rank ≡ Some d) zero_turn given in
+        let zero_round : length part.contributions ≡ 0 = (let count = mine.count in omega arith) in
+        let first_given : contribution_in g 0 rank ≡ Some d = subst (λ (k : ℕ). contribution_in g k rank ≡ Some d) zero_round given in
         let first = sound.collectives.first id g rank d there.there (not-all id h built.built) first_given in
         let theirs = group.commits 0 rank d first.0 first_given first.1 in
         let masks : first.0 ≡ h.members = same-mask g.members first.0 h.members theirs built.fixes in
         first.1 ∙ ap (λ (n : ℕ). colls.Commit n) masks ∙ sym coll)
         (λ kind committed.
-        let at_turn : contribution_in g (round_of g me) rank ≡ Some d = subst (λ (k : ℕ). contribution_in g k rank ≡ Some d) (sym turn) given in
-        round-fits s.limits.ranks g me rank args.coll d few (giver-ranked s.limits.ranks g (round_of g me) rank d group at_turn) group committed.fits at_turn)
+        let at_round : contribution_in g (round_of g me) rank ≡ Some d = subst (λ (k : ℕ). contribution_in g k rank ≡ Some d) (sym round) given in
+        round-fits s.limits.ranks g me rank args.coll d few (giver-ranked s.limits.ranks g (round_of g me) rank d group at_round) group committed.fits at_round)
       where
         not-all : (k : ℕ) (x : Handle) → IsBuilt posts.groups me k x → k ≡ 0 → ⊥
         not-all k x built is =
@@ -226,7 +226,7 @@ join-meets s t posts g part me thread id args h few sound hp there may limits po
   group = joined-group s.limits.ranks g me (contribution_of posts args) part there.part_there (join-brings s posts g part me thread id args h few sound hp there may mine) (sound.collectives.groups id g there.there);
   first = λ rank c other given.
       contributed-joined {P = (mask : ℕ) × (c.args.coll ≡ colls.Commit mask)} g me 0 rank (contribution_of posts args) c part there.part_there given
-      (λ same turn is.
+      (λ same round is.
       join-cases {P = (mask : ℕ) × (c.args.coll ≡ colls.Commit mask)} posts g me thread id args h may
       (λ coll built. (h.members, ap (λ (x : Contribution). x.args.coll) is ∙ coll))
       (λ kind committed.
@@ -240,10 +240,10 @@ join-meets s t posts g part me thread id args h few sound hp there may limits po
       let old : handle_at posts.groups id ≡ Some k = sym (ap (λ (gs : Handles). handle_at gs id) (joined-groups posts args.coll)) ∙ at in
       let kept = sound.collectives.committed id g me posts k there.there hp old stage in
       (fixed-stays g.members args.coll k.members kept.0, kept.1);
-  made = λ turn c seg size given coll.
-      contributed-joined {P = WasMadeSo (tables_of (made_posts posts args.coll)) seg c.generation size} g me turn me (contribution_of posts args) c part there.part_there given
+  made = λ round c seg size given coll.
+      contributed-joined {P = WasMadeSo (tables_of (made_posts posts args.coll)) seg c.generation size} g me round me (contribution_of posts args) c part there.part_there given
       (λ same here is. new-made c seg size is coll)
-      (λ was. made-so-stays (tables_of posts) (tables_of (made_posts posts args.coll)) seg c.generation size succeeds (sound.collectives.made id g me posts there.there hp turn c seg size was coll));
+      (λ was. made-so-stays (tables_of posts) (tables_of (made_posts posts args.coll)) seg c.generation size succeeds (sound.collectives.made id g me posts there.there hp round c seg size was coll));
 }
   where
     many32 : length posts.segments.next_generations ≡ 32

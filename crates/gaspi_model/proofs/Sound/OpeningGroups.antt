@@ -30,18 +30,18 @@ opening-contributions ranks k rank = go (slice_get (replicate ranks opening_part
     go None at = rw at refl
     go (Some part) at = rw at (slice_get-replicate ranks opening_part part rank at)
 
-none-contributed : (ranks k turn rank : ℕ) (c : Contribution) → contribution_in (opening_group ranks k) turn rank ≡ Some c → ⊥
-none-contributed ranks k turn rank c given =
-    let none : slice_get {X = Contribution} [] turn ≡ Some c = ap (λ (p : RankContributions). slice_get p.contributions turn) (sym (opening-contributions ranks k rank)) ∙ given in
+none-contributed : (ranks k round rank : ℕ) (c : Contribution) → contribution_in (opening_group ranks k) round rank ≡ Some c → ⊥
+none-contributed ranks k round rank c given =
+    let none : slice_get {X = Contribution} [] round ≡ Some c = ap (λ (p : RankContributions). slice_get p.contributions round) (sym (opening-contributions ranks k rank)) ∙ given in
     (let no : ⊥ = cc in no)
 
 opening-group : (ranks k : ℕ) → IsSoundGroup ranks (opening_group ranks k)
 opening-group ranks k = record {
   parts = length-replicate ranks opening_part;
-  agree = λ turn rank other c d given given'. absurd (none-contributed ranks k turn rank c given);
-  whole = λ turn rank c given. absurd (none-contributed ranks k turn rank c given);
-  members = λ turn rank c given. absurd (none-contributed ranks k turn rank c given);
-  commits = λ turn rank c mask given is. absurd (none-contributed ranks k turn rank c given);
+  agree = λ round rank other c d given given'. absurd (none-contributed ranks k round rank c given);
+  whole = λ round rank c given. absurd (none-contributed ranks k round rank c given);
+  members = λ round rank c given. absurd (none-contributed ranks k round rank c given);
+  commits = λ round rank c mask given is. absurd (none-contributed ranks k round rank c given);
 }
 
 none-pending : (id : ℕ) → item_at (replicate {A = Option PendingCollective} 8 None) id ≡ None
@@ -92,8 +92,8 @@ opens-collectives w = record {
         ap (λ (x : Group). x.members) is ∙ ap (λ (n : ℕ). if n == 0 then Some (all_below w.limits.ranks) else None) zero_is ∙ ap (λ (x : Handle). Some x.members) (sym all),
         subst (λ (x : Handle). is_member x.members rank ≡ true) (sym all) (ap (λ (n : ℕ). n == 1) (bit_at_ones w.limits.ranks rank (omega arith))),
       );
-  made = λ id g rank posts at hp turn c seg size given coll.
-      absurd (none-contributed w.limits.ranks id turn rank c (ap (λ (x : Group). contribution_in x turn rank) (sym (group-is id g at)) ∙ given));
+  made = λ id g rank posts at hp round c seg size given coll.
+      absurd (none-contributed w.limits.ranks id round rank c (ap (λ (x : Group). contribution_in x round rank) (sym (group-is id g at)) ∙ given));
 }
   where
     group-is : (id : ℕ) (g : Group) → slice_get (opening w).groups id ≡ Some g → g ≡ opening_group w.limits.ranks id

@@ -47,7 +47,7 @@ in-range from zero k less = absurd (omega arith)
 in-range from (suc count) zero less = ap (λ (n : ℕ). Some n) (let same : from ≡ from + 0 = omega arith in same)
 in-range from (suc count) (suc k) less = in-range (from + 1) count k (omega arith) ∙ ap (λ (n : ℕ). Some n) (let same : from + 1 + k ≡ from + suc k = omega arith in same)
 
--- what is given to a turn fits a collective that the turn was checked for
+-- what is given to a round fits a collective that the round was checked for
 pub round-fits : (ranks : ℕ) (g : Group) (me rank : ℕ) (coll : Coll) (d : Contribution) → ranks ≤ 16 → rank < ranks → IsSoundGroup ranks g → round_checks g me coll ≡ Ok tt → contribution_in g (round_of g me) rank ≡ Some d
     → d.args.coll ≡ coll
 round-fits ranks g me rank coll d few less sound checks gives =
@@ -59,28 +59,28 @@ round-fits ranks g me rank coll d few less sound checks gives =
     sound.agree (round_of g me) rank found.1 d found.0 gives found.3 ∙ same_coll-same found.0.args.coll coll same
 
 -- who has given is a rank
-pub giver-ranked : (ranks : ℕ) (g : Group) (turn rank : ℕ) (c : Contribution) → IsSoundGroup ranks g → contribution_in g turn rank ≡ Some c → rank < ranks
-giver-ranked ranks g turn rank c sound gives = go (slice_get g.contributions rank) refl
+pub giver-ranked : (ranks : ℕ) (g : Group) (round rank : ℕ) (c : Contribution) → IsSoundGroup ranks g → contribution_in g round rank ≡ Some c → rank < ranks
+giver-ranked ranks g round rank c sound gives = go (slice_get g.contributions rank) refl
   where
     go : (o : Option RankContributions) → slice_get g.contributions rank ≡ o → rank < ranks
     go None at = absurd (let none : ◌≡◌ {A = Option Contribution} None (Some c) = rw at at gives in let no : ⊥ = cc in no)
     go (Some part) at = (let within = slice_get_within g.contributions rank part at in let parts = sound.parts in omega arith)
 
 -- A completion leaves what is given.
-pub contributed-completed : (g : Group) (me turn rank : ℕ) (part : RankContributions) → slice_get g.contributions me ≡ Some part → contribution_in (with_completed g me) turn rank ≡ contribution_in g turn rank
-contributed-completed g me turn rank part at = same-or-not me rank
+pub contributed-completed : (g : Group) (me round rank : ℕ) (part : RankContributions) → slice_get g.contributions me ≡ Some part → contribution_in (with_completed g me) round rank ≡ contribution_in g round rank
+contributed-completed g me round rank part at = same-or-not me rank
     (λ same.
-    subst (λ (r : ℕ). contribution_in (with_completed g me) turn r ≡ contribution_in g turn r) same
-    (ap (λ (p : RankContributions). slice_get p.contributions turn) (contributions-changed g me part (λ (p : RankContributions). record p { completed = p.completed + 1 }) g.members at ∙ ap (λ (p : RankContributions). record p { completed = p.completed + 1 }) (sym (contributions-there g me part at)))))
-    (λ apart. ap (λ (p : RankContributions). slice_get p.contributions turn) (contributions-other g me rank (λ (p : RankContributions). record p { completed = p.completed + 1 }) g.members apart))
+    subst (λ (r : ℕ). contribution_in (with_completed g me) round r ≡ contribution_in g round r) same
+    (ap (λ (p : RankContributions). slice_get p.contributions round) (contributions-changed g me part (λ (p : RankContributions). record p { completed = p.completed + 1 }) g.members at ∙ ap (λ (p : RankContributions). record p { completed = p.completed + 1 }) (sym (contributions-there g me part at)))))
+    (λ apart. ap (λ (p : RankContributions). slice_get p.contributions round) (contributions-other g me rank (λ (p : RankContributions). record p { completed = p.completed + 1 }) g.members apart))
 
 pub completed-group : (ranks : ℕ) (g : Group) (me : ℕ) (part : RankContributions) → slice_get g.contributions me ≡ Some part → IsSoundGroup ranks g → IsSoundGroup ranks (with_completed g me)
 completed-group ranks g me part at sound = record {
   parts = length-changed_at g.contributions me (λ (p : RankContributions). record p { completed = p.completed + 1 }) ∙ sound.parts;
-  agree = λ turn rank other c d gives gives'. sound.agree turn rank other c d (sym (contributed-completed g me turn rank part at) ∙ gives) (sym (contributed-completed g me turn other part at) ∙ gives');
-  whole = λ turn rank c gives. sound.whole turn rank c (sym (contributed-completed g me turn rank part at) ∙ gives);
-  members = λ turn rank c gives. sound.members turn rank c (sym (contributed-completed g me turn rank part at) ∙ gives);
-  commits = λ turn rank c mask gives is. sound.commits turn rank c mask (sym (contributed-completed g me turn rank part at) ∙ gives) is;
+  agree = λ round rank other c d gives gives'. sound.agree round rank other c d (sym (contributed-completed g me round rank part at) ∙ gives) (sym (contributed-completed g me round other part at) ∙ gives');
+  whole = λ round rank c gives. sound.whole round rank c (sym (contributed-completed g me round rank part at) ∙ gives);
+  members = λ round rank c gives. sound.members round rank c (sym (contributed-completed g me round rank part at) ∙ gives);
+  commits = λ round rank c mask gives is. sound.commits round rank c mask (sym (contributed-completed g me round rank part at) ∙ gives) is;
 }
 
 pub completed-contributions : (events events' : ℕ) (p : PendingCollective) (part : RankContributions) → events' ≡ events + 1 → AreSoundContributions events (Some p) part → AreSoundContributions events' None (record part { completed = part.completed + 1 })
@@ -90,31 +90,31 @@ completed-contributions events events' p part more sound = record {
   few = (let few = sound.few in omega arith);
 }
 
--- A join gives one contribution more, to the turn of its rank.
+-- A join gives one contribution more, to the round of its rank.
 abbrev joining : Contribution → RankContributions → RankContributions
 joining c p = record p { contributions = p.contributions ++ c ∷ [] }
 
 -- what is given after a join is that, or was given before
-pub contributed-joined : {P : Type 0} (g : Group) (me turn rank : ℕ) (c d : Contribution) (part : RankContributions) → slice_get g.contributions me ≡ Some part → contribution_in (with_joined g me c) turn rank ≡ Some d
-    → (me ≡ rank → turn ≡ length part.contributions → d ≡ c → P) → (contribution_in g turn rank ≡ Some d → P) → P
-contributed-joined {P} g me turn rank c d part at gives new old = same-or-not me rank
+pub contributed-joined : {P : Type 0} (g : Group) (me round rank : ℕ) (c d : Contribution) (part : RankContributions) → slice_get g.contributions me ≡ Some part → contribution_in (with_joined g me c) round rank ≡ Some d
+    → (me ≡ rank → round ≡ length part.contributions → d ≡ c → P) → (contribution_in g round rank ≡ Some d → P) → P
+contributed-joined {P} g me round rank c d part at gives new old = same-or-not me rank
     (λ same.
-    let mine : contribution_in (with_joined g me c) turn me ≡ Some d = subst (λ (r : ℕ). contribution_in (with_joined g me c) turn r ≡ Some d) (sym same) gives in
-    let now : slice_get (part.contributions ++ c ∷ []) turn ≡ Some d =
-    sym (ap (λ (p : RankContributions). slice_get p.contributions turn) (contributions-changed g me part (joining c) (fixed_by g.members c.args.coll) at)) ∙ mine in
-    by-place (nat_lt turn (length part.contributions)) refl same now)
-    (λ apart. old (sym (ap (λ (p : RankContributions). slice_get p.contributions turn) (contributions-other g me rank (joining c) (fixed_by g.members c.args.coll) apart)) ∙ gives))
+    let mine : contribution_in (with_joined g me c) round me ≡ Some d = subst (λ (r : ℕ). contribution_in (with_joined g me c) round r ≡ Some d) (sym same) gives in
+    let now : slice_get (part.contributions ++ c ∷ []) round ≡ Some d =
+    sym (ap (λ (p : RankContributions). slice_get p.contributions round) (contributions-changed g me part (joining c) (fixed_by g.members c.args.coll) at)) ∙ mine in
+    by-place (nat_lt round (length part.contributions)) refl same now)
+    (λ apart. old (sym (ap (λ (p : RankContributions). slice_get p.contributions round) (contributions-other g me rank (joining c) (fixed_by g.members c.args.coll) apart)) ∙ gives))
   where
-    by-place : (b : Bool) → nat_lt turn (length part.contributions) ≡ b → me ≡ rank → slice_get (part.contributions ++ c ∷ []) turn ≡ Some d → P
+    by-place : (b : Bool) → nat_lt round (length part.contributions) ≡ b → me ≡ rank → slice_get (part.contributions ++ c ∷ []) round ≡ Some d → P
     by-place true is same now =
-        let was : slice_get part.contributions turn ≡ Some d = sym (prefix-of-joined part.contributions (c ∷ []) turn (ltb-true turn (length part.contributions) is)) ∙ now in
-        old (subst (λ (r : ℕ). contribution_in g turn r ≡ Some d) same (ap (λ (p : RankContributions). slice_get p.contributions turn) (contributions-there g me part at) ∙ was))
+        let was : slice_get part.contributions round ≡ Some d = sym (prefix-of-joined part.contributions (c ∷ []) round (ltb-true round (length part.contributions) is)) ∙ now in
+        old (subst (λ (r : ℕ). contribution_in g round r ≡ Some d) same (ap (λ (p : RankContributions). slice_get p.contributions round) (contributions-there g me part at) ∙ was))
     by-place false is same now =
-        let within = slice_get_within (part.contributions ++ c ∷ []) turn d now in
+        let within = slice_get_within (part.contributions ++ c ∷ []) round d now in
         let many = length-joined part.contributions c in
-        let less = not-less turn (length part.contributions) is in
-        let last : turn ≡ length part.contributions = omega arith in
-        let is_c : slice_get (part.contributions ++ c ∷ []) turn ≡ Some c = behind-of-joined part.contributions (c ∷ []) 0 turn (omega arith) in
+        let less = not-less round (length part.contributions) is in
+        let last : round ≡ length part.contributions = omega arith in
+        let is_c : slice_get (part.contributions ++ c ∷ []) round ≡ Some c = behind-of-joined part.contributions (c ∷ []) 0 round (omega arith) in
         new same last (let some : ◌≡◌ {A = Option Contribution} (Some d) (Some c) = sym now ∙ is_c in cc)
       where
         length-joined : (xs : List Contribution) (y : Contribution) → length (xs ++ y ∷ []) ≡ length xs + 1
@@ -140,7 +140,7 @@ contributed-joined {P} g me turn rank c d part at gives new old = same-or-not me
                 by (inr r) = r
                 by (inl l) = absurd (let yes = lt-ltb a b l in let never : true ≡ false = sym yes ∙ h in let no : ⊥ = cc in no)
 
--- what a join may bring to a group: it agrees with what is given to its turn, its rank is a member, and a commit has the members that are fixed then
+-- what a join may bring to a group: it agrees with what is given to its round, its rank is a member, and a commit has the members that are fixed then
 pub record Brings (g : Group) (me : ℕ) (part : RankContributions) (c : Contribution) : Type 0 where
   pub agrees : (rank : ℕ) (d : Contribution) → contribution_in g (length part.contributions) rank ≡ Some d → d.args.coll ≡ c.args.coll
   pub whole : HaveOwnValues c.args
@@ -154,26 +154,26 @@ fixed-stays (Some kept) coll mask h = h
 pub joined-group : (ranks : ℕ) (g : Group) (me : ℕ) (c : Contribution) (part : RankContributions) → slice_get g.contributions me ≡ Some part → Brings g me part c → IsSoundGroup ranks g → IsSoundGroup ranks (with_joined g me c)
 joined-group ranks g me c part at brings sound = record {
   parts = length-changed_at g.contributions me (joining c) ∙ sound.parts;
-  agree = λ turn rank other x y gives gives'.
-      contributed-joined {P = x.args.coll ≡ y.args.coll} g me turn rank c x part at gives
+  agree = λ round rank other x y gives gives'.
+      contributed-joined {P = x.args.coll ≡ y.args.coll} g me round rank c x part at gives
       (λ mine here is.
-      contributed-joined {P = x.args.coll ≡ y.args.coll} g me turn other c y part at gives'
+      contributed-joined {P = x.args.coll ≡ y.args.coll} g me round other c y part at gives'
       (λ mine' here' is'. rw (is, is') refl)
       (λ was'. rw is (sym (brings.agrees other y (subst (λ (k : ℕ). contribution_in g k other ≡ Some y) here was')))))
       (λ was.
-      contributed-joined {P = x.args.coll ≡ y.args.coll} g me turn other c y part at gives'
+      contributed-joined {P = x.args.coll ≡ y.args.coll} g me round other c y part at gives'
       (λ mine' here' is'. rw is' (brings.agrees rank x (subst (λ (k : ℕ). contribution_in g k rank ≡ Some x) here' was)))
-      (λ was'. sound.agree turn rank other x y was was'));
-  whole = λ turn rank x gives.
-      contributed-joined {P = HaveOwnValues x.args} g me turn rank c x part at gives (λ mine here is. rw is brings.whole) (λ was. sound.whole turn rank x was);
-  members = λ turn rank x gives.
-      contributed-joined {P = IsOneOf (fixed_by g.members c.args.coll) rank} g me turn rank c x part at gives
+      (λ was'. sound.agree round rank other x y was was'));
+  whole = λ round rank x gives.
+      contributed-joined {P = HaveOwnValues x.args} g me round rank c x part at gives (λ mine here is. rw is brings.whole) (λ was. sound.whole round rank x was);
+  members = λ round rank x gives.
+      contributed-joined {P = IsOneOf (fixed_by g.members c.args.coll) rank} g me round rank c x part at gives
       (λ mine here is. subst (λ (r : ℕ). IsOneOf (fixed_by g.members c.args.coll) r) mine brings.member)
-      (λ was. kept rank (sound.members turn rank x was));
-  commits = λ turn rank x mask gives is_commit.
-      contributed-joined {P = fixed_by g.members c.args.coll ≡ Some mask} g me turn rank c x part at gives
+      (λ was. kept rank (sound.members round rank x was));
+  commits = λ round rank x mask gives is_commit.
+      contributed-joined {P = fixed_by g.members c.args.coll ≡ Some mask} g me round rank c x part at gives
       (λ mine here is. brings.commits mask (sym (ap (λ (y : Contribution). y.args.coll) is) ∙ is_commit))
-      (λ was. fixed-stays g.members c.args.coll mask (sound.commits turn rank x mask was is_commit));
+      (λ was. fixed-stays g.members c.args.coll mask (sound.commits round rank x mask was is_commit));
 }
   where
     kept : (rank : ℕ) → IsOneOf g.members rank → IsOneOf (fixed_by g.members c.args.coll) rank

@@ -30,8 +30,8 @@ returns-clause-not_ready c = unready-waits
 pub returns-clause-timed_out : goal.returns-clause-timed_out
 returns-clause-timed_out c = timeout-waits
 
-pub returns-clause-turns : goal.returns-clause-turns
-returns-clause-turns c = rounds-counted
+pub returns-clause-rounds : goal.returns-clause-rounds
+returns-clause-rounds c = rounds-counted
 
 pub returns-clause-answers : goal.returns-clause-answers
 returns-clause-answers c = done-answers

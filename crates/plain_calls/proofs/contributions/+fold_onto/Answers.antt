@@ -7,7 +7,7 @@ pub fold_onto-requires : goal.fold_onto-requires
 fold_onto-requires t c = (
   search rules,
   (
-    full-others (contribution_in c.args.group.now c.args.turn) c.args.members.now c.requires.full,
+    full-others (contribution_in c.args.group.now c.args.round) c.args.members.now c.requires.full,
     (
       λ rank given there. ((c.requires.alike rank given there).0, (let alike = (c.requires.alike rank given there).1 in let same = c.reduce_given.auto.total in omega (arith, alike, same))),
       c.reduce_given.ensures.range,

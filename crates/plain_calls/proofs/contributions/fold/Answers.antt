@@ -8,5 +8,5 @@ fold_onto-requires-clause-alike c =
     let items = c.as_mut_slice-items.ensures.value ∙ c.in_ok-total-in-len1-up.ensures.items ∙ c.values_in.ensures.values in
     let count =
     ap (λ (values : List ℤ). length values) items
-    ∙ count-first (contribution_in c.args.group.now c.args.turn) c.args.num_type c.requires.alike.0 c.first-item.result c.args.members.now c.in-len1-up.len_at_least c.first-item.is c.requires.full c.requires.alike.1 in
+    ∙ count-first (contribution_in c.args.group.now c.args.round) c.args.num_type c.requires.alike.0 c.first-item.result c.args.members.now c.in-len1-up.len_at_least c.first-item.is c.requires.full c.requires.alike.1 in
     λ rank given there. let alike = c.requires.alike.1 rank given there in (alike.0, alike.1 ∙ sym count)
