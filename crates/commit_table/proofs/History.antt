@@ -20,7 +20,7 @@ use Rattle.commit_table.specs.Views.{held_at, mine_after, after_look, after_comm
 use Rattle.commit_table.specs.Rule.{Held, IsShard, AccountsForParty, IsParty, ViewFits, Rule}
 use Rattle.commit_table.specs.Steps.{SeesHistory, AddsEvent, looks, commits}
 use Rattle.commit_table.proofs.Lists.{prefix_self, prefix_none, prefix_trans, prefix_more, prefix_length, at_here, one_there, events_by-append, held_among, held_apart}
-use Rattle.commit_table.proofs.LockHistories.{turned_kept}
+use Rattle.commit_table.proofs.LockHistories.{locks_kept}
 use Rattle.commit_table.proofs.Moves.{with_view, still}
 use Rattle.commit_table.proofs.Holding.{rest_fits, told, own_shard}
 
@@ -60,7 +60,7 @@ module _ {S X E : Type 0} (of : S → Machine X E) (laws : (s : S) → Laws (of 
         w,
         keeps,
         tt,
-        still (of start) start n s r id (with_kept_history v heard) w at 0 refl refl (λ _. refl) (λ q a. a) fits (λ q its. its) (λ q a. a) (r.turned.met id (with_kept_history v heard) at),
+        still (of start) start n s r id (with_kept_history v heard) w at 0 refl refl (λ _. refl) (λ q a. a) fits (λ q its. its) (λ q a. a) (r.locks.met id (with_kept_history v heard) at),
         (
           h,
           refl,
@@ -227,7 +227,7 @@ module _ {S X E : Type 0} (of : S → Machine X E) (laws : (s : S) → Laws (of 
             (λ t. subst (λ (z : ℕ). ViewFits m start n h' r.holder r.seat z u) (sym t.0) (subst (λ (z : SeatView S E). ViewFits m start n h' r.holder r.seat id z) t.1 fits))
             (λ t. fits_added h e r.holder r.seat id k p u t.0 own.0 own.1 by (r.views k u t.1))
             (at_set s.views id k w u there);
-        turned = turned_kept m.shards s.views r.lock_history r.holder r.holder r.seat id (at_rest v) w at (λ j lt. refl) (λ j lt its q a. a) (λ q a. a) (r.turned.met id (at_rest v) at) r.turned;
+        locks = locks_kept m.shards s.views r.lock_history r.holder r.holder r.seat id (at_rest v) w at (λ j lt. refl) (λ j lt its q a. a) (λ q a. a) (r.locks.met id (at_rest v) at) r.locks;
       } in (
         w,
         keeps,

@@ -20,7 +20,7 @@ use Rattle.commit_table.specs.Rule.{Free, Held, IsShard, ViewFits, Rule}
 use Rattle.commit_table.specs.Calls.{word_of, slot_of, HasSoundView, MissWitness}
 use Rattle.commit_table.specs.Steps.{Of, TakesShard, FetchesSlot, takes, returns_slot, fetches_slot, frees_word}
 use Rattle.commit_table.proofs.Lists.{prefix_self, at_here, one_there, held_here, held_else}
-use Rattle.commit_table.proofs.LockHistories.{own_lock_records, lock_record_made, lock_record_missed, turned_kept}
+use Rattle.commit_table.proofs.LockHistories.{own_lock_records, lock_record_made, lock_record_missed, locks_kept}
 use Rattle.commit_table.proofs.Moves.{with_view, still_with, moved, updated, updated_here, updated_else}
 
 module _ {S X E : Type 0} (of : S → Machine X E) (laws : (s : S) → Laws (of s)) (start : S) (n : ℕ) where
@@ -107,27 +107,27 @@ module _ {S X E : Type 0} (of : S → Machine X E) (laws : (s : S) → Laws (of 
   -- the party that holds a shard, for the view that holds it
   own_taker : (s : St) (r : R s) (id : ℕ) (v : SeatView S E) → get_elem? s.views id ≡ some v → (i : ℕ) → i < m.shards → r.holder i ≡ Some id → (p : ℕ) × (v.known.party ≡ Some p)
   own_taker s r id v at i lt mine =
-      let t : HolderAgrees s.views r.lock_history i (Some id) = subst (λ o. HolderAgrees s.views r.lock_history i o) mine (r.turned.holders i lt) in
+      let t : HolderAgrees s.views r.lock_history i (Some id) = subst (λ o. HolderAgrees s.views r.lock_history i o) mine (r.locks.holders i lt) in
       let be : v ≡ t.0 = one_there s.views id v t.0 at t.2 in
       (t.1, subst (λ (z : SeatView S E). z.known.party ≡ Some t.1) (sym be) t.3)
 
   -- a shard whose word is not 0 is held by a pass
-  taker_of : (s : St) (turns : List LockRecord) (h : List E) (i : ℕ) (o : Option ℕ) → IsShard m start n s h i o → HolderAgrees s.views turns i o → get_or s.words (word_of i) 0 ≢ 0 → (k : ℕ) × (o ≡ Some k) × HolderAgrees s.views turns i (Some k)
-  taker_of s turns h i None f t z = absurd (z f.word)
-  taker_of s turns h i (Some k) f t z = (k, refl, t)
+  taker_of : (s : St) (records : List LockRecord) (h : List E) (i : ℕ) (o : Option ℕ) → IsShard m start n s h i o → HolderAgrees s.views records i o → get_or s.words (word_of i) 0 ≢ 0 → (k : ℕ) × (o ≡ Some k) × HolderAgrees s.views records i (Some k)
+  taker_of s records h i None f t z = absurd (z f.word)
+  taker_of s records h i (Some k) f t z = (k, refl, t)
 
   -- another pass holds a shard that was missed
   lock_history_other : (s : St) (r : R s) (id i p : ℕ) (v : K) → get_elem? s.views id ≡ some (at_rest v) → i < m.shards → v.party ≡ Some p → held_at v.held i ≡ None → get_or s.words (word_of i) 0 ≢ 0 → MissWitness v i (record { shard = i; party = p; op = lock_op.Missed } ∷ r.lock_history)
   lock_history_other s r id i p v at lt party free miss =
       let f = r.views id (at_rest v) at in
-      let t = taker_of s r.lock_history r.history i (r.holder i) (r.shards i lt) (r.turned.holders i lt) miss in
+      let t = taker_of s r.lock_history r.history i (r.holder i) (r.shards i lt) (r.locks.holders i lt) miss in
       let other = t.2 in
       record {
         has_party = (p, party);
         before = r.lock_history;
         first = λ q its. let same : p ≡ q = cc in ap (λ (z : ℕ). let t : LockRecord = record { shard = i; party = z; op = lock_op.Missed } in t ∷ r.lock_history) same;
-        goes_on = r.turned.met id (at_rest v) at;
-        own = λ q its. own_lock_records s.views r.lock_history q id (at_rest v) at refl refl (r.seat q) (f.party q its).1 (r.turned.parties q);
+        goes_on = r.locks.met id (at_rest v) at;
+        own = λ q its. own_lock_records s.views r.lock_history q id (at_rest v) at refl refl (r.seat q) (f.party q its).1 (r.locks.parties q);
         other = other.1;
         holds = other.4;
         apart = λ its.
@@ -178,19 +178,19 @@ module _ {S X E : Type 0} (of : S → Machine X E) (laws : (s : S) → Laws (of 
         is.1.slot,
         moved m start n s r id (at_rest v) w at i 1 (set s.homes (slot_of i) none) (Some id) (inl is.0)
             (λ j ne. set_else s.homes (slot_of i) (slot_of j) none (λ e. ne (omega arith))) (λ j ne. held_else v.held i j (Some h) ne) (λ j ne e. absurd cc) (λ e. e) (λ q a. a) here fits
-            (record { shard = i; party = p; op = lock_op.Took } ∷ r.lock_history) (lock_record_made m.shards s.views r.lock_history r.holder r.seat i p id (at_rest v) w true at party party refl refl refl refl (f.party p party).1 r.turned),
+            (record { shard = i; party = p; op = lock_op.Took } ∷ r.lock_history) (lock_record_made m.shards s.views r.lock_history r.holder r.seat i p id (at_rest v) w true at party party refl refl refl refl (f.party p party).1 r.locks),
         λ j e. same_takes i j x v (w, (slot_of i, Some is.1.value) ∷ []) (known, inl (hit, (is.1.value, h, refl, f.seen, told s r id (at_rest v) at (λ z. z.Legal h × z.Stands i is.1.value h) (r.legal, is.1.stands)))) e,
       ))
       (λ miss.
-      let turns : List LockRecord = record { shard = i; party = p; op = lock_op.Missed } ∷ r.lock_history in
-      let w = at_rest (after_miss v i turns) in
-      let fits = rest_fits h r.holder r.seat id (after_miss v i turns) None [] f.begun f.seen f.note_history f.looks f.own_seen f.party f.held f.none in (
+      let records : List LockRecord = record { shard = i; party = p; op = lock_op.Missed } ∷ r.lock_history in
+      let w = at_rest (after_miss v i records) in
+      let fits = rest_fits h r.holder r.seat id (after_miss v i records) None [] f.begun f.seen f.note_history f.looks f.own_seen f.party f.held f.none in (
         w,
         keeps,
         tt,
-        still_with m start n s r id (at_rest v) w at (word_of i) refl refl (λ e. e) (λ q a. a) fits turns
-            (lock_record_missed m.shards s.views r.lock_history r.holder r.seat i p id (at_rest v) w at party party refl refl refl refl (f.party p party).1 r.turned),
-        λ j e. same_takes i j x v (w, []) (known, inr (held_word s h i (r.holder i) (r.shards i lt) miss, (turns, refl, lock_history_other s r id i p v at lt party free miss))) e,
+        still_with m start n s r id (at_rest v) w at (word_of i) refl refl (λ e. e) (λ q a. a) fits records
+            (lock_record_missed m.shards s.views r.lock_history r.holder r.seat i p id (at_rest v) w at party party refl refl refl refl (f.party p party).1 r.locks),
+        λ j e. same_takes i j x v (w, []) (known, inr (held_word s h i (r.holder i) (r.shards i lt) miss, (records, refl, lock_history_other s r id i p v at lt party free miss))) e,
       ))
 
   park_rest : (slots id i : ℕ) (v : K) (y : Option X) (g : List E) → slots ≡ slot_of m.shards → held_at v.held i ≡ Some g
@@ -220,7 +220,7 @@ module _ {S X E : Type 0} (of : S → Machine X E) (laws : (s : S) → Laws (of 
         tt,
         moved m start n s r id (with_slot_out v i) w at i x (set s.homes (slot_of i) (some y)) (Some id) (inr own.1)
             (λ j ne. set_else s.homes (slot_of i) (slot_of j) (some y) (λ e. ne (omega arith))) (λ j ne. refl) (λ j ne e. absurd (ne (cc))) (λ e. e) (λ q a. a) here fits
-            r.lock_history (turned_kept m.shards s.views r.lock_history r.holder (updated m start n r.holder i (Some id)) r.seat id (with_slot_out v i) w at (held_still s r id i own.1) (λ j lt e q its. its) (λ q a. a) (r.turned.met id (with_slot_out v i) at) r.turned),
+            r.lock_history (locks_kept m.shards s.views r.lock_history r.holder (updated m start n r.holder i (Some id)) r.seat id (with_slot_out v i) w at (held_still s r id i own.1) (λ j lt e q its. its) (λ q a. a) (r.locks.met id (with_slot_out v i) at) r.locks),
         refl,
       )
 
@@ -255,7 +255,7 @@ module _ {S X E : Type 0} (of : S → Machine X E) (laws : (s : S) → Laws (of 
         home.1,
         moved m start n s r id (at_rest v) w at i x (set s.homes (slot_of i) none) (Some id) (inr own.1)
             (λ j ne. set_else s.homes (slot_of i) (slot_of j) none (λ e. ne (omega arith))) (λ j ne. refl) (λ j ne e. absurd cc) (λ e. e) (λ q a. a) here fits
-            r.lock_history (turned_kept m.shards s.views r.lock_history r.holder (updated m start n r.holder i (Some id)) r.seat id (at_rest v) w at (held_still s r id i own.1) (λ j lt e q its. its) (λ q a. a) (r.turned.met id (at_rest v) at) r.turned),
+            r.lock_history (locks_kept m.shards s.views r.lock_history r.holder (updated m start n r.holder i (Some id)) r.seat id (at_rest v) w at (held_still s r id i own.1) (λ j lt e q its. its) (λ q a. a) (r.locks.met id (at_rest v) at) r.locks),
         λ j e. subst (λ z. FetchesSlot of z v (w, (slot_of i, home.0) ∷ [])) (let q : i ≡ j = omega arith in q) (home.0, refl),
       )
 
@@ -286,7 +286,7 @@ module _ {S X E : Type 0} (of : S → Machine X E) (laws : (s : S) → Laws (of 
         tt,
         moved m start n s r id (with_slot_out v i) w at i 0 (set s.homes (slot_of i) (some (Some x))) None (inr own.1)
             (λ j ne. set_else s.homes (slot_of i) (slot_of j) (some (Some x)) (λ e. ne (omega arith))) (λ j ne. held_else v.held i j None ne) (λ j ne e. absurd (ne (cc))) (λ e. e) (λ q a. a) here fits
-            (record { shard = i; party = taker.0; op = lock_op.GaveBack } ∷ r.lock_history) (lock_record_made m.shards s.views r.lock_history r.holder r.seat i taker.0 id (with_slot_out v i) w false at taker.1 taker.1 refl refl refl refl (f.party taker.0 taker.1).1 r.turned),
+            (record { shard = i; party = taker.0; op = lock_op.GaveBack } ∷ r.lock_history) (lock_record_made m.shards s.views r.lock_history r.holder r.seat i taker.0 id (with_slot_out v i) w false at taker.1 taker.1 refl refl refl refl (f.party taker.0 taker.1).1 r.locks),
         λ j e. let P : ℕ → Type 0 = λ z. ◌≡◌ {A = Mine} (w, []) (at_rest (after_give_back v z), []) in subst P (let q : i ≡ j = omega arith in q) refl,
       )
 

@@ -22,7 +22,7 @@ use Rattle.commit_table.specs.Calls.{word_of, slot_of, spread, AreShards, Closed
 use Rattle.commit_table.specs.Steps.{EndsTable, opens_closer, looks_last}
 use Rattle.commit_table.proofs.Lists.{prefix_self, prefix_none, prefix_trans, prefix_length, events_between, at_here, one_there, at_end, found_there, get_some, some_get, spread_at, map_more}
 use Rattle.commit_table.specs.LockHistory.{lock_records_by, Extends, AreLockRecords}
-use Rattle.commit_table.proofs.LockHistories.{none_before, own_lock_records, unmade_lock_records, holders_kept, holders_grown, lock_records_kept, lock_records_grown, turned_kept, turned_grown}
+use Rattle.commit_table.proofs.LockHistories.{none_before, own_lock_records, unmade_lock_records, holders_kept, holders_grown, lock_records_kept, lock_records_grown, locks_kept, locks_grown}
 use Rattle.commit_table.proofs.Seen.{longer_begins, first_begins, second_begins, shorter_begins, first_whole, second_whole}
 use Rattle.commit_table.proofs.Moves.{with_view, shard_kept, party_kept, whole_kept, still, updated, updated_here, updated_else}
 use Rattle.commit_table.proofs.Holding.{rest_fits}
@@ -71,7 +71,7 @@ module _ {S X E : Type 0} (of : S → Machine X E) (laws : (s : S) → Laws (of 
     views = λ k w there. ⊎_elim (λ t. r.views k w t)
         (λ t. subst (λ (z : ℕ). ViewFits M start n r.history r.holder r.seat z w) (sym t.0) (subst (λ (z : V). ViewFits M start n r.history r.holder r.seat (length s.views) z) t.1 fits))
         (at_end s.views u w k there);
-    turned = turned_grown M.shards s.views r.lock_history r.holder r.seat u bare r.turned;
+    locks = locks_grown M.shards s.views r.lock_history r.holder r.seat u bare r.locks;
   }
 
   bare_fits : (h : List E) (holder seat : ℕ → Option ℕ) (id : ℕ) (v : PassView S E) (out : Option ℕ) (heard : List E)
@@ -194,16 +194,16 @@ module _ {S X E : Type 0} (of : S → Machine X E) (laws : (s : S) → Laws (of 
             (at_set s.views id j left u t))
             (λ t. subst (λ (i : ℕ). ViewFits M start n h r.holder seat' i u) (sym t.0) (subst (λ (i : V). ViewFits M start n h r.holder seat' new i) t.1 own))
             (at_end (set s.views id left) right u j there);
-        turned = record {
-          holders = λ i below. holders_grown (set s.views id left) r.lock_history i right (r.holder i) (holders_kept s.views r.lock_history i id v left at (r.holder i) (λ e p its. absurd cc) (r.turned.holders i below));
+        locks = record {
+          holders = λ i below. holders_grown (set s.views id left) r.lock_history i right (r.holder i) (holders_kept s.views r.lock_history i id v left at (r.holder i) (λ e p its. absurd cc) (r.locks.holders i below));
           parties = λ p. dite (ℕ_discrete p k)
               (λ same. subst (λ o. AreLockRecords (set s.views id left ++ right ∷ []) r.lock_history p o) (sym (updated_here M start n r.seat k p (Some new) same))
-              (right, at_last (set s.views id left) right new refl, inl (ap Some (sym same), ap (λ z. lock_records_by z r.lock_history) same ∙ unmade_lock_records s.views r.lock_history k id v at refl refl (r.seat k) mine.1 (r.turned.parties k))))
+              (right, at_last (set s.views id left) right new refl, inl (ap Some (sym same), ap (λ z. lock_records_by z r.lock_history) same ∙ unmade_lock_records s.views r.lock_history k id v at refl refl (r.seat k) mine.1 (r.locks.parties k))))
               (λ ne. subst (λ o. AreLockRecords (set s.views id left ++ right ∷ []) r.lock_history p o) (sym (updated_else M start n r.seat k p (Some new) ne))
               (lock_records_grown (set s.views id left) r.lock_history p right (r.seat p) (lock_records_kept s.views r.lock_history r.lock_history p id v left at (r.seat p)
-              (λ e a. ⊎_elim (λ x. absurd (let its = x.0 in cc)) (λ x. ⊎_elim (λ y. inr (inl (let z = y.0 in omega arith, y.1, y.2))) (λ y. absurd (let on = y.0 in cc)) x) a) refl (r.turned.parties p))));
+              (λ e a. ⊎_elim (λ x. absurd (let its = x.0 in cc)) (λ x. ⊎_elim (λ y. inr (inl (let z = y.0 in omega arith, y.1, y.2))) (λ y. absurd (let on = y.0 in cc)) x) a) refl (r.locks.parties p))));
           met = λ j u there. ⊎_elim
-              (λ t. ⊎_elim (λ z. subst (λ (i : V). Extends i.known.lock_history r.lock_history) z.1 (none_before r.lock_history)) (λ z. r.turned.met j u z.1) (at_set s.views id j left u t))
+              (λ t. ⊎_elim (λ z. subst (λ (i : V). Extends i.known.lock_history r.lock_history) z.1 (none_before r.lock_history)) (λ z. r.locks.met j u z.1) (at_set s.views id j left u t))
               (λ t. subst (λ (i : V). Extends i.known.lock_history r.lock_history) t.1 (none_before r.lock_history))
               (at_end (set s.views id left) right u j there);
         };
@@ -262,9 +262,9 @@ module _ {S X E : Type 0} (of : S → Machine X E) (laws : (s : S) → Laws (of 
             (λ y. r.views k u y.1)
             (at_set s.views id k both u z.1))
             (at_set (set s.views id both) other k joined_seat u t);
-        turned = turned_kept M.shards (set s.views id both) r.lock_history r.holder r.holder r.seat other (at_rest w) joined_seat there (λ i lt. refl) (λ i lt e p its. absurd cc)
+        locks = locks_kept M.shards (set s.views id both) r.lock_history r.holder r.holder r.seat other (at_rest w) joined_seat there (λ i lt. refl) (λ i lt e p its. absurd cc)
             (λ p a. absurd (⊎_elim (λ x. let its = x.0 in cc) (λ x. ⊎_elim (λ y. let lt = y.1 in omega arith) (λ y. let on = y.0 in cc) x) a)) (none_before r.lock_history)
-            (turned_kept M.shards s.views r.lock_history r.holder r.holder r.seat id (at_rest v) both at (λ i lt. refl) (λ i lt e p its. its) (λ p a. a) (r.turned.met id (at_rest v) at) r.turned);
+            (locks_kept M.shards s.views r.lock_history r.holder r.holder r.seat id (at_rest v) both at (λ i lt. refl) (λ i lt e p its. its) (λ p a. a) (r.locks.met id (at_rest v) at) r.locks);
       }
 
   -- a view that does not hold a shard is not the one that holds it
@@ -331,20 +331,20 @@ module _ {S X E : Type 0} (of : S → Machine X E) (laws : (s : S) → Laws (of 
             (λ y. fits_seat h r.holder r.seat seat' k u (λ q e. updated_else M start n r.seat p q (Some id) (λ is. z.0 (let a : r.seat p ≡ Some k = ap r.seat (sym is) ∙ e in let b = own.1 in cc)) ∙ e) (r.views k u y.1))
             (at_set s.views id k both u z.1))
             (at_set (set s.views id both) other k joined_seat u t);
-        turned = record {
+        locks = record {
           holders = λ i lt. holders_kept (set s.views id both) r.lock_history i other (at_rest w) joined_seat there (r.holder i) (λ e q its. absurd (unheld_by s r other (at_rest w) was i lt (bare i) e))
-              (holders_kept s.views r.lock_history i id v both at (r.holder i) (λ e q its. absurd cc) (r.turned.holders i lt));
+              (holders_kept s.views r.lock_history i id v both at (r.holder i) (λ e q its. absurd cc) (r.locks.holders i lt));
           parties = λ q. dite (ℕ_discrete q p)
               (λ is. subst (λ o. AreLockRecords two.views r.lock_history q o) (sym (updated_here M start n r.seat p q (Some id) is))
-              (both, stays, inr (inr (refl, length l, w, at_last l w (length l) refl, party ∙ ap Some (sym is), ap (λ z. lock_records_by z r.lock_history) is ∙ own_lock_records s.views r.lock_history p other (at_rest w) was refl refl (r.seat p) own.1 (r.turned.parties p)))))
+              (both, stays, inr (inr (refl, length l, w, at_last l w (length l) refl, party ∙ ap Some (sym is), ap (λ z. lock_records_by z r.lock_history) is ∙ own_lock_records s.views r.lock_history p other (at_rest w) was refl refl (r.seat p) own.1 (r.locks.parties p)))))
               (λ ne. subst (λ o. AreLockRecords two.views r.lock_history q o) (sym (updated_else M start n r.seat p q (Some id) ne))
               (lock_records_kept (set s.views id both) r.lock_history r.lock_history q other (at_rest w) joined_seat there (r.seat q)
               (λ e a. absurd (⊎_elim (λ x. ne (let its = x.0 in cc)) (λ x. ⊎_elim (λ y. let lt = y.1 in omega arith) (λ y. let on = y.0 in cc) x) a)) refl
               (lock_records_kept s.views r.lock_history r.lock_history q id v both at (r.seat q)
-              (λ e a. ⊎_elim (λ x. absurd (let its = x.0 in cc)) (λ x. ⊎_elim (λ y. absurd (let lt = y.1 in omega arith)) (λ y. inr (inr (refl, y.1, y.2, at_longer l (w ∷ []) y.1 y.2 y.3, y.4, y.5))) x) a) refl (r.turned.parties q))));
+              (λ e a. ⊎_elim (λ x. absurd (let its = x.0 in cc)) (λ x. ⊎_elim (λ y. absurd (let lt = y.1 in omega arith)) (λ y. inr (inr (refl, y.1, y.2, at_longer l (w ∷ []) y.1 y.2 y.3, y.4, y.5))) x) a) refl (r.locks.parties q))));
           met = λ k u t. ⊎_elim
               (λ z. subst (λ (i : V). Extends i.known.lock_history r.lock_history) z.1 (none_before r.lock_history))
-              (λ z. ⊎_elim (λ y. subst (λ (i : V). Extends i.known.lock_history r.lock_history) y.1 (none_before r.lock_history)) (λ y. r.turned.met k u y.1) (at_set s.views id k both u z.1))
+              (λ z. ⊎_elim (λ y. subst (λ (i : V). Extends i.known.lock_history r.lock_history) y.1 (none_before r.lock_history)) (λ y. r.locks.met k u y.1) (at_set s.views id k both u z.1))
               (at_set (set s.views id both) other k joined_seat u t);
         };
       }
@@ -377,7 +377,7 @@ module _ {S X E : Type 0} (of : S → Machine X E) (laws : (s : S) → Laws (of 
         w,
         keeps,
         tt,
-        still M start n s r id v w at 0 refl refl (λ _. refl) (λ q a. a) fits (λ q its. its) (λ q a. a) (r.turned.met id v at),
+        still M start n s r id v w at 0 refl refl (λ _. refl) (λ q a. a) fits (λ q its. its) (λ q a. a) (r.locks.met id v at),
         λ z e. let is : start ≡ z = cc in subst (λ (y : S). (k : List E) × (◌≡◌ {A = Me (Option X) V} (w, []) (closed_seat y k l, [])) × (get_or s.words 0 0 ≡ length k) × EndsTable of (of y) l k) is (h, refl, r.word, told),
       )
 
@@ -438,7 +438,7 @@ module _ {S X E : Type 0} (of : S → Machine X E) (laws : (s : S) → Laws (of 
     parties = λ p. party_first ws xs p (dec_lt p n);
     views = λ id v there. first_view ws id v there;
     lock_history = [];
-    turned = record {
+    locks = record {
       holders = λ i lt. refl;
       parties = λ p. lock_records_first p (dec_lt p n);
       met = λ id v there. lock_history_first id v there;

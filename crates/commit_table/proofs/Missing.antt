@@ -9,8 +9,8 @@ use Rattle.commit_table.specs.Views.{after_take, after_miss, after_give_back}
 use Rattle.commit_table.specs.Attempts.{IsMissed}
 
 module _ {S X E : Type 0} (m : Machine X E) (May : ℕ → Type 0) where
-  one_missed : (v : PassView S E) (i : ℕ) (turns : List LockRecord) → May i → HasSoundView m v → MissWitness v i turns → IsMissed m v May (after_miss v i turns)
-  one_missed v i turns may sound t = record {
+  one_missed : (v : PassView S E) (i : ℕ) (records : List LockRecord) → May i → HasSoundView m v → MissWitness v i records → IsMissed m v May (after_miss v i records)
+  one_missed v i records may sound t = record {
     shard = i;
     may = may;
     missed = refl;
@@ -32,8 +32,8 @@ module _ {S X E : Type 0} (m : Machine X E) (May : ℕ → Type 0) where
     start = refl;
   }
 
-  two_missed : (v : PassView S E) (i j : ℕ) (g : List E) (turns : List LockRecord) → May i → HasSoundView m v → MissWitness (after_take v j g) i turns → IsMissed m v May (after_give_back (after_miss (after_take v j g) i turns) j)
-  two_missed v i j g turns may sound t = record {
+  two_missed : (v : PassView S E) (i j : ℕ) (g : List E) (records : List LockRecord) → May i → HasSoundView m v → MissWitness (after_take v j g) i records → IsMissed m v May (after_give_back (after_miss (after_take v j g) i records) j)
+  two_missed v i j g records may sound t = record {
     shard = i;
     may = may;
     missed = refl;
@@ -56,11 +56,11 @@ module _ {S X E : Type 0} (m : Machine X E) (May : ℕ → Type 0) where
   }
 
   -- the one shard was missed
-  pub first_missed : (v w : PassView S E) (i : ℕ) (turns : List LockRecord) → May i → HasSoundView m v → w ≡ after_miss v i turns → MissWitness v i turns → IsMissed m v May w
-  first_missed v w i turns may sound is t = subst (λ (z : PassView S E). IsMissed m v May z) (sym is) (one_missed v i turns may sound t)
+  pub first_missed : (v w : PassView S E) (i : ℕ) (records : List LockRecord) → May i → HasSoundView m v → w ≡ after_miss v i records → MissWitness v i records → IsMissed m v May w
+  first_missed v w i records may sound is t = subst (λ (z : PassView S E). IsMissed m v May z) (sym is) (one_missed v i records may sound t)
 
   -- the second shard was missed, and the first given back
-  pub second_missed : (v u w z : PassView S E) (i j : ℕ) (g : List E) (turns : List LockRecord) → May i → HasSoundView m v → u ≡ after_take v j g → w ≡ after_miss u i turns → MissWitness u i turns → z ≡ after_give_back w j → IsMissed m v May z
-  second_missed v u w z i j g turns may sound taken is t last =
-      let whole : z ≡ after_give_back (after_miss (after_take v j g) i turns) j = last ∙ (ap (λ (y : PassView S E). after_give_back y j) is ∙ ap (λ (y : PassView S E). after_give_back (after_miss y i turns) j) taken) in
-      subst (λ (y : PassView S E). IsMissed m v May y) (sym whole) (two_missed v i j g turns may sound (subst (λ (y : PassView S E). MissWitness y i turns) taken t))
+  pub second_missed : (v u w z : PassView S E) (i j : ℕ) (g : List E) (records : List LockRecord) → May i → HasSoundView m v → u ≡ after_take v j g → w ≡ after_miss u i records → MissWitness u i records → z ≡ after_give_back w j → IsMissed m v May z
+  second_missed v u w z i j g records may sound taken is t last =
+      let whole : z ≡ after_give_back (after_miss (after_take v j g) i records) j = last ∙ (ap (λ (y : PassView S E). after_give_back y j) is ∙ ap (λ (y : PassView S E). after_give_back (after_miss y i records) j) taken) in
+      subst (λ (y : PassView S E). IsMissed m v May y) (sym whole) (two_missed v i j g records may sound (subst (λ (y : PassView S E). MissWitness y i records) taken t))

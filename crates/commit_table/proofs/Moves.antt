@@ -16,7 +16,7 @@ use Rattle.commit_table.specs.Views.{held_at}
 use Rattle.commit_table.specs.LockHistory.{Extends, KnowsLockRecords, LocksAgree}
 use Rattle.commit_table.specs.Rule.{IsShard, AccountsForParty, IsParty, IsWhole, ViewFits, Rule}
 use Rattle.commit_table.proofs.Lists.{at_here, one_there}
-use Rattle.commit_table.proofs.LockHistories.{turned_kept}
+use Rattle.commit_table.proofs.LockHistories.{locks_kept}
 
 module _ {S X E : Type 0} (m : Machine X E) (start : S) (n : ℕ) where
   abbrev pub V : Type 0
@@ -91,13 +91,13 @@ module _ {S X E : Type 0} (m : Machine X E) (start : S) (n : ℕ) where
       → ((p : ℕ) → AccountsForParty m start n v p → AccountsForParty m start n w p)
       → ((k : ℕ) (u : V) → k ≢ id → ViewFits m start n r.history r.holder r.seat k u → ViewFits m start n r.history holder r.seat k u)
       → ViewFits m start n r.history holder r.seat id w
-      → (turns : List LockRecord) → LocksAgree m.shards (set s.views id w) turns holder r.seat
+      → (records : List LockRecord) → LocksAgree m.shards (set s.views id w) records holder r.seat
       → R (with_view s ws hs id w)
-  rebuild s r id v w at ws hs holder size word seen shards answers others fits turns turned = record {
+  rebuild s r id v w at ws hs holder size word seen shards answers others fits records locks = record {
     history = r.history;
     holder = holder;
     seat = r.seat;
-    lock_history = turns;
+    lock_history = records;
     size = size ∙ r.size;
     legal = r.legal;
     word = word ∙ r.word;
@@ -108,20 +108,20 @@ module _ {S X E : Type 0} (m : Machine X E) (start : S) (n : ℕ) where
         (λ t. subst (λ (z : ℕ). ViewFits m start n r.history holder r.seat z u) (sym t.0) (subst (λ (z : V). ViewFits m start n r.history holder r.seat id z) t.1 fits))
         (λ t. others k u t.0 (r.views k u t.1))
         (at_set s.views id k w u there);
-    turned = turned;
+    locks = locks;
   }
 
-  -- nothing moved but the turns: the seat has another view, which holds and answers for the same
+  -- nothing moved but the lock operations: the seat has another view, which holds and answers for the same
   pub still_with : (s : St) (r : R s) (id : ℕ) (v w : V) → get_elem? s.views id ≡ some v
       → (k : ℕ) → w.known.held ≡ v.known.held → w.slot_out ≡ v.slot_out → (v.known.seen ≡ r.history → w.known.seen ≡ r.history) → ((p : ℕ) → AccountsForParty m start n v p → AccountsForParty m start n w p)
       → ViewFits m start n r.history r.holder r.seat id w
-      → (turns : List LockRecord) → LocksAgree m.shards (set s.views id w) turns r.holder r.seat
+      → (records : List LockRecord) → LocksAgree m.shards (set s.views id w) records r.holder r.seat
       → R (with_view s (set s.words k (get_or s.words k 0)) s.homes id w)
-  still_with s r id v w at k held out seen answers fits turns turned =
+  still_with s r id v w at k held out seen answers fits records locks =
       subst (λ (ws : List ℕ). R (with_view s ws s.homes id w)) (sym (set-get_or s.words k 0))
       (rebuild s r id v w at s.words s.homes r.holder refl refl seen
       (λ j lt. shard_kept s r.history s.words s.homes id v w j at refl refl (λ g e. ap (λ z. held_at z j) held ∙ e) (λ e. out ∙ e) (r.holder j) (r.shards j lt))
-      answers (λ k u ne f. f) fits turns turned)
+      answers (λ k u ne f. f) fits records locks)
 
   -- nothing moved
   pub still : (s : St) (r : R s) (id : ℕ) (v w : V) → get_elem? s.views id ≡ some v
@@ -130,7 +130,7 @@ module _ {S X E : Type 0} (m : Machine X E) (start : S) (n : ℕ) where
       → ((p : ℕ) → v.known.party ≡ Some p → w.known.party ≡ Some p) → ((p : ℕ) → KnowsLockRecords r.lock_history v p → KnowsLockRecords r.lock_history w p) → Extends w.known.lock_history r.lock_history
       → R (with_view s (set s.words k (get_or s.words k 0)) s.homes id w)
   still s r id v w at k held out seen answers fits party recalls met =
-      still_with s r id v w at k held out seen answers fits r.lock_history (turned_kept m.shards s.views r.lock_history r.holder r.holder r.seat id v w at (λ i lt. refl) (λ i lt e. party) recalls met r.turned)
+      still_with s r id v w at k held out seen answers fits r.lock_history (locks_kept m.shards s.views r.lock_history r.holder r.holder r.seat id v w at (λ i lt. refl) (λ i lt e. party) recalls met r.locks)
 
   abbrev pub updated : (ℕ → Option ℕ) → ℕ → Option ℕ → ℕ → Option ℕ
   updated f i o j = cond (eqb j i) o (f j)
@@ -174,13 +174,13 @@ module _ {S X E : Type 0} (m : Machine X E) (start : S) (n : ℕ) where
       → ((p : ℕ) → AccountsForParty m start n v p → AccountsForParty m start n w p)
       → IsShard m start n (with_view s (set s.words (word_of i) b) hs id w) r.history i o
       → ViewFits m start n r.history (updated r.holder i o) r.seat id w
-      → (turns : List LockRecord) → LocksAgree m.shards (set s.views id w) turns (updated r.holder i o) r.seat
+      → (records : List LockRecord) → LocksAgree m.shards (set s.views id w) records (updated r.holder i o) r.seat
       → R (with_view s (set s.words (word_of i) b) hs id w)
-  moved s r id v w at i b hs o was homes held out seen answers here fits turns turned =
+  moved s r id v w at i b hs o was homes held out seen answers here fits records locks =
       rebuild s r id v w at (set s.words (word_of i) b) hs (updated r.holder i o) (length-set s.words (word_of i) b) (get_or-set_other s.words (word_of i) zero b 0 (λ e. absurd (omega arith))) seen
       (λ j lt. dite (ℕ_discrete j i)
       (λ same. subst (λ (z : ℕ). IsShard m start n (with_view s (set s.words (word_of i) b) hs id w) r.history z (updated r.holder i o z)) (sym same)
       (subst (λ (z : Option ℕ). IsShard m start n (with_view s (set s.words (word_of i) b) hs id w) r.history i z) (sym (updated_here r.holder i i o refl)) here))
       (λ ne. subst (λ (z : Option ℕ). IsShard m start n (with_view s (set s.words (word_of i) b) hs id w) r.history j z) (sym (updated_else r.holder i j o ne))
       (shard_kept s r.history (set s.words (word_of i) b) hs id v w j at (get_or-set_other s.words (word_of i) (word_of j) b 0 (λ e. ne (omega arith))) (homes j ne) (λ g e. held j ne ∙ e) (out j ne) (r.holder j) (r.shards j lt))))
-      answers (λ k u ne f. fits_other r.history r.holder r.seat i id o k u ne was f) fits turns turned
+      answers (λ k u ne f. fits_other r.history r.holder r.seat i id o k u ne was f) fits records locks

@@ -32,9 +32,9 @@ module _ {S X E : Type 0} (m : Machine X E) where
     pub shard : ℕ
     pub may : May shard
     pub missed : w.missed ≡ v.missed ++ shard ∷ []
-    -- of the turns of all passes that were told, this miss is the newest. Those before it go on from what the pass's last miss told,
-    -- have of its party just its own turns, `earlier` of this attempt among them, and in them another party holds the shard. The
-    -- attempt's own turns after the miss are `later`
+    -- of the lock operations of all passes that were told, this miss is the newest. Those before it go on from what the pass's last miss told,
+    -- have of its party just its own lock operations, `earlier` of this attempt among them, and in them another party holds the shard. The
+    -- attempt's own lock operations after the miss are `later`
     pub has_party : (p : ℕ) × (v.party ≡ Some p)
     pub before : List LockRecord
     pub first : (p : ℕ) → v.party ≡ Some p → w.lock_history ≡ record { shard = shard; party = p; op = lock_op.Missed } ∷ before

@@ -61,12 +61,12 @@ module _ {S E : Type 0} where
   abbrev pub HoldsNone : PassView S E → Type 0
   HoldsNone v = (i : ℕ) → held_at v.held i ≡ None
 
-  -- a shard was missed: of the turns of all passes, this miss is the newest. Those before it go on from what the pass's last miss told,
-  -- have of its party just its own turns, and in them another party holds the shard
-  pub record MissWitness (v : PassView S E) (i : ℕ) (turns : List LockRecord) : Type 0 where
+  -- a shard was missed: of the lock operations of all passes, this miss is the newest. Those before it go on from what the pass's last miss told,
+  -- have of its party just its own lock operations, and in them another party holds the shard
+  pub record MissWitness (v : PassView S E) (i : ℕ) (records : List LockRecord) : Type 0 where
     pub has_party : (p : ℕ) × (v.party ≡ Some p)
     pub before : List LockRecord
-    pub first : (p : ℕ) → v.party ≡ Some p → turns ≡ record { shard = i; party = p; op = lock_op.Missed } ∷ before
+    pub first : (p : ℕ) → v.party ≡ Some p → records ≡ record { shard = i; party = p; op = lock_op.Missed } ∷ before
     pub goes_on : Extends v.lock_history before
     pub own : (p : ℕ) → v.party ≡ Some p → lock_records_by p before ≡ v.lock_records
     pub other : ℕ

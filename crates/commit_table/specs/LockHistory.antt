@@ -8,7 +8,7 @@ use Rattle.commit_table.specs.declared.views.LockRecord.{LockRecord}
 use Rattle.commit_table.specs.declared.views.PassView.{PassView}
 use Rattle.commit_table.specs.declared.views.SeatView.{SeatView}
 
--- who holds a shard after a turn: where it is a turn on that shard, the party that took it, none where it was given back, and as
+-- who holds a shard after a lock operation: where it is a lock operation on that shard, the party that took it, none where it was given back, and as
 -- before where it was missed; else as before
 abbrev pub holder_by : Bool → LockOp → ℕ → Option ℕ → Option ℕ
 holder_by false op p before = before
@@ -21,35 +21,35 @@ abbrev pub holder_in : List LockRecord → ℕ → Option ℕ
 holder_in [] i = None
 holder_in (t ∷ ts) i = holder_by (eqb i t.shard) t.op t.party (holder_in ts i)
 
--- the turns of a party
+-- the lock operations of a party
 abbrev pub lock_records_by : ℕ → List LockRecord → List (ℕ × LockOp)
 lock_records_by p [] = []
 lock_records_by p (t ∷ ts) = cond (eqb p t.party) ((t.shard, t.op) ∷ lock_records_by p ts) (lock_records_by p ts)
 
--- these turns go on from those before
+-- these lock operations go on from those before
 abbrev pub Extends : List LockRecord → List LockRecord → Type 0
-Extends before turns = (later : List LockRecord) × (turns ≡ later ++ before)
+Extends before records = (later : List LockRecord) × (records ≡ later ++ before)
 
 module _ {S E : Type 0} where
-  -- a shard that no view holds is held by no party in the turns; one that a view holds, by the view's party
+  -- a shard that no view holds is held by no party in the lock operations; one that a view holds, by the view's party
   abbrev pub HolderAgrees : List (SeatView S E) → List LockRecord → ℕ → Option ℕ → Type 0
-  HolderAgrees views turns i None = holder_in turns i ≡ None
-  HolderAgrees views turns i (Some id) = (v : SeatView S E) × (p : ℕ) × (get_elem? views id ≡ some v) × (v.known.party ≡ Some p) × (holder_in turns i ≡ Some p)
+  HolderAgrees views records i None = holder_in records i ≡ None
+  HolderAgrees views records i (Some id) = (v : SeatView S E) × (p : ℕ) × (get_elem? views id ≡ some v) × (v.known.party ≡ Some p) × (holder_in records i ≡ Some p)
 
-  -- the turns of a party are those that the view which answers for it knows as its own, or remembers
+  -- the lock operations of a party are those that the view which answers for it knows as its own, or remembers
   abbrev pub KnowsLockRecords : List LockRecord → SeatView S E → ℕ → Type 0
-  KnowsLockRecords turns v p =
-      ((v.known.party ≡ Some p) × (lock_records_by p turns ≡ v.known.lock_records))
-      ⊎ (((v.first_party ≤ p) × (p < v.end_party) × (lock_records_by p turns ≡ []))
-      ⊎ ((v.is_closer ≡ true) × (k : ℕ) × (w : PassView S E) × (get_elem? v.joined_passes k ≡ some w) × (w.party ≡ Some p) × (lock_records_by p turns ≡ w.lock_records)))
+  KnowsLockRecords records v p =
+      ((v.known.party ≡ Some p) × (lock_records_by p records ≡ v.known.lock_records))
+      ⊎ (((v.first_party ≤ p) × (p < v.end_party) × (lock_records_by p records ≡ []))
+      ⊎ ((v.is_closer ≡ true) × (k : ℕ) × (w : PassView S E) × (get_elem? v.joined_passes k ≡ some w) × (w.party ≡ Some p) × (lock_records_by p records ≡ w.lock_records)))
 
-  -- a party that no view answers for has no turns
+  -- a party that no view answers for has no lock operations
   abbrev pub AreLockRecords : List (SeatView S E) → List LockRecord → ℕ → Option ℕ → Type 0
-  AreLockRecords views turns p None = lock_records_by p turns ≡ []
-  AreLockRecords views turns p (Some id) = (v : SeatView S E) × (get_elem? views id ≡ some v) × KnowsLockRecords turns v p
+  AreLockRecords views records p None = lock_records_by p records ≡ []
+  AreLockRecords views records p (Some id) = (v : SeatView S E) × (get_elem? views id ≡ some v) × KnowsLockRecords records v p
 
-  pub record LocksAgree (shards : ℕ) (views : List (SeatView S E)) (turns : List LockRecord) (holder seat : ℕ → Option ℕ) : Type 0 where
-    pub holders : (i : ℕ) → i < shards → HolderAgrees views turns i (holder i)
-    pub parties : (p : ℕ) → AreLockRecords views turns p (seat p)
+  pub record LocksAgree (shards : ℕ) (views : List (SeatView S E)) (records : List LockRecord) (holder seat : ℕ → Option ℕ) : Type 0 where
+    pub holders : (i : ℕ) → i < shards → HolderAgrees views records i (holder i)
+    pub parties : (p : ℕ) → AreLockRecords views records p (seat p)
     -- what a view's last miss told goes on to what there is
-    pub met : (id : ℕ) (v : SeatView S E) → get_elem? views id ≡ some v → Extends v.known.lock_history turns
+    pub met : (id : ℕ) (v : SeatView S E) → get_elem? views id ≡ some v → Extends v.known.lock_history records

@@ -92,4 +92,4 @@ module _ {S X E : Type 0} (m : Machine X E) (start : S) (n : ℕ) where
     pub shards : (i : ℕ) → i < m.shards → IsShard s history i (holder i)
     pub parties : (p : ℕ) → IsParty s history p (seat p)
     pub views : (id : ℕ) (v : SeatView S E) → get_elem? s.views id ≡ some v → ViewFits history holder seat id v
-    pub turned : LocksAgree m.shards s.views lock_history holder seat
+    pub locks : LocksAgree m.shards s.views lock_history holder seat

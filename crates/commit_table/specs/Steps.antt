@@ -22,7 +22,7 @@ module _ {S X E : Type 0} (of : S → Machine X E) where
   -- pass held it, and it was missed. Either way what was seen before is legal, and has of the pass's party just the pass's own events
   abbrev pub TakesShard : ℕ → PassView S E → ℕ → Me (Option X) (SeatView S E) → Type 0
   TakesShard i v found after = Of v (λ m. HasSoundView m v) × (((found ≡ 0) × ((x : X) × (g : List E) × (after ≡ (with_slot_out (after_take v i g) i, (slot_of i, Some x) ∷ [])) × IsPrefix v.seen g × Of v (λ m. m.Legal g × m.Stands i x g)))
-      ⊎ ((found ≡ 1) × ((turns : List LockRecord) × (after ≡ (at_rest (after_miss v i turns), [])) × MissWitness v i turns)))
+      ⊎ ((found ≡ 1) × ((records : List LockRecord) × (after ≡ (at_rest (after_miss v i records), [])) × MissWitness v i records)))
 
   -- the slot of a held shard goes out with the seat
   abbrev pub FetchesSlot : ℕ → PassView S E → Me (Option X) (SeatView S E) → Type 0

@@ -41,7 +41,7 @@ module _ {S E : Type 0} where
   abbrev pub also_seen : PassView S E → List E → PassView S E
   also_seen v s = record v { seen = longer v.seen s }
 
-  -- a shard was taken, whose value stands for g; it was missed, as these turns tell; it was given back
+  -- a shard was taken, whose value stands for g; it was missed, as these lock operations tell; it was given back
   abbrev pub after_take : PassView S E → ℕ → List E → PassView S E
   after_take v i g = record v { held = (i, Some g) ∷ v.held; lock_records = (i, lock_op.Took) ∷ v.lock_records }
 

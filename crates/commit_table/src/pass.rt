@@ -110,7 +110,7 @@ impl<M: Sharded> Pass<M> {
         requires free { held_at self.old.known.held shard ≡ None }
         ensures sound { HasSoundView (M.machine board.now.key.start) self.old.known }
         ensures taken { IfSome result (λ x. (g : List M.Event) × (self.new ≡ record self.old { known = after_take self.old.known shard g }) × ShardTaken (M.machine board.now.key.start) self.old.known shard x g) }
-        ensures missed { IfNone result ((turns : List LockRecord) × (self.new ≡ record self.old { known = after_miss self.old.known shard turns }) × MissWitness self.old.known shard turns) }
+        ensures missed { IfNone result ((records : List LockRecord) × (self.new ≡ record self.old { known = after_miss self.old.known shard records }) × MissWitness self.old.known shard records) }
     {
         let Some(value) = take_shard(board, &mut self.seat, shard) else {
             Self::count_miss(&mut self.misses, shard);

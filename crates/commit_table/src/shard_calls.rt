@@ -47,7 +47,7 @@ pub fn take_shard<M: Sharded>(
     ensures seat { (seat.new.table_id ≡ seat.old.table_id) × (seat.new.id ≡ seat.old.id) }
     ensures sound { Of M.machine seat.old.me.0.known (λ m. HasSoundView m seat.old.me.0.known) }
     ensures some { IfSome result (λ x. (g : List M.Event) × (seat.new.me ≡ (at_rest (after_take seat.old.me.0.known shard g), [])) × IsPrefix seat.old.me.0.known.seen g × Of M.machine seat.old.me.0.known (λ m. m.Legal g × m.Stands shard x g)) }
-    ensures none { IfNone result ((turns : List LockRecord) × (seat.new.me ≡ (at_rest (after_miss seat.old.me.0.known shard turns), [])) × MissWitness seat.old.me.0.known shard turns) }
+    ensures none { IfNone result ((records : List LockRecord) × (seat.new.me ≡ (at_rest (after_miss seat.old.me.0.known shard records), [])) × MissWitness seat.old.me.0.known shard records) }
 {
     if take_word(board, seat, shard) != 0 {
         return None;

@@ -129,7 +129,7 @@ impl<M: Sharded> CommitTable<M> {
 
     /// Takes a shard with its value, in one compare-exchange and, where it has it, one exchange and one load. The value
     /// stands for a legal history. Where it finds that another pass holds the shard, that is a miss, which counts. A miss
-    /// tells the turns of all passes so far: their takes, give-backs and misses. It is the newest of them itself, and before it
+    /// tells the lock operations of all passes so far: their takes, give-backs and misses. It is the newest of them itself, and before it
     /// that other pass has taken the shard and not given it back.
     pub fn try_take(&self, pass: &mut Pass<M>, shard: u32) -> Option<M::Shard>
         requires pass { IsOf self.now pass.old }
@@ -137,7 +137,7 @@ impl<M: Sharded> CommitTable<M> {
         requires free { held_at pass.old.known.held shard ≡ None }
         ensures sound { HasSoundView (M.machine self.now.start) pass.old.known }
         ensures shard_taken { IfSome result (λ x. (g : List M.Event) × (pass.new ≡ record pass.old { known = after_take pass.old.known shard g }) × ShardTaken (M.machine self.now.start) pass.old.known shard x g) }
-        ensures missed { IfNone result ((turns : List LockRecord) × (pass.new ≡ record pass.old { known = after_miss pass.old.known shard turns }) × MissWitness pass.old.known shard turns) }
+        ensures missed { IfNone result ((records : List LockRecord) × (pass.new ≡ record pass.old { known = after_miss pass.old.known shard records }) × MissWitness pass.old.known shard records) }
     {
         pass.try_take(&self.table.shared, shard)
     }

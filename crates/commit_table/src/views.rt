@@ -23,7 +23,7 @@ pub struct PassView<S, E> {
     pub missed: LinkedList<u32>,
     /// The shards that this pass took, gave back and missed, the newest first, each with what it did.
     pub lock_records: LinkedList<(u32, LockOp)>,
-    /// The turns of all passes, as far as the last miss told them, the newest first. That miss is the first of them.
+    /// The lock operations of all passes, as far as the last miss told them, the newest first. That miss is the first of them.
     pub lock_history: LinkedList<LockRecord>,
 }
 

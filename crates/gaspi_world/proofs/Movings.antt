@@ -110,8 +110,8 @@ module _ {S : Type 0} (w : ShapeValue) (origin : ℕ) where
       each (suc k) place at = absurd (let no : ⊥ = cc in no)
 
   -- a shard was missed; or taken, and a look made; or given back
-  pub moved-missed : (v u : PassView S Event) (shard : ℕ) (turns : List LockRecord) → u ≡ after_miss v shard turns → HasMoved w origin v u
-  moved-missed v u shard turns is = subst (λ (k : PassView S Event). HasMoved w origin v k) (sym is) (record {
+  pub moved-missed : (v u : PassView S Event) (shard : ℕ) (records : List LockRecord) → u ≡ after_miss v shard records → HasMoved w origin v u
+  moved-missed v u shard records is = subst (λ (k : PassView S Event). HasMoved w origin v k) (sym is) (record {
     places = [];
     commits = sym (append-nil v.commits);
     each = λ k place at. absurd (let no : ⊥ = cc in no);

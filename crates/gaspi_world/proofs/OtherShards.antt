@@ -35,8 +35,8 @@ module _ {S : Type 0} (w : ShapeValue) (h : HeldShards) (v : PassView S Event) (
   free-other j apart = one.others j (elsewhere [] h.own j mine apart)
 
   -- the other was missed
-  pub still-held : (u : PassView S Event) (j : ℕ) (turns : List LockRecord) → u ≡ after_miss v j turns → Holds w h u
-  still-held u j turns is = subst (λ (k : PassView S Event). Holds w h k) (sym is) (record {
+  pub still-held : (u : PassView S Event) (j : ℕ) (records : List LockRecord) → u ≡ after_miss v j records → Holds w h u
+  still-held u j records is = subst (λ (k : PassView S Event). Holds w h k) (sym is) (record {
     shards = record {
       legal = holds.shards.legal;
       each = λ i x at. let was = holds.shards.each i x at in record { upto = was.upto; held = was.held; agrees = was.agrees; stands = was.stands };

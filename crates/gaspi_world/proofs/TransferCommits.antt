@@ -128,9 +128,9 @@ module _ {S : Type 0} (w : ShapeValue) (world : IsShape w) (laws : FrontLaws) (h
 
 -- A transfer that was committed after one look, whatever others committed between, is recorded.
 module _ {S : Type 0} (w : ShapeValue) where
-  moved-once : (h : HeldShards) (v u z : PassView S Event) (e : Event) (held : List (ℕ × Option (List Event))) (turns : List (ℕ × LockOp)) → IsLookedOnly (world_machine w) v u → (a : IsCommitted w u e z) → Holds w h z
-      → IsCommittedOnce (world_machine w) v e (length a.before) (record z { held = held; turns = turns })
-  moved-once h v u z e held turns look a holds = record {
+  moved-once : (h : HeldShards) (v u z : PassView S Event) (e : Event) (held : List (ℕ × Option (List Event))) (records : List (ℕ × LockOp)) → IsLookedOnly (world_machine w) v u → (a : IsCommitted w u e z) → Holds w h z
+      → IsCommittedOnce (world_machine w) v e (length a.before) (record z { held = held; lock_records = records })
+  moved-once h v u z e held records look a holds = record {
     before = a.before;
     seen = a.seen;
     legal = subst (λ (y : List Event). is_legal w y ≡ true) a.seen holds.shards.legal;

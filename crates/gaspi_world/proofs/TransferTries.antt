@@ -166,9 +166,9 @@ module _ {S : Type 0} (w : ShapeValue) (world : IsShape w) (origin : ℕ) (rank 
     other-free j free other = free-else j free (other-within j other).1
 
     -- The other shard was missed.
-    pub busy : (u x z : PassView S Event) (number j : ℕ) (h : List Event) (turns : List LockRecord) → HoldsNone v → Some j ≡ rank_other w.limits.ranks (transfer_footprint w.limits.ranks f e.kind) → u ≡ after_miss t j turns → MissWitness t j turns
+    pub busy : (u x z : PassView S Event) (number j : ℕ) (h : List Event) (records : List LockRecord) → HoldsNone v → Some j ≡ rank_other w.limits.ranks (transfer_footprint w.limits.ranks f e.kind) → u ≡ after_miss t j records → MissWitness t j records
         → Looked (world_machine w) u number h x → z ≡ after_give_back x origin → Tries w origin v tries.Busy z
-    busy u x z number j h turns free other miss met l last =
+    busy u x z number j h records free other miss met l last =
         let held : held_at u.held origin ≡ Some g = ap (λ (y : PassView S Event). held_at y.held origin) miss ∙ held-shard_taken in
         let here = node-looked u x number h held l in
         let listed = front-listed w world laws h l.legal node.value.posts f front origin here.posts in
@@ -181,7 +181,7 @@ module _ {S : Type 0} (w : ShapeValue) (world : IsShape w) (origin : ℕ) (rank 
           origin_is = of-origin;
           among = front-among w world laws h l.legal node.value.posts f front origin e j here.posts next (sym other);
         } in
-        (all-free, inr (missed-looking (world_machine w) (MayTransfer w origin) v t u x z origin j number g h turns is miss met l last may))
+        (all-free, inr (missed-looking (world_machine w) (MayTransfer w origin) v t u x z origin j number g h records is miss met l last may))
       where
         all-free : HoldsNone z
         all-free i = dite (ℕ_discrete i origin)

@@ -76,9 +76,9 @@ module _ {S : Type 0} where
     many = all.many;
   }
 
-  -- shards are given back: what a pass holds and its turns are no matter
-  committed-back : (v n : PassView S Event) (events : List Event) (held : List (ℕ × Option (List Event))) (turns : List (ℕ × LockOp)) → HasCommitted events v n → HasCommitted events v (record n { held = held; turns = turns })
-  committed-back v n events held turns all = record { places = all.places; commits = all.commits; many = all.many }
+  -- shards are given back: what a pass holds and its lock operations are no matter
+  committed-back : (v n : PassView S Event) (events : List Event) (held : List (ℕ × Option (List Event))) (records : List (ℕ × LockOp)) → HasCommitted events v n → HasCommitted events v (record n { held = held; lock_records = records })
+  committed-back v n events held records all = record { places = all.places; commits = all.commits; many = all.many }
 
 module _ (w : ShapeValue) (c : CallerId) (call : Call) where
   -- what a look finds after a legal history is what it finds in the state after it
@@ -203,9 +203,9 @@ module _ {S : Type 0} (w : ShapeValue) (c : CallerId) (call : Call) where
   seen-more : (m u : PassView S Event) (joins calls : List Event) → CommittedWhileHeld w c call joins calls m u → IsPrefix m.seen u.seen
   seen-more m u joins calls worked = subst (IsPrefix m.seen) (sym worked.seen) (prefix_more m.seen worked.before calls worked.later)
 
-  goes-on : (v m u : PassView S Event) (joins calls : List Event) (held : List (ℕ × Option (List Event))) (turns : List (ℕ × LockOp)) → IsShape w → IsPassOf w c v → IsLookedOnly (world_machine w) v m → is_legal w u.seen ≡ true → IsOwn (world_machine w) u.party u.seen u.mine
-      → CommittedWhileHeld w c call joins calls m u → IsExtended w c v (record u { held = held; turns = turns })
-  goes-on v m u joins calls held turns world pass look legal own worked = record {
+  goes-on : (v m u : PassView S Event) (joins calls : List Event) (held : List (ℕ × Option (List Event))) (records : List (ℕ × LockOp)) → IsShape w → IsPassOf w c v → IsLookedOnly (world_machine w) v m → is_legal w u.seen ≡ true → IsOwn (world_machine w) u.party u.seen u.mine
+      → CommittedWhileHeld w c call joins calls m u → IsExtended w c v (record u { held = held; lock_records = records })
+  goes-on v m u joins calls held records world pass look legal own worked = record {
     seen = prefix_trans v.seen m.seen u.seen look.goes_on (seen-more m u joins calls worked);
     legal = legal;
     own = sym (mine-events w c u.seen world pass.0) ∙ own (number_of w.callers c) (worked.party ∙ (look.party ∙ pass.1));
@@ -213,9 +213,9 @@ module _ {S : Type 0} (w : ShapeValue) (c : CallerId) (call : Call) where
     start = worked.start ∙ look.start;
   }
 
-  looked-once : (v m u : PassView S Event) (joins calls : List Event) (held : List (ℕ × Option (List Event))) (turns : List (ℕ × LockOp)) → IsShape w → IsPassOf w c v → IsLookedOnly (world_machine w) v m → CommittedWhileHeld w c call joins calls m u
-      → LookedOnce w c v (record u { held = held; turns = turns }) m.seen
-  looked-once v m u joins calls held turns world pass look worked = record {
+  looked-once : (v m u : PassView S Event) (joins calls : List Event) (held : List (ℕ × Option (List Event))) (records : List (ℕ × LockOp)) → IsShape w → IsPassOf w c v → IsLookedOnly (world_machine w) v m → CommittedWhileHeld w c call joins calls m u
+      → LookedOnce w c v (record u { held = held; lock_records = records }) m.seen
+  looked-once v m u joins calls held records world pass look worked = record {
     looks = worked.looks ∙ look.looks;
     is_look = record {
       later = look.goes_on;
@@ -226,57 +226,57 @@ module _ {S : Type 0} (w : ShapeValue) (c : CallerId) (call : Call) where
   }
 
   -- An attempt tells what was done while the shards were held, and the one look before it.
-  attempted : (look : Look) (v m u : PassView S Event) (r : Result Reply Halt) (held : List (ℕ × Option (List Event))) (turns : List (ℕ × LockOp)) → IsShape w → IsPassOf w c v → IsLookedOnly (world_machine w) v m → is_legal w u.seen ≡ true → IsOwn (world_machine w) u.party u.seen u.mine
-      → AttemptedWhileHeld w c call look m r u → Attempted w c call look v r (record u { held = held; turns = turns })
-  attempted look v m u (Ok reply) held turns world pass looks legal own (joins, worked, room, last, unready) = record {
-    goes_on = goes-on v m u joins (Called c call reply ∷ []) held turns world pass looks legal own worked;
+  attempted : (look : Look) (v m u : PassView S Event) (r : Result Reply Halt) (held : List (ℕ × Option (List Event))) (records : List (ℕ × LockOp)) → IsShape w → IsPassOf w c v → IsLookedOnly (world_machine w) v m → is_legal w u.seen ≡ true → IsOwn (world_machine w) u.party u.seen u.mine
+      → AttemptedWhileHeld w c call look m r u → Attempted w c call look v r (record u { held = held; lock_records = records })
+  attempted look v m u (Ok reply) held records world pass looks legal own (joins, worked, room, last, unready) = record {
+    goes_on = goes-on v m u joins (Called c call reply ∷ []) held records world pass looks legal own worked;
     history = m.seen;
-    looked = looked-once v m u joins (Called c call reply ∷ []) held turns world pass looks worked;
+    looked = looked-once v m u joins (Called c call reply ∷ []) held records world pass looks worked;
     before = worked.before;
     ends = worked.seen;
     after_look = worked.later;
     joins = joins;
     joined = worked.joined;
     mine = worked.mine ∙ ap (λ (es : List Event). (es ++ joins) ++ Called c call reply ∷ []) looks.mine;
-    commits = committed-back v u (joins ++ Called c call reply ∷ []) held turns (committed-since v m u (joins ++ Called c call reply ∷ []) looks.commits worked.commits);
+    commits = committed-back v u (joins ++ Called c call reply ∷ []) held records (committed-since v m u (joins ++ Called c call reply ∷ []) looks.commits worked.commits);
     room = room;
     last = last;
     unready = unready;
   }
-  attempted look v m u (Err NotYet) held turns world pass looks legal own (joins, worked, room, more, unready, still) = record {
-    goes_on = goes-on v m u joins [] held turns world pass looks legal own worked;
+  attempted look v m u (Err NotYet) held records world pass looks legal own (joins, worked, room, more, unready, still) = record {
+    goes_on = goes-on v m u joins [] held records world pass looks legal own worked;
     history = m.seen;
-    looked = looked-once v m u joins [] held turns world pass looks worked;
+    looked = looked-once v m u joins [] held records world pass looks worked;
     joins = joins;
     joined = worked.joined;
     mine = worked.mine ∙ (append-nil (m.mine ++ joins) ∙ ap (λ (es : List Event). es ++ joins) looks.mine);
-    commits = committed-back v u joins held turns (committed-since v m u joins looks.commits (committed-all m u joins worked.commits));
+    commits = committed-back v u joins held records (committed-since v m u joins looks.commits (committed-all m u joins worked.commits));
     room = room;
     more = more;
     unready = unready;
     still = still;
   }
-  attempted look v m u (Err NoMemory) held turns world pass looks legal own (same, room) =
+  attempted look v m u (Err NoMemory) held records world pass looks legal own (same, room) =
       let worked = attempted-none w c call m u same in
       let seen : m.seen ≡ u.seen = ap (λ (k : PassView S Event). k.seen) (sym same) in
       record {
-        goes_on = goes-on v m u [] [] held turns world pass looks legal own worked;
-        looked = subst (LookedOnce w c v (record u { held = held; turns = turns })) seen (looked-once v m u [] [] held turns world pass looks worked);
+        goes_on = goes-on v m u [] [] held records world pass looks legal own worked;
+        looked = subst (LookedOnce w c v (record u { held = held; lock_records = records })) seen (looked-once v m u [] [] held records world pass looks worked);
         mine = ap (λ (k : PassView S Event). k.mine) same ∙ looks.mine;
         commits = ap (λ (k : PassView S Event). k.commits) same ∙ looks.commits;
         room = ap (lacks_room_after w c call) (sym seen) ∙ room;
       }
-  attempted look v m u (Err EventLimit) held turns world pass looks legal own (same, full) =
+  attempted look v m u (Err EventLimit) held records world pass looks legal own (same, full) =
       let worked = attempted-none w c call m u same in
       let seen : m.seen ≡ u.seen = ap (λ (k : PassView S Event). k.seen) (sym same) in
       record {
-        goes_on = goes-on v m u [] [] held turns world pass looks legal own worked;
-        looked = subst (LookedOnce w c v (record u { held = held; turns = turns })) seen (looked-once v m u [] [] held turns world pass looks worked);
+        goes_on = goes-on v m u [] [] held records world pass looks legal own worked;
+        looked = subst (LookedOnce w c v (record u { held = held; lock_records = records })) seen (looked-once v m u [] [] held records world pass looks worked);
         mine = ap (λ (k : PassView S Event). k.mine) same ∙ looks.mine;
         commits = ap (λ (k : PassView S Event). k.commits) same ∙ looks.commits;
         full = ap (lacks_room_after w c call) (sym seen) ∙ full;
       }
-  attempted look v m u (Err Busy) held turns world pass looks legal own never = absurd never
+  attempted look v m u (Err Busy) held records world pass looks legal own never = absurd never
 
   pub attempted-left : (look : Look) (v m u : PassView S Event) (r : Result Reply Halt) (own : ℕ) (other : Option ℕ) → IsShape w → IsPassOf w c v → IsLookedOnly (world_machine w) v m → is_legal w u.seen ≡ true → IsOwn (world_machine w) u.party u.seen u.mine
       → AttemptedWhileHeld w c call look m r u → Attempted w c call look v r (left_by own other u)

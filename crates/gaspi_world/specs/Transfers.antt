@@ -49,9 +49,9 @@ module _ {S X E : Type 0} (m : Machine X E) where
     pub before : List LockRecord
     pub first : (p : ℕ) → v.party ≡ Some p → n.lock_history ≡ record { shard = shard; party = p; op = lock_op.Missed } ∷ before
     pub met : Extends v.lock_history before
-    -- the pass's own turns before the miss, and all of them: it took the origin's shard, missed the other one, and gave the first back
+    -- the pass's own lock operations before the miss, and all of them: it took the origin's shard, missed the other one, and gave the first back
     pub tried : (p : ℕ) → v.party ≡ Some p → lock_records_by p before ≡ (origin, lock_op.Took) ∷ v.lock_records
-    pub turns : n.lock_records ≡ (origin, lock_op.GaveBack) ∷ (shard, lock_op.Missed) ∷ (origin, lock_op.Took) ∷ v.lock_records
+    pub lock_records : n.lock_records ≡ (origin, lock_op.GaveBack) ∷ (shard, lock_op.Missed) ∷ (origin, lock_op.Took) ∷ v.lock_records
     pub other : ℕ
     pub holds : holder_in before shard ≡ Some other
     pub apart : ¬ (v.party ≡ Some other)
