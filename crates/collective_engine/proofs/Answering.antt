@@ -18,7 +18,7 @@ use Rattle.gaspi_types.specs.declared.groups.MemberSegment.{MemberSegment}
 use Rattle.gaspi_types.specs.declared.replies.Refusal.{Refusal}
 use Rattle.gaspi_model.specs.RoundRules.{coll_in}
 use Rattle.collective_engine.specs.Rounds.{round_buffers, IsRounds}
-use Rattle.collective_engine.specs.Slots.{HasItsValues, GivesNumbers}
+use Rattle.collective_engine.specs.KeptContributions.{HasItsValues, GivesNumbers}
 use Rattle.collective_engine.specs.RoundBuffers.{RoundBuffers, ranks_of, is_in, IsMember, joined_by, completed_by, buffer_of, contribution_by, with_contribution, with_round_completed, is_full_for, may_join, StandsFor}
 use Rattle.collective_engine.specs.declared.buffers.Buffers.{Buffers}
 use Rattle.collective_engine.specs.declared.rounds.Rounds.TheInside.{Inside}
@@ -78,7 +78,7 @@ module _ (r : Inside) (now : RoundBuffers) (view : round_buffers r ≡ now) (ok 
       one : (m : ℕ) → IsMember r.members m → is_some (contribution_in g (completed_by r.buffers rank) m) ≡ is_some (contribution_by r.buffers (completed_by r.buffers rank) m)
       one m its =
           let count = here.joined m in
-          let slots = slot r.buffers ok.rounds.room (completed_by r.buffers rank) m its.0 in
+          let slots = slot r.buffers ok.rounds.capacity (completed_by r.buffers rank) m its.0 in
           some-there (contributions_of g m).contributions (completed_by r.buffers rank)
           ∙ ap (nat_lt (completed_by r.buffers rank)) count
           ∙ sym (some-contributed (nat_lt (completed_by r.buffers rank) (joined_by r.buffers m)) (slice_get (buffer_of r.buffers (completed_by r.buffers rank)) m) slots.0 slots.1)

@@ -1,4 +1,4 @@
--- What a contribution changes in the buffers: the count of its rank, and its slot in the buffer of its round.
+-- What a contribution changes in the buffers: the count of its rank, and its place in the buffer of its round.
 use Rattle.std.proofs.Common.{◌≡◌, ◌≢◌, ℕ, ◌+◌, ◌%◌, ◌≤◌, ◌<◌, Bool, true, false, ◌==◌, if◌then◌else◌, List, length, Option, None, Some, is_some, refl, sym, ◌∙◌, ap, arith}
 use Rattle.std.specs.Prelude.{nat_lt}
 use Rattle.std.specs.List.{slice_get, slice_set}
@@ -73,18 +73,18 @@ any_parity true false even odd rank r c apart = refl
 any_parity false true even odd rank r c apart = refl
 any_parity false false even odd rank r c apart = slice_get-set_other odd rank r c (λ e. apart (sym e))
 
--- a slot for each rank
+-- a place for each rank
 pub slot : (b : Buffers) → HasCapacity b → (round rank : ℕ) → rank < 16 → (old : Contribution) × (slice_get (buffer_of b round) rank ≡ Some old)
-slot b room round rank below = pick (round % 2 == 0)
+slot b capacity round rank below = pick (round % 2 == 0)
   where
     pick : (t : Bool) → (old : Contribution) × (slice_get (if t then b.even else b.odd) rank ≡ Some old)
-    pick true = there-within b.even rank (let long = room.even in omega arith)
-    pick false = there-within b.odd rank (let long = room.odd in omega arith)
+    pick true = there-within b.even rank (let long = capacity.even in omega arith)
+    pick false = there-within b.odd rank (let long = capacity.odd in omega arith)
 
-module _ (b : Buffers) (room : HasCapacity b) (rank : ℕ) (c : Contribution) (below : rank < 16) where
+module _ (b : Buffers) (capacity : HasCapacity b) (rank : ℕ) (c : Contribution) (below : rank < 16) where
   -- counts
   pub joined-now : joined_by (with_contribution b rank c) rank ≡ joined_by b rank + 1
-  joined-now = get_or-set_same b.joined rank (joined_by b rank + 1) 0 (let long = room.joined in omega arith)
+  joined-now = get_or-set_same b.joined rank (joined_by b rank + 1) 0 (let long = capacity.joined in omega arith)
 
   pub joined-other : (r : ℕ) → r ≢ rank → joined_by (with_contribution b rank c) r ≡ joined_by b r
   joined-other r apart = get_or-set_other b.joined rank r (joined_by b rank + 1) 0 apart
@@ -100,7 +100,7 @@ module _ (b : Buffers) (room : HasCapacity b) (rank : ℕ) (c : Contribution) (b
   contributed-now =
       let count = joined-now in
       let test = less (joined_by b rank) (joined_by b rank + 1) (omega arith) in
-      let there = slot b room (joined_by b rank) rank below in
+      let there = slot b capacity (joined_by b rank) rank below in
       rw (count, test) (ap (λ (items : List Contribution). slice_get items rank) (same_parity (joined_by b rank % 2 == 0) b.even b.odd rank c) ∙ slice_get-set_same (buffer_of b (joined_by b rank)) rank there.0 c there.1)
 
   pub contributed-before : (round : ℕ) → round + 1 ≡ joined_by b rank → contribution_by (with_contribution b rank c) round rank ≡ contribution_by b round rank
@@ -116,13 +116,13 @@ module _ (b : Buffers) (room : HasCapacity b) (rank : ℕ) (c : Contribution) (b
       let test = not_less round (joined_by b rank + 1) (omega arith) in
       rw (count, test) refl
 
-  -- room stays
-  pub room-contributed : HasCapacity (with_contribution b rank c)
-  room-contributed = record {
-    joined = length-set b.joined rank (joined_by b rank + 1) ∙ room.joined;
-    completed = room.completed;
-    even = kept (joined_by b rank % 2 == 0) b.even room.even;
-    odd = left (joined_by b rank % 2 == 0) b.odd room.odd;
+  -- the capacity stays
+  pub capacity-contributed : HasCapacity (with_contribution b rank c)
+  capacity-contributed = record {
+    joined = length-set b.joined rank (joined_by b rank + 1) ∙ capacity.joined;
+    completed = capacity.completed;
+    even = kept (joined_by b rank % 2 == 0) b.even capacity.even;
+    odd = left (joined_by b rank % 2 == 0) b.odd capacity.odd;
   }
     where
       kept : (t : Bool) (items : List Contribution) → length items ≡ 16 → length (if t then slice_set items rank c else items) ≡ 16

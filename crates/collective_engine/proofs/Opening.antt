@@ -13,10 +13,10 @@ zeros (suc n) (suc i) = zeros n i
 
 pub opens : (members : Option ℕ) (ranks : List ℕ) (b : Buffers) → ranks ≡ ranks_of members → HasCapacity b → b.joined ≡ replicate 16 0 → b.completed ≡ replicate 16 0
     → IsRounds (record { members = members; ranks = ranks; buffers = b })
-opens members ranks b listed room joined completed = record {
+opens members ranks b listed capacity joined completed = record {
   ranks = listed;
   rounds = record {
-    room = room;
+    capacity = capacity;
     close = record {
       least = λ r. let none = left_none r in omega arith;
       greatest = λ r. let none = joined_none r in omega arith;

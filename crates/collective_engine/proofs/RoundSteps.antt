@@ -6,10 +6,10 @@ use Rattle.gaspi_types.specs.Collectives.{first_contribution, fixed_by, is_full}
 use Rattle.gaspi_types.specs.declared.collectives.Coll.{Coll}
 use Rattle.gaspi_types.specs.declared.groups.Contribution.{Contribution}
 use Rattle.gaspi_model.specs.RoundRules.{coll_in}
-use Rattle.collective_engine.specs.Slots.{HasItsValues}
+use Rattle.collective_engine.specs.KeptContributions.{HasItsValues}
 use Rattle.collective_engine.specs.RoundBuffers.{ranks_of, is_in, IsMember, joined_by, completed_by, contribution_by, with_contribution, with_round_completed, AreWithinOneRound, AreRoundBuffers}
 use Rattle.collective_engine.specs.declared.buffers.Buffers.{Buffers}
-use Rattle.collective_engine.proofs.Giving.{joined-now, joined-other, contributed-other, contributed-now, contributed-before, contributed-later, room-contributed, ordered, contributed_joined, some_joined}
+use Rattle.collective_engine.proofs.Giving.{joined-now, joined-other, contributed-other, contributed-now, contributed-before, contributed-later, capacity-contributed, ordered, contributed_joined, some_joined}
 use Rattle.collective_engine.proofs.Members.{all_members, each_member, first_from, none_contributed, all_tested}
 
 -- a member, in whichever way the members are fixed
@@ -35,8 +35,8 @@ module _ (members : Option ℕ) (b : Buffers) (rank : ℕ) (c : Contribution) (o
 
   more_joined : (r : ℕ) → joined_by b r ≤ joined_by (with_contribution b rank c) r
   more_joined r = same-or-not r rank
-      (λ same. rw same (let now = joined-now b ok.room rank c below in omega arith))
-      (λ apart. let now = joined-other b ok.room rank c below r apart in omega arith)
+      (λ same. rw same (let now = joined-now b ok.capacity rank c below in omega arith))
+      (λ apart. let now = joined-other b ok.capacity rank c below r apart in omega arith)
 
   near_contributed : (m n : ℕ) → IsMember (fixed_by members c.args.coll) m → IsMember (fixed_by members c.args.coll) n → completed_by b m ≤ joined_by (with_contribution b rank c) n
   near_contributed m n first second = go (kept_member members c.args.coll m first) (kept_member members c.args.coll n second)
@@ -53,8 +53,8 @@ module _ (members : Option ℕ) (b : Buffers) (rank : ℕ) (c : Contribution) (o
   close_contributed = record {
     least = λ r. let more = more_joined r in let was = ok.close.least r in omega arith;
     greatest = λ r. same-or-not r rank
-        (λ same. rw same (let now = joined-now b ok.room rank c below in omega arith))
-        (λ apart. let now = joined-other b ok.room rank c below r apart in let was = ok.close.greatest r in omega arith);
+        (λ same. rw same (let now = joined-now b ok.capacity rank c below in omega arith))
+        (λ apart. let now = joined-other b ok.capacity rank c below r apart in let was = ok.close.greatest r in omega arith);
     early = λ none r. absurd (not_none members c.args.coll rank mine none);
     near = near_contributed;
   }
@@ -63,18 +63,18 @@ module _ (members : Option ℕ) (b : Buffers) (rank : ℕ) (c : Contribution) (o
   was_contributed : (round m : ℕ) (d : Contribution) → joined_by (with_contribution b rank c) m ≤ round + 2 → contribution_by (with_contribution b rank c) round m ≡ Some d
       → ((round ≡ joined_by b rank) × (d ≡ c)) ⊎ ((joined_by b m ≤ round + 2) × (contribution_by b round m ≡ Some d))
   was_contributed round m d bound at = same-or-not m rank (own m bound at)
-      (λ apart. inr (let more = more_joined m in omega arith, sym (contributed-other b ok.room rank c below round m apart) ∙ at))
+      (λ apart. inr (let more = more_joined m in omega arith, sym (contributed-other b ok.capacity rank c below round m apart) ∙ at))
     where
       own : (m : ℕ) → joined_by (with_contribution b rank c) m ≤ round + 2 → contribution_by (with_contribution b rank c) round m ≡ Some d → m ≡ rank
           → ((round ≡ joined_by b rank) × (d ≡ c)) ⊎ ((joined_by b m ≤ round + 2) × (contribution_by b round m ≡ Some d))
       own m bound at same =
           let here = rw same at at in
           let near = rw same at bound in
-          let now = joined-now b ok.room rank c below in
+          let now = joined-now b ok.capacity rank c below in
           rw same (ordered round (joined_by b rank)
-          (λ before. inr (omega arith, sym (contributed-before b ok.room rank c below round (omega arith)) ∙ here))
-          (λ this. inl (this, (let is = contributed-now b ok.room rank c below in let there = rw this at here in let equal : c ≡ d = cc in sym equal)))
-          (λ later. absurd (let none = contributed-later b ok.room rank c below round later in let no : ⊥ = cc in no)))
+          (λ before. inr (omega arith, sym (contributed-before b ok.capacity rank c below round (omega arith)) ∙ here))
+          (λ this. inl (this, (let is = contributed-now b ok.capacity rank c below in let there = rw this at here in let equal : c ≡ d = cc in sym equal)))
+          (λ later. absurd (let none = contributed-later b ok.capacity rank c below round later in let no : ⊥ = cc in no)))
 
   -- who has given is a member already
   old_member : (round m : ℕ) (d : Contribution) → IsMember (fixed_by members c.args.coll) m → contribution_by b round m ≡ Some d → IsMember members m
@@ -132,7 +132,7 @@ module _ (members : Option ℕ) (b : Buffers) (rank : ℕ) (c : Contribution) (o
     -- a join keeps the rounds in order
     pub rounds-given : HasItsValues c.args → AreRoundBuffers (fixed_by members c.args.coll) (with_contribution b rank c)
     rounds-given values = record {
-      room = room-contributed b ok.room rank c below;
+      capacity = capacity-contributed b ok.capacity rank c below;
       close = close_contributed;
       agree = record { alike = alike_given; whole = whole_given values };
     }
@@ -145,7 +145,7 @@ full_for members b round full m its =
 
 module _ (members : Option ℕ) (b : Buffers) (rank : ℕ) (ok : AreRoundBuffers members b) (below : rank < 16) (mine : is_in members rank ≡ true) (full : is_full (contribution_by b (completed_by b rank)) (ranks_of members) ≡ true) where
   pub completed-now : completed_by (with_round_completed b rank) rank ≡ completed_by b rank + 1
-  completed-now = get_or-set_same b.completed rank (completed_by b rank + 1) 0 (let long = ok.room.completed in omega arith)
+  completed-now = get_or-set_same b.completed rank (completed_by b rank + 1) 0 (let long = ok.capacity.completed in omega arith)
 
   pub completed-other : (r : ℕ) → r ≢ rank → completed_by (with_round_completed b rank) r ≡ completed_by b r
   completed-other r apart = get_or-set_other b.completed rank r (completed_by b rank + 1) 0 apart
@@ -156,11 +156,11 @@ module _ (members : Option ℕ) (b : Buffers) (rank : ℕ) (ok : AreRoundBuffers
   -- a leave keeps the rounds in order
   pub rounds-left : AreRoundBuffers members (with_round_completed b rank)
   rounds-left = record {
-    room = record {
-      joined = ok.room.joined;
-      completed = length-set b.completed rank (completed_by b rank + 1) ∙ ok.room.completed;
-      even = ok.room.even;
-      odd = ok.room.odd;
+    capacity = record {
+      joined = ok.capacity.joined;
+      completed = length-set b.completed rank (completed_by b rank + 1) ∙ ok.capacity.completed;
+      even = ok.capacity.even;
+      odd = ok.capacity.odd;
     };
     close = record {
       least = λ r. same-or-not r rank

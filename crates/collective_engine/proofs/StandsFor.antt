@@ -89,25 +89,25 @@ module _ (g : Group) (t : RoundBuffers) (rank : ℕ) (c : Contribution) (ok : Ar
   own_contributed : (round : ℕ) → joined_by (with_contribution t.buffers rank c) rank ≤ round + 2 → slice_get ((contributions_of g rank).contributions ++ c ∷ []) round ≡ contribution_by (with_contribution t.buffers rank c) round rank
   own_contributed round bound =
       let long = stands.joined rank in
-      let now = joined-now t.buffers ok.room rank c below in
+      let now = joined-now t.buffers ok.capacity rank c below in
       ordered round (joined_by t.buffers rank)
-      (λ before. prefix-of-joined (contributions_of g rank).contributions (c ∷ []) round (omega arith) ∙ stands.given round rank (omega arith) ∙ sym (contributed-before t.buffers ok.room rank c below round (omega arith)))
-      (λ this. behind-of-joined (contributions_of g rank).contributions (c ∷ []) 0 round (omega arith) ∙ (rw this (sym (contributed-now t.buffers ok.room rank c below))))
-      (λ later. past ((contributions_of g rank).contributions ++ c ∷ []) round (omega (arith, length-append (contributions_of g rank).contributions (c ∷ []))) ∙ sym (contributed-later t.buffers ok.room rank c below round later))
+      (λ before. prefix-of-joined (contributions_of g rank).contributions (c ∷ []) round (omega arith) ∙ stands.given round rank (omega arith) ∙ sym (contributed-before t.buffers ok.capacity rank c below round (omega arith)))
+      (λ this. behind-of-joined (contributions_of g rank).contributions (c ∷ []) 0 round (omega arith) ∙ (rw this (sym (contributed-now t.buffers ok.capacity rank c below))))
+      (λ later. past ((contributions_of g rank).contributions ++ c ∷ []) round (omega (arith, length-append (contributions_of g rank).contributions (c ∷ []))) ∙ sym (contributed-later t.buffers ok.capacity rank c below round later))
 
   pub stands-joined : StandsFor (with_joined g rank c) (record { members = fixed_by t.members c.args.coll; buffers = with_contribution t.buffers rank c })
   stands-joined = record {
     members = ap (λ (o : Option ℕ). fixed_by o c.args.coll) stands.members;
     joined = λ r. same-or-not r rank
-        (λ same. rw same (ap (λ (p : RankContributions). length p.contributions) joined_here ∙ length-append (contributions_of g rank).contributions (c ∷ []) ∙ (let long = stands.joined rank in let now = joined-now t.buffers ok.room rank c below in omega arith)))
-        (λ apart. ap (λ (p : RankContributions). length p.contributions) (joined_there r apart) ∙ stands.joined r ∙ sym (joined-other t.buffers ok.room rank c below r apart));
+        (λ same. rw same (ap (λ (p : RankContributions). length p.contributions) joined_here ∙ length-append (contributions_of g rank).contributions (c ∷ []) ∙ (let long = stands.joined rank in let now = joined-now t.buffers ok.capacity rank c below in omega arith)))
+        (λ apart. ap (λ (p : RankContributions). length p.contributions) (joined_there r apart) ∙ stands.joined r ∙ sym (joined-other t.buffers ok.capacity rank c below r apart));
     completed = λ r. same-or-not r rank
         (λ same. rw same (ap (λ (p : RankContributions). p.completed) joined_here ∙ stands.completed rank))
         (λ apart. ap (λ (p : RankContributions). p.completed) (joined_there r apart) ∙ stands.completed r);
     given = λ round r bound. same-or-not r rank (own round r bound)
         (λ apart. ap (λ (p : RankContributions). slice_get p.contributions round) (joined_there r apart)
-        ∙ stands.given round r (let was = joined-other t.buffers ok.room rank c below r apart in omega arith)
-        ∙ sym (contributed-other t.buffers ok.room rank c below round r apart));
+        ∙ stands.given round r (let was = joined-other t.buffers ok.capacity rank c below r apart in omega arith)
+        ∙ sym (contributed-other t.buffers ok.capacity rank c below round r apart));
   }
     where
       own : (round r : ℕ) → joined_by (with_contribution t.buffers rank c) r ≤ round + 2 → r ≡ rank → contribution_in (with_joined g rank c) round r ≡ contribution_by (with_contribution t.buffers rank c) round r

@@ -1,3 +1,3 @@
 pub mod Rounds
-pub mod Slots
+pub mod KeptContributions
 pub mod RoundBuffers

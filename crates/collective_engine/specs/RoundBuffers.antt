@@ -5,7 +5,7 @@ use Rattle.gaspi_types.specs.Masks.{is_member}
 use Rattle.gaspi_types.specs.declared.collectives.Coll.{Coll}
 use Rattle.gaspi_types.specs.declared.groups.Contribution.{Contribution}
 use Rattle.gaspi_types.specs.declared.groups.Group.{Group}
-use Rattle.collective_engine.specs.Slots.{HasItsValues}
+use Rattle.collective_engine.specs.KeptContributions.{HasItsValues}
 use Rattle.collective_engine.specs.declared.buffers.Buffers.{Buffers}
 
 -- the members of a group, once they are fixed, and the buffers of its rounds
@@ -55,7 +55,7 @@ with_contribution b rank c = record b {
 abbrev pub with_round_completed : Buffers → ℕ → Buffers
 with_round_completed b rank = record b { completed = slice_set b.completed rank (completed_by b rank + 1) }
 
--- a slot of each buffer for each rank
+-- a place in each buffer for each rank
 pub record HasCapacity (b : Buffers) : Type 0 where
   pub joined : length b.joined ≡ 16
   pub completed : length b.completed ≡ 16
@@ -77,7 +77,7 @@ pub record AreSameCollective (members : Option ℕ) (b : Buffers) : Type 0 where
   pub whole : (round m : ℕ) (c : Contribution) → IsMember members m → joined_by b m ≤ round + 2 → contribution_by b round m ≡ Some c → HasItsValues c.args
 
 pub record AreRoundBuffers (members : Option ℕ) (b : Buffers) : Type 0 where
-  pub room : HasCapacity b
+  pub capacity : HasCapacity b
   pub close : AreWithinOneRound members b
   pub agree : AreSameCollective members b
 

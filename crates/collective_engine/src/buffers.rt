@@ -4,7 +4,7 @@ ghost use Rattle.std.specs.Prelude.{◌≡◌, ◌+◌, ◌<◌, ◌≤◌, leng
 ghost use Rattle.std.specs.Option.{option_copied};
 ghost use Rattle.collective_engine.specs.RoundBuffers.{joined_by, completed_by, buffer_of, contribution_by, with_contribution, with_round_completed, HasCapacity};
 
-use crate::slots::Slot;
+use crate::kept_contributions::KeptContribution;
 use gaspi_types::{Args, NoMemory, RankId, Sequence};
 use std::alloc::Global;
 
@@ -14,32 +14,32 @@ use std::alloc::Global;
 pub struct Buffers {
     pub(crate) joined: [u32; 16],
     pub(crate) completed: [u32; 16],
-    pub(crate) even: Sequence<Slot>,
-    pub(crate) odd: Sequence<Slot>,
+    pub(crate) even: Sequence<KeptContribution>,
+    pub(crate) odd: Sequence<KeptContribution>,
 }
 
-/// A slot for each rank.
-fn slots(alloc: Global) -> Result<Sequence<Slot>, NoMemory>
-    ensures { IfOk result (λ slots. length slots ≡ 16) }
+/// A place for the contribution of each rank.
+fn kept_contributions(alloc: Global) -> Result<Sequence<KeptContribution>, NoMemory>
+    ensures { IfOk result (λ kept. length kept ≡ 16) }
 {
-    let mut slots = Sequence::with_capacity(alloc, 16)?;
+    let mut kept = Sequence::with_capacity(alloc, 16)?;
     for _rank in 0..16u32 {
-        slots.push(Slot::empty(alloc)?)?;
+        kept.push(KeptContribution::empty(alloc)?)?;
     }
-    Ok(slots)
+    Ok(kept)
 }
 
 /// Buffers of rounds that no rank has joined.
 pub(crate) fn opening(alloc: Global) -> Result<Buffers, NoMemory>
-    ensures room { IfOk result HasCapacity }
+    ensures capacity { IfOk result HasCapacity }
     ensures joined { IfOk result (λ buffers. buffers.joined ≡ replicate 16 0) }
     ensures completed { IfOk result (λ buffers. buffers.completed ≡ replicate 16 0) }
 {
     Ok(Buffers {
         joined: [0; 16],
         completed: [0; 16],
-        even: slots(alloc)?,
-        odd: slots(alloc)?,
+        even: kept_contributions(alloc)?,
+        odd: kept_contributions(alloc)?,
     })
 }
 
@@ -55,7 +55,7 @@ pub(crate) fn counts(buffers: &Buffers, rank: RankId) -> (u32, u32)
 }
 
 /// The buffer of a round.
-fn buffer_of(buffers: &Buffers, round: u32) -> &Sequence<Slot>
+fn buffer_of(buffers: &Buffers, round: u32) -> &Sequence<KeptContribution>
     ensures { result.now ≡ buffer_of buffers.now round }
 {
     if round % 2 == 0 {
@@ -66,7 +66,7 @@ fn buffer_of(buffers: &Buffers, round: u32) -> &Sequence<Slot>
 }
 
 /// What a rank has given to a round, of its last two.
-pub(crate) fn given(buffers: &Buffers, round: u32, rank: RankId) -> Option<&Slot>
+pub(crate) fn given(buffers: &Buffers, round: u32, rank: RankId) -> Option<&KeptContribution>
     ensures { option_copied result ≡ contribution_by buffers.now round rank }
 {
     if round < buffers.joined[rank.index()] {
@@ -77,8 +77,8 @@ pub(crate) fn given(buffers: &Buffers, round: u32, rank: RankId) -> Option<&Slot
 }
 
 /// A rank gives to its round. What it overwrites is its contribution of two rounds before.
-pub(crate) fn give(buffers: &mut Buffers, rank: RankId, args: &Args, generation: u32)
-    requires room { HasCapacity buffers.old }
+pub(crate) fn contribute(buffers: &mut Buffers, rank: RankId, args: &Args, generation: u32)
+    requires capacity { HasCapacity buffers.old }
     requires count { joined_by buffers.old rank < 4294967295 }
     requires values { length args.now.values.items ≤ 255 }
     ensures { buffers.new ≡ with_contribution buffers.old rank (record { args = args.now; generation = generation }) }

@@ -4,7 +4,7 @@ ghost use Rattle.std.specs.Prelude.{◌≡◌, ◌≤◌, IsSome, length};
 ghost use Rattle.std.specs.List.{AllByRecursion};
 ghost use Rattle.gaspi_types.specs.Collectives.{values_in, reduced_onto, reduction_of};
 ghost use Rattle.gaspi_types.specs.NumberTypes.{AreInType};
-ghost use Rattle.collective_engine.specs.Slots.{GivesNumbers, AreInRange};
+ghost use Rattle.collective_engine.specs.KeptContributions.{GivesNumbers, AreInRange};
 ghost use Rattle.collective_engine.specs.RoundBuffers.{contribution_by};
 
 use crate::buffers::{Buffers, given};
@@ -43,7 +43,7 @@ fn fold_onto(
     }
 }
 
-/// What the numbers that some members have given to a round come to, put into a room that is large enough. All have given `count`
+/// What the numbers that some members have given to a round come to, put into a list that was reserved. All have given `count`
 /// numbers of a type.
 pub(crate) fn fold(
     buffers: &Buffers,
@@ -51,23 +51,23 @@ pub(crate) fn fold(
     op: Op,
     num_type: NumType,
     count: u32,
-    mut room: Sequence<i128>,
+    mut reserved: Sequence<i128>,
     members: &[RankId],
 ) -> Numbers
-    requires room { count ≤ length room }
+    requires reserved { count ≤ length reserved }
     requires given { AllByRecursion (λ m. GivesNumbers num_type count (contribution_by buffers.now round m)) members.now }
-    ensures fits { length result.items ≤ length room }
+    ensures fits { length result.items ≤ length reserved }
     ensures numbers { result ≡ reduction_of (contribution_by buffers.now round) op num_type members.now }
 {
     match members {
         [] => {
-            room.truncate(0);
-            Numbers::new(num_type, room)
+            reserved.truncate(0);
+            Numbers::new(num_type, reserved)
         }
         [first, others @ ..] => {
-            room.truncate(count as usize);
-            room.overwrite(0, values(buffers, round, *first));
-            let mut items = room.into_vec();
+            reserved.truncate(count as usize);
+            reserved.overwrite(0, values(buffers, round, *first));
+            let mut items = reserved.into_vec();
             fold_onto(buffers, round, op, num_type, items.as_mut_slice(), others);
             Numbers::new(num_type, Sequence::from_vec(items))
         }

@@ -10,9 +10,9 @@
 mod buffers;
 mod folding;
 mod generations;
+mod kept_contributions;
 mod reading;
 mod rounds;
-mod slots;
 
 pub use gaspi_model::{check_count, check_type};
 pub use generations::Generations;

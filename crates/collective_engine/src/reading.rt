@@ -18,7 +18,7 @@ pub(crate) fn first_coll(buffers: &Buffers, round: u32, members: &[RankId]) -> O
     match members {
         [] => None,
         [member, others @ ..] => match given(buffers, round, *member) {
-            Some(slot) => Some(slot.coll()),
+            Some(kept) => Some(kept.coll()),
             None => first_coll(buffers, round, others),
         },
     }
@@ -45,8 +45,8 @@ pub(crate) fn own_coll(buffers: &Buffers, rank: RankId) -> Option<Coll>
     ensures { result ≡ coll_in (contribution_by buffers.now (completed_by buffers.now rank) rank) }
 {
     let round = buffers.completed[rank.index()];
-    let slot = given(buffers, round, rank)?;
-    Some(slot.coll())
+    let kept = given(buffers, round, rank)?;
+    Some(kept.coll())
 }
 
 /// Whether each of some members has joined a round.
@@ -63,7 +63,7 @@ fn generation(buffers: &Buffers, round: u32, rank: RankId) -> u32
     ensures { result ≡ generation_in (contribution_by buffers.now round rank) }
 {
     match given(buffers, round, rank) {
-        Some(slot) => slot.generation(),
+        Some(kept) => kept.generation(),
         None => 0,
     }
 }

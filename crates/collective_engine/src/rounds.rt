@@ -9,7 +9,7 @@ ghost use Rattle.gaspi_types.specs.declared.groups.Group.{Group};
 ghost use Rattle.gaspi_model.specs.RoundRules.{coll_in};
 ghost use Rattle.collective_engine.specs.RoundBuffers.{ranks_of};
 
-use crate::buffers::{Buffers, counts, give, leave, opening};
+use crate::buffers::{Buffers, contribute, counts, leave, opening};
 use crate::folding::fold;
 use crate::generations::Generations;
 use crate::reading::{check, generations, is_full, own_coll};
@@ -60,7 +60,7 @@ fn fix(members: &mut Option<u32>, ranks: &mut Members, coll: Coll)
 }
 
 impl Rounds {
-    ghost use Rattle.collective_engine.specs.Slots.{HasItsValues, elements_of, TakesFold};
+    ghost use Rattle.collective_engine.specs.KeptContributions.{HasItsValues, elements_of, TakesFold};
     ghost use Rattle.collective_engine.specs.RoundBuffers.{is_in, may_join, own_contribution, is_full_for, StandsFor, IsOpening};
 
     /// A group that no rank has joined. Of group 0 the members are told, bit r for rank r; of another they are fixed by its first
@@ -99,7 +99,7 @@ impl Rounds {
         let place = rank.index();
         check(&self.buffers, self.ranks.ranks(), place, args.coll)?;
         fix(&mut self.members, &mut self.ranks, args.coll);
-        give(&mut self.buffers, rank, args, generation);
+        contribute(&mut self.buffers, rank, args, generation);
         Ok(())
     }
 
@@ -146,13 +146,13 @@ impl Rounds {
     }
 
     /// What the round of a rank comes to, which is a member: the numbers of all members, reduced in the order of their ranks. Every
-    /// member has joined the round, which is an allreduce, and the result is put into a room that is large enough, as `elements`
-    /// tells: it has no more numbers than that room. It takes no memory. (GASPI: allreduce)
-    pub fn result(&self, rank: RankId, room: Sequence<i128>) -> Numbers
+    /// member has joined the round, which is an allreduce, and the result is put into a list that was reserved, as `elements`
+    /// tells: it has no more numbers than that list. It takes no memory. (GASPI: allreduce)
+    pub fn result(&self, rank: RankId, reserved: Sequence<i128>) -> Numbers
         requires member { is_in self.now.members rank ≡ true }
         requires full { is_full_for self.now rank ≡ true }
-        requires room { TakesFold (elements_of (coll_in (own_contribution self.now rank))) (length room) }
-        ensures fits { length result.items ≤ length room }
+        requires reserved { TakesFold (elements_of (coll_in (own_contribution self.now rank))) (length reserved) }
+        ensures fits { length result.items ≤ length reserved }
         ensures numbers { (g : Group) (op : Op) (t : NumType) (n : ℕ) → StandsFor g self.now
             → coll_in (contribution_in g (round_of g rank) rank) ≡ Some (Allreduce op t n) → result ≡ round_reduction g rank op t }
     {
@@ -160,7 +160,7 @@ impl Rounds {
         match own_coll(&self.buffers, rank) {
             Some(Coll::Allreduce(op, num_type, count)) => {
                 let members = self.ranks.ranks();
-                fold(&self.buffers, round, op, num_type, count, room, members)
+                fold(&self.buffers, round, op, num_type, count, reserved, members)
             }
             _ => unreachable!(),
         }

@@ -22,7 +22,7 @@ use Rattle.gaspi_types.specs.declared.groups.PendingCollective.{PendingCollectiv
 use Rattle.gaspi_types.specs.declared.replies.Refusal.TheVariants.{BadCount, GroupMismatch}
 use Rattle.gaspi_types.specs.declared.shapes.Limits.{Limits}
 use Rattle.gaspi_types.proofs.Chains.{bind_then, check_holds, both}
-use Rattle.collective_engine.specs.Slots.{HasItsValues}
+use Rattle.collective_engine.specs.KeptContributions.{HasItsValues}
 use Rattle.collective_engine.specs.RoundBuffers.{RoundBuffers, StandsFor, is_in, joined_by, completed_by, may_join}
 use Rattle.gaspi_model.specs.CollectiveCalls.{element_checks, staged_at, plain_args, args_of, joining_call}
 use Rattle.gaspi_model.specs.Contributions.{AreSoundContributions, IsSoundGroup}

@@ -21,7 +21,7 @@ use Rattle.gaspi_types.specs.declared.groups.PendingCollective.{PendingCollectiv
 use Rattle.gaspi_types.specs.declared.replies.Reply.{Reply}
 use Rattle.gaspi_types.specs.declared.segments.SegmentTable.{SegmentTable}
 use Rattle.gaspi_model.specs.RoundRules.{coll_in}
-use Rattle.collective_engine.specs.Slots.{elements_of, TakesFold, HasItsValues}
+use Rattle.collective_engine.specs.KeptContributions.{elements_of, TakesFold, HasItsValues}
 use Rattle.collective_engine.specs.RoundBuffers.{RoundBuffers, own_contribution, is_in, may_join}
 use Rattle.gaspi_model.specs.CollectiveCalls.{joining_call, agreement_checks, completed_posts}
 use Rattle.gaspi_model.specs.Contributions.{IsSoundGroup, AreSoundContributions, HasBegun, IsResumable}

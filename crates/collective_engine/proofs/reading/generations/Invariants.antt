@@ -6,5 +6,5 @@ use Rattle.collective_engine.proofs.reading.generations.Given as goal
 abbrev pub invariant-loop-place : goal.invariant-loop-place
 invariant-loop-place l = record {
   made : take l.place l.made ≡ made_by (contribution_by l.buffers l.round) (take l.place l.members);
-  room : length l.made ≡ 16;
+  capacity : length l.made ≡ 16;
 }

@@ -12,7 +12,7 @@ returns-in_err-check-clause-answer c =
 pub invariant_of-self : goal.invariant_of-self
 invariant_of-self c =
     let place = c.index-place.ensures.value in
-    joins c.self.inside c.args.self.now c.self.view_is c.self.invariant c.args.rank (omega (arith, c.index-place.ensures.bound)) (record { args = c.args.args.now; generation = c.args.generation }) _ _ c.ranks.result.now _ c.requires.rank c.requires.values c.fix.ensures.members c.fix.ensures.ranks c.give.ensures c.ranks.ensures.ranks (rw place at c.in_ok-check.ensures.equal)
+    joins c.self.inside c.args.self.now c.self.view_is c.self.invariant c.args.rank (omega (arith, c.index-place.ensures.bound)) (record { args = c.args.args.now; generation = c.args.generation }) _ _ c.ranks.result.now _ c.requires.rank c.requires.values c.fix.ensures.members c.fix.ensures.ranks c.contribute.ensures c.ranks.ensures.ranks (rw place at c.in_ok-check.ensures.equal)
 
 pub returns-clause-answer : goal.returns-clause-answer
 returns-clause-answer c =
@@ -21,4 +21,4 @@ returns-clause-answer c =
 
 pub returns-clause-joined : goal.returns-clause-joined
 returns-clause-joined c =
-    joined-stands c.self.inside c.args.self.now c.self.view_is c.self.invariant c.args.rank (omega (arith, c.index-place.ensures.bound)) (record { args = c.args.args.now; generation = c.args.generation }) _ _ c.fix.ensures.members c.give.ensures
+    joined-stands c.self.inside c.args.self.now c.self.view_is c.self.invariant c.args.rank (omega (arith, c.index-place.ensures.bound)) (record { args = c.args.args.now; generation = c.args.generation }) _ _ c.fix.ensures.members c.contribute.ensures

@@ -1,7 +1,7 @@
 use Rattle.std.proofs.Common.{◌∙◌, ℕ, Some, sym, ap, subst, arith}
 use Rattle.std.specs.List.{AllByRecursion}
 use Rattle.gaspi_types.specs.declared.collectives.Coll.{Coll}
-use Rattle.collective_engine.specs.Slots.{GivesNumbers}
+use Rattle.collective_engine.specs.KeptContributions.{GivesNumbers}
 use Rattle.collective_engine.specs.RoundBuffers.{completed_by, contribution_by}
 use Rattle.collective_engine.proofs.Answering.{gives, folds}
 use Rattle.collective_engine.proofs.rounds.Rounds.result.Goals as goal

@@ -1,4 +1,4 @@
-//! The slot of one rank in one buffer. (GASPI: collectives)
+//! The contribution of one rank in one buffer. (GASPI: collectives)
 
 ghost use Rattle.std.specs.Prelude.{◌≡◌, ◌≤◌, length, IfOk};
 ghost use Rattle.gaspi_types.specs.NumberTypes.{AreInType};
@@ -7,36 +7,36 @@ use gaspi_types::{Args, Coll, NoMemory, NumType, Sequence};
 use std::alloc::Global;
 use std::marker::Model;
 
-/// Room for one contribution, of up to 255 numbers. Contracts see the contribution that it keeps.
+/// A contribution of up to 255 numbers, whose memory is taken once. Contracts see the contribution that it keeps.
 #[derive(Debug, Drop)]
-pub(crate) struct Slot {
+pub(crate) struct KeptContribution {
     coll: Coll,
     num_type: NumType,
     /// 255 numbers, of which the first `count` are those of the contribution.
-    room: Sequence<i128>,
+    numbers: Sequence<i128>,
     count: usize,
     generation: u32,
 }
 
-impl Model for Slot {
+impl Model for KeptContribution {
     ghost use Rattle.gaspi_types.specs.declared.groups.Contribution.{Contribution};
 
     ghost Value = { Contribution };
 
-    ghost use Rattle.collective_engine.specs.Slots.{kept_in, IsSlot};
+    ghost use Rattle.collective_engine.specs.KeptContributions.{kept_in, IsKeptContribution};
 
     ghost view = { kept_in };
 
-    ghost invariant = { IsSlot };
+    ghost invariant = { IsKeptContribution };
 }
 
-impl Slot {
-    /// A slot that keeps nothing that is ever read. All its memory is taken here.
-    pub(crate) fn empty(alloc: Global) -> Result<Slot, NoMemory> {
-        Ok(Slot {
+impl KeptContribution {
+    /// One that keeps nothing that is ever read. All its memory is taken here.
+    pub(crate) fn empty(alloc: Global) -> Result<KeptContribution, NoMemory> {
+        Ok(KeptContribution {
             coll: Coll::Barrier,
             num_type: NumType::Int,
-            room: Sequence::from_vec(vec![in alloc; 0; 255]?),
+            numbers: Sequence::from_vec(vec![in alloc; 0; 255]?),
             count: 0,
             generation: 0,
         })
@@ -50,7 +50,7 @@ impl Slot {
         let items = args.values.items();
         self.coll = args.coll;
         self.num_type = args.values.num_type();
-        self.room.overwrite(0, items);
+        self.numbers.overwrite(0, items);
         self.count = items.len();
         self.generation = generation;
     }
@@ -67,7 +67,7 @@ impl Slot {
         ensures items { result.now ≡ self.now.args.values.items }
         ensures range { AreInType self.now.args.values.num_type self.now.args.values.items }
     {
-        &self.room.as_slice()[..self.count]
+        &self.numbers.as_slice()[..self.count]
     }
 
     /// The generation of the contribution.

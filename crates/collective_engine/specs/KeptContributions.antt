@@ -1,4 +1,4 @@
--- The contribution that a slot keeps. (GASPI: collectives)
+-- The contribution of a rank that is kept. (GASPI: collectives)
 use Rattle.std.specs.Prelude.{◌≡◌, ℕ, ◌≤◌, length, take, Option, None, Some}
 use Rattle.gaspi_types.specs.Collectives.{HaveOwnValues}
 use Rattle.gaspi_types.specs.NumberTypes.{AreInType}
@@ -7,21 +7,21 @@ use Rattle.gaspi_types.specs.declared.collectives.Coll.TheVariants.{Allreduce}
 use Rattle.gaspi_types.specs.declared.collectives.NumType.{NumType}
 use Rattle.gaspi_types.specs.declared.groups.Args.{Args}
 use Rattle.gaspi_types.specs.declared.groups.Contribution.{Contribution}
-use Rattle.collective_engine.specs.declared.slots.Slot.TheInside.{Inside}
+use Rattle.collective_engine.specs.declared.kept_contributions.KeptContribution.TheInside.{Inside}
 
--- its numbers are the first of its room
+-- its numbers are the first of those that are kept
 abbrev pub kept_in : Inside → Contribution
 kept_in s = record {
-  args = record { coll = s.coll; values = record { num_type = s.num_type; items = take s.count s.room } };
+  args = record { coll = s.coll; values = record { num_type = s.num_type; items = take s.count s.numbers } };
   generation = s.generation;
 }
 
-pub record IsSlot (s : Inside) : Type 0 where
-  pub room : length s.room ≡ 255
+pub record IsKeptContribution (s : Inside) : Type 0 where
+  pub capacity : length s.numbers ≡ 255
   pub count : s.count ≤ 255
-  pub range : AreInType s.num_type (take s.count s.room)
+  pub range : AreInType s.num_type (take s.count s.numbers)
 
--- whole arguments, whose values a slot has room for
+-- whole arguments, whose values fit
 abbrev pub HasItsValues : Args → Type 0
 HasItsValues args = HaveOwnValues args × (length args.values.items ≤ 255)
 
@@ -40,7 +40,7 @@ abbrev pub elements_of : Option Coll → Option ℕ
 elements_of (Some (Allreduce op t n)) = Some n
 elements_of other = None
 
--- a room of so many places takes what an allreduce comes to
+-- a list of that length takes what an allreduce comes to
 abbrev pub TakesFold : Option ℕ → ℕ → Type 0
-TakesFold None room = ⊥
-TakesFold (Some n) room = n ≤ room
+TakesFold None reserved = ⊥
+TakesFold (Some n) reserved = n ≤ reserved
