@@ -121,7 +121,7 @@ fn is_of_its_journal(alloc: Global, answer: &Answer, told: &[u8]) -> bool {
 }
 
 /// Whether the world of two resets is so answered on threads.
-fn tells_its_journal<R: Threads + Wait + Sync + Abort>(
+fn writes_its_journal<R: Threads + Wait + Sync + Abort>(
     rt: &R,
     alloc: Global,
     source: &mut SureSource,
@@ -135,6 +135,6 @@ fn tells_its_journal<R: Threads + Wait + Sync + Abort>(
 fn a_run_on_threads_tells_its_own_journal(rt: HostRuntime) -> Result<(), Fail> {
     let mut source = source_of(rt.alloc(), TWO_RESETS)?;
     let mut sink = SureSink::with_capacity(rt.alloc(), 1000)?;
-    assert!(rt; tells_its_journal(&rt, rt.alloc(), &mut source, &mut sink));
+    assert!(rt; writes_its_journal(&rt, rt.alloc(), &mut source, &mut sink));
     Ok(())
 }

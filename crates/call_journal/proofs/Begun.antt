@@ -17,7 +17,7 @@ use Rattle.gaspi_model.specs.declared.states.Posts.{Posts}
 use Rattle.gaspi_model.specs.declared.states.State.{State}
 use Rattle.gaspi_model.proofs.Histories.{reached-sound}
 use Rattle.call_journal.specs.Explanations.{IsPostedAt}
-use Rattle.call_journal.specs.LaneWrites.{post_of, entries_in, goes_to, is_note}
+use Rattle.call_journal.specs.LaneWrites.{post_of, entries_in, goes_to, is_notification_of}
 use Rattle.call_journal.specs.declared.lane_writes.EntryPut.{EntryPut}
 use Rattle.call_journal.specs.declared.lane_writes.Post.{Post}
 use Rattle.call_journal.proofs.Places.{IsStepAt, step-at, stands-in, stands-below, is-standing, same-state}
@@ -104,21 +104,21 @@ module _ (w : ShapeValue) (world : IsShape w) (journal : List Event) (legal : is
           }
 
   -- whether the entry itself is a notification
-  pub note-more : (noted : Bool) → (noted ≡ true → at.number < next)
-      → ((s : State) (x : Entry) → reached w (take place journal) ≡ Ok s → entry_after s at.origin at.queue at.target at.number ≡ Some x → is_notify x ≡ noted)
-      → (t : State) (x : Entry) → reached w (take (place + 1) journal) ≡ Ok t → entry_after t at.origin at.queue at.target at.number ≡ Some x → is_notify x ≡ (noted || is_note at next (post_of at.origin e))
-  note-more noted posted note t x leads stands =
+  pub note-more : (notified : Bool) → (notified ≡ true → at.number < next)
+      → ((s : State) (x : Entry) → reached w (take place journal) ≡ Ok s → entry_after s at.origin at.queue at.target at.number ≡ Some x → is_notify x ≡ notified)
+      → (t : State) (x : Entry) → reached w (take (place + 1) journal) ≡ Ok t → entry_after t at.origin at.queue at.target at.number ≡ Some x → is_notify x ≡ (notified || is_notification_of at next (post_of at.origin e))
+  note-more notified posted note t x leads stands =
       let same = same-state (reached w (take (place + 1) journal)) t here.t leads here.later in
       let i = stands-in here.t at.origin at.queue at.target at.number x (subst (λ (y : State). entry_after y at.origin at.queue at.target at.number ≡ Some x) same stands) in
       let from = from-before here.s here.t e here.step_is at.origin i.posts i.there in
       go from (entry-from here.s.limits e at.origin from.before i.posts from.changed at.queue at.target at.number x.kind i.in_queues)
     where
       -- one that stood before was not posted now
-      not-now : {new : Posts} (from : FromBefore here.s e at.origin new) → at.number < next → (o : Option Post) → post_of at.origin e ≡ o → is_note at next o ≡ false
+      not-now : {new : Posts} (from : FromBefore here.s e at.origin new) → at.number < next → (o : Option Post) → post_of at.origin e ≡ o → is_notification_of at next o ≡ false
       not-now from below None is = refl
       not-now {new} from below (Some post) is =
           let some = posted-some here.s.limits e at.origin from.before new from.changed post is in
-          rw (ne_eqb (next + post.posting.entries) (at.number + 1) (λ same. let no : ⊥ = omega arith in no)) (no-note (goes_to at post) post.noted)
+          rw (ne_eqb (next + post.posting.entries) (at.number + 1) (λ same. let no : ⊥ = omega arith in no)) (no-note (goes_to at post) post.notified)
         where
           no-note : (a b : Bool) → (a && (b && false)) ≡ false
           no-note true true = refl
@@ -134,23 +134,23 @@ module _ (w : ShapeValue) (world : IsShape w) (journal : List Event) (legal : is
           (λ same. eq-eqb (a + 1) b same ∙ sym (eq-eqb (c + b) (c + a + 1) (omega arith)))
           (λ apart. ne_eqb (a + 1) b apart ∙ sym (ne_eqb (c + b) (c + a + 1) (λ same. apart (omega arith))))
 
-      fresh : (b : Bool) → noted ≡ b → next ≤ at.number → noted ≡ false
+      fresh : (b : Bool) → notified ≡ b → next ≤ at.number → notified ≡ false
       fresh true is above = absurd (let below = posted is in let no : ⊥ = omega arith in no)
       fresh false is above = is
 
       go : {new : Posts} (from : FromBefore here.s e at.origin new) → InQueues from.before.queues at.queue at.target at.number x.kind ⊎ IsNew at.origin e at.queue at.target from.before.next at.number x.kind
-          → is_notify x ≡ (noted || is_note at next (post_of at.origin e))
+          → is_notify x ≡ (notified || is_notification_of at next (post_of at.origin e))
       go from (inl old) =
           let entry = is-standing here.s at.origin at.queue at.target at.number x.kind from.before before-sound from.there old in
           let below = stands-below here.s at.origin at.queue at.target at.number x.kind from.before before-sound from.there old in
           let is_next = numbered here.s from.before here.before from.there in
-          ap is_notify_kind (sym entry.2) ∙ note here.s entry.0 here.before entry.1 ∙ or-false noted
-          ∙ ap (λ (b : Bool). noted || b) (sym (not-now from (omega arith) (post_of at.origin e) refl))
+          ap is_notify_kind (sym entry.2) ∙ note here.s entry.0 here.before entry.1 ∙ or-false notified
+          ∙ ap (λ (b : Bool). notified || b) (sym (not-now from (omega arith) (post_of at.origin e) refl))
       go from (inr new) =
           let is_next = numbered here.s from.before here.before from.there in
           let number = new.numbered in
-          let not_before = fresh noted refl (omega arith) in
+          let not_before = fresh notified refl (omega arith) in
           let goes = goes-there at new.post new.to_target new.to_queue in
           let number' : at.number ≡ next + new.place = omega arith in
           let tests = shifted new.place new.post.posting.entries next in
-          rw (not_before, new.is, goes) (new.note ∙ ap (λ (b : Bool). new.post.noted && b) (tests ∙ ap (λ (n : ℕ). next + new.post.posting.entries == n + 1) (sym number')))
+          rw (not_before, new.is, goes) (new.note ∙ ap (λ (b : Bool). new.post.notified && b) (tests ∙ ap (λ (n : ℕ). next + new.post.posting.entries == n + 1) (sym number')))

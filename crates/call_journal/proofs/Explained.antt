@@ -115,9 +115,9 @@ none-any : {A : Type 0} (p : A → Bool) (xs : List A) → ((k : ℕ) (x : A) �
 none-any p [] none = refl
 none-any p (x ∷ xs) none = rw (none 0 x refl) (none-any p xs (λ k y at. none (suc k) y at))
 
-module _ (w : ShapeValue) (world : IsShape w) (journal : List Event) (legal : is_legal w journal ≡ true) (place : ℕ) (at : EntryPut) (there : IsPutAt journal at at.number place) (next : ℕ) (noted : Bool) (writes : List LaneWrite) (tracked : IsTracked w journal place at next noted writes) where
+module _ (w : ShapeValue) (world : IsShape w) (journal : List Event) (legal : is_legal w journal ≡ true) (place : ℕ) (at : EntryPut) (there : IsPutAt journal at at.number place) (next : ℕ) (notified : Bool) (writes : List LaneWrite) (tracked : IsTracked w journal place at next notified writes) where
   -- an entry stands there that is put, and it is a notification where it was posted as one
-  pub note-stands : noted ≡ true → IsNotificationPut w journal place at.origin at.queue at.target at.number
+  pub note-stands : notified ≡ true → IsNotificationPut w journal place at.origin at.queue at.target at.number
   note-stands is =
       let here = step-at w journal place _ legal there in
       let made = step-put here.s here.t at.origin at.queue at.target at.number Applied here.step_is in
@@ -129,7 +129,7 @@ module _ (w : ShapeValue) (world : IsShape w) (journal : List Event) (legal : is
         stands = record { state = here.s; entry = made.3.entry; leads = here.before; stands = stands; kind = tracked.note here.s made.3.entry here.before stands ∙ is };
       }
 
-  pub no-note : noted ≡ false → (origin queue target number : ℕ) → IsNotificationPut w journal place origin queue target number → ⊥
+  pub no-note : notified ≡ false → (origin queue target number : ℕ) → IsNotificationPut w journal place origin queue target number → ⊥
   no-note is origin queue target number put =
       let same : ◌≡◌ {A = Option Event} (Some (Put at.origin at.queue at.target at.number Applied)) (Some (Put origin queue target number Applied)) = sym there ∙ put.there in
       let origin_is : origin ≡ at.origin = cc in
@@ -168,7 +168,7 @@ module _ (w : ShapeValue) (world : IsShape w) (journal : List Event) (legal : is
       go (Some put) is has = (put, is, has.0, has.1)
       go None is has = absurd (none has)
 
-  pub explained : noted ≡ true → Rise 0 writes next → IsExplained w journal place (arrived at.number writes)
+  pub explained : notified ≡ true → Rise 0 writes next → IsExplained w journal place (arrived at.number writes)
   explained is rise =
       let note = note-stands is in
       record {

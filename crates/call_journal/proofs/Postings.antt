@@ -17,13 +17,13 @@ use Rattle.gaspi_types.specs.declared.entries.Kind.TheVariants as kinds_of
 use Rattle.gaspi_types.specs.declared.segments.Extent.{Extent}
 use Rattle.gaspi_types.specs.declared.segments.SegmentTable.{SegmentTable}
 use Rattle.gaspi_model.proofs.Asked.{AreTransfers, near_in, far_in, transfers-length, alone-ok, noted_writes-ok, noted_reads-ok, listed-ok}
-use Rattle.call_journal.specs.LaneWrites.{writes_in, is_noted}
+use Rattle.call_journal.specs.LaneWrites.{writes_in, posts_notification}
 
 -- Of so many entries the first ones are writes, and the last is a notification, or none is.
-pub record AreKinds (writes entries : ℕ) (noted : Bool) (kinds : List Kind) : Type 0 where
+pub record AreKinds (writes entries : ℕ) (notified : Bool) (kinds : List Kind) : Type 0 where
   pub count : length kinds ≡ entries
   pub write : (j : ℕ) (kind : Kind) → slice_get kinds j ≡ Some kind → is_write_kind kind ≡ nat_lt j writes
-  pub note : (j : ℕ) (kind : Kind) → slice_get kinds j ≡ Some kind → is_notify_kind kind ≡ (noted && (j + 1 == entries))
+  pub note : (j : ℕ) (kind : Kind) → slice_get kinds j ≡ Some kind → is_notify_kind kind ≡ (notified && (j + 1 == entries))
 
 out-kind : (near far : ℕ → Option Extent) (items : List Item) (kinds : List Kind) (j : ℕ) (kind : Kind) → AreTransfers Outward near far items kinds → slice_get kinds j ≡ Some kind
     → (is_write_kind kind ≡ true) × (is_notify_kind kind ≡ false)
@@ -116,12 +116,12 @@ listed-count items more h = rw h refl
 less-one : (n m : ℕ) → m ≡ n + 1 → n ≡ m - 1
 less-one n m is = omega arith
 
-as-writes : (a b entries : ℕ) (noted : Bool) (kinds : List Kind) → a ≡ b → AreKinds a entries noted kinds → AreKinds b entries noted kinds
-as-writes a b entries noted kinds same are = subst (λ (n : ℕ). AreKinds n entries noted kinds) same are
+as-writes : (a b entries : ℕ) (notified : Bool) (kinds : List Kind) → a ≡ b → AreKinds a entries notified kinds → AreKinds b entries notified kinds
+as-writes a b entries notified kinds same are = subst (λ (n : ℕ). AreKinds n entries notified kinds) same are
 
 -- what a call asks for that posts
 pub call-kinds : (notes me : ℕ) (table : SegmentTable) (call : Call) (to : Posting) (kinds : List Kind) → (row_of call).posting ≡ Some to → call_kinds notes me table call ≡ Ok kinds
-    → AreKinds (writes_in call) (entries_of call) (is_noted call) kinds
+    → AreKinds (writes_in call) (entries_of call) (posts_notification call) kinds
 call-kinds notes me table (Write call) to kinds is h = writes-kinds (near_in table) (far_in me table call.rank) (write_item call ∷ []) kinds 1 (alone-ok Outward me table call.rank (write_item call ∷ []) kinds h) refl
 call-kinds notes me table (Read call) to kinds is h = reads-kinds (near_in table) (far_in me table call.rank) (read_item call ∷ []) kinds 1 (alone-ok Inward me table call.rank (read_item call ∷ []) kinds h) refl
 call-kinds notes me table (Notify call) to kinds is h =

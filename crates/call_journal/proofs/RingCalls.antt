@@ -289,17 +289,17 @@ record IsRingAsked (kinds : List Kind) : Type 0 where
 ring-asked : (ranks me notes : ℕ) (queues : List Queue) (table : SegmentTable) (rank : ℕ) (item : Item) (kinds : List Kind) → item.rseg ≡ 0 → IsRingPosts ranks me queues table
     → writes_with_notification notes me table rank (item ∷ []) 0 0 1 ≡ Ok kinds → IsRingAsked kinds
 ring-asked ranks me notes queues table rank item kinds zero_there ring h =
-    let noted = noted_writes-ok notes me table rank (item ∷ []) 0 0 1 kinds h in
-    let one = one-transfer (near_in table) (far_in me table rank) item noted.transfers noted.are in
+    let notified = noted_writes-ok notes me table rank (item ∷ []) 0 0 1 kinds h in
+    let one = one-transfer (near_in table) (far_in me table rank) item notified.transfers notified.are in
     let ends = one.2.ends in
     let are = one.2.are in
     let theirs = far-zero ranks me queues table rank are.theirs ring (subst (λ (k : ℕ). known_extent me table rank k ≡ Some are.theirs) zero_there are.theirs_there) in
-    let known = far-zero ranks me queues table rank noted.theirs ring noted.theirs_there in
+    let known = far-zero ranks me queues table rank notified.theirs ring notified.theirs_there in
     record {
       own = ends.own;
       target = ends.target;
-      slot = slot_in noted.theirs 0 0;
-      are = noted.is ∙ ap (λ (xs : List Kind). xs ++ Notify (slot_in noted.theirs 0 0) 1 ∷ []) one.1 ∙ ap (λ (k : Kind). k ∷ Notify (slot_in noted.theirs 0 0) 1 ∷ []) one.2.is;
+      slot = slot_in notified.theirs 0 0;
+      are = notified.is ∙ ap (λ (xs : List Kind). xs ++ Notify (slot_in notified.theirs 0 0) 1 ∷ []) one.1 ∙ ap (λ (k : Kind). k ∷ Notify (slot_in notified.theirs 0 0) 1 ∷ []) one.2.is;
       first = (ap (λ (x : Endpoints). x.target.segment) are.are ∙ zero_there, ap (λ (x : Endpoints). x.target.generation) are.are ∙ theirs);
       second = (refl, known);
     }

@@ -221,7 +221,7 @@ put-applied ranks s t origin queue target number ring h =
     let new : IsRingLane ranks origin target lane = record {
       apart = λ other. absurd (other right);
       kinds = kinds-remove at.lane at.position lane_was.kinds;
-      closed = closed-remove p.next at.lane at.position e found.in_lane lane_was.kinds rising lane_was.closed (λ noted. put-first at.lane e.number e.kind noted may.1);
+      closed = closed-remove p.next at.lane at.position e found.in_lane lane_was.kinds rising lane_was.closed (λ notified. put-first at.lane e.number e.kind notified may.1);
     } in
     let notes = notes-remove at.lane at.position e found.in_lane in
     let owed = lane_owed-remove at.lane at.position e found.in_lane in

@@ -44,7 +44,7 @@ use Rattle.gaspi_model.proofs.Same.{same_reply-same}
 use Rattle.gaspi_model.proofs.Sound.Accounts.{asks-some, few-posted, post-ok}
 use Rattle.gaspi_model.proofs.Sound.Registered.{registering, registered-from}
 use Rattle.gaspi_model.proofs.Changed.Posted.{post-done}
-use Rattle.call_journal.specs.LaneWrites.{post_of, post_in, entries_in, goes_to, writes_to, writes_in, is_noted}
+use Rattle.call_journal.specs.LaneWrites.{post_of, post_in, entries_in, goes_to, writes_to, writes_in, posts_notification}
 use Rattle.call_journal.specs.declared.lane_writes.EntryPut.{EntryPut}
 use Rattle.call_journal.specs.declared.lane_writes.Post.{Post}
 use Rattle.call_journal.proofs.Postings.{AreKinds, call-kinds}
@@ -360,16 +360,16 @@ pub record IsNew (origin : ℕ) (e : Event) (queue target next m : ℕ) (kind : 
   pub place : ℕ
   pub numbered : m ≡ next + place
   pub write : is_write_kind kind ≡ nat_lt place post.writes
-  pub note : is_notify_kind kind ≡ (post.noted && (place + 1 == post.posting.entries))
+  pub note : is_notify_kind kind ≡ (post.notified && (place + 1 == post.posting.entries))
 
 -- what the row of a call says that posts
 row-entries : (call : Call) (to : Posting) → (row_of call).posting ≡ Some to → entries_of call ≡ to.entries
 row-entries call to posting = rw posting refl
 
 kinds-of : (limits : Limits) (origin : ℕ) (posts : Posts) (call : Call) (to : Posting) (kinds : List Kind) → (row_of call).posting ≡ Some to → requested_kinds limits origin posts call ≡ Ok kinds
-    → AreKinds (writes_in call) to.entries (is_noted call) kinds
+    → AreKinds (writes_in call) to.entries (posts_notification call) kinds
 kinds-of limits origin posts call to kinds posting asks =
-    subst (λ (n : ℕ). AreKinds (writes_in call) n (is_noted call) kinds) (row-entries call to posting) (call-kinds limits.notes origin posts.segments call to kinds posting asks)
+    subst (λ (n : ℕ). AreKinds (writes_in call) n (posts_notification call) kinds) (row-entries call to posting) (call-kinds limits.notes origin posts.segments call to kinds posting asks)
 
 -- the next number grows by the entries that an event posted
 pub next-after : (limits : Limits) (e : Event) (origin : ℕ) (old new : Posts) → Changed limits e origin old new → new.next ≡ old.next + entries_in (post_of origin e)
@@ -382,8 +382,8 @@ next-after limits e origin old new (Posted call to kinds is posting asks next qu
 pub posted-some : (limits : Limits) (e : Event) (origin : ℕ) (old new : Posts) → Changed limits e origin old new → (post : Post) → post_of origin e ≡ Some post → 1 ≤ post.posting.entries
 posted-some limits e origin old new (Quiet none next shrinks) post is = absurd (let some : ◌≡◌ {A = Option Post} None (Some post) = sym none ∙ is in let no : ⊥ = cc in no)
 posted-some limits e origin old new (Posted call to kinds by posting asks next queues) post is =
-    let some : ◌≡◌ {A = Option Post} (Some (record { posting = to; writes = writes_in call; noted = is_noted call })) (Some post) = sym by ∙ is in
-    let same : record { posting = to; writes = writes_in call; noted = is_noted call } ≡ post = cc in
+    let some : ◌≡◌ {A = Option Post} (Some (record { posting = to; writes = writes_in call; notified = posts_notification call })) (Some post) = sym by ∙ is in
+    let same : record { posting = to; writes = writes_in call; notified = posts_notification call } ≡ post = cc in
     subst (λ (p : Post). 1 ≤ p.posting.entries) same (asks-some limits origin old call to kinds posting asks)
 
 -- what stands after an event stood before, or was posted
@@ -402,7 +402,7 @@ entry-from limits e origin old new (Posted call to kinds is posting asks next qu
     fresh same here p =
         let are = kinds-of limits origin old call to kinds posting asks in
         record {
-          post = record { posting = to; writes = writes_in call; noted = is_noted call };
+          post = record { posting = to; writes = writes_in call; notified = posts_notification call };
           is = is;
           to_queue = same;
           to_target = sym here;
@@ -433,7 +433,7 @@ pub record IsPostDone (origin : ℕ) (e : Event) (post : Post) : Type 0 where
   pub mine : c.rank ≡ origin
   pub posting : (row_of call).posting ≡ Some post.posting
   pub writes : post.writes ≡ writes_in call
-  pub noted : post.noted ≡ is_noted call
+  pub notified : post.notified ≡ posts_notification call
 
 pub post-done-by : (origin : ℕ) (e : Event) (post : Post) → post_of origin e ≡ Some post → IsPostDone origin e post
 post-done-by origin (Called c call replies.Done) post h = by-rank (c.rank == origin) refl (row_of call).posting refl
@@ -442,8 +442,8 @@ post-done-by origin (Called c call replies.Done) post h = by-rank (c.rank == ori
     by-rank false is o at = absurd (let none : ◌≡◌ {A = Option Post} None (Some post) = rw is at h in let no : ⊥ = cc in no)
     by-rank true is None at = absurd (let none : ◌≡◌ {A = Option Post} None (Some post) = rw (is, at) at h in let no : ⊥ = cc in no)
     by-rank true is (Some to) at =
-        let some : ◌≡◌ {A = Option Post} (Some (record { posting = to; writes = writes_in call; noted = is_noted call })) (Some post) = rw (is, at) at h in
-        let same : record { posting = to; writes = writes_in call; noted = is_noted call } ≡ post = cc in
+        let some : ◌≡◌ {A = Option Post} (Some (record { posting = to; writes = writes_in call; notified = posts_notification call })) (Some post) = rw (is, at) at h in
+        let same : record { posting = to; writes = writes_in call; notified = posts_notification call } ≡ post = cc in
         record {
           c = c;
           call = call;
@@ -451,7 +451,7 @@ post-done-by origin (Called c call replies.Done) post h = by-rank (c.rank == ori
           mine = eqb-true c.rank origin is;
           posting = at ∙ ap (λ (p : Post). Some p.posting) same;
           writes = ap (λ (p : Post). p.writes) (sym same);
-          noted = ap (λ (p : Post). p.noted) (sym same);
+          notified = ap (λ (p : Post). p.notified) (sym same);
         }
 post-done-by origin (Called c call other) post h = absurd (let no : ⊥ = cc in no)
 post-done-by origin (Joined c id args) post h = absurd (let no : ⊥ = cc in no)

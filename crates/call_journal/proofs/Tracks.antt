@@ -13,7 +13,7 @@ use Rattle.gaspi_types.specs.declared.events.Outcome.TheVariants.{Applied, Faile
 use Rattle.gaspi_model.specs.Order.{is_purge_of}
 use Rattle.gaspi_model.specs.Step.{is_legal}
 use Rattle.call_journal.specs.Explanations.{IsPostedAt, IsUnpurged}
-use Rattle.call_journal.specs.LaneWrites.{post_of, entries_in, goes_to, put_in, put_here, with_put, new_writes, writes_to, is_note, writes_after}
+use Rattle.call_journal.specs.LaneWrites.{post_of, entries_in, goes_to, put_in, put_here, with_put, new_writes, writes_to, is_notification_of, writes_after}
 use Rattle.call_journal.specs.Tracked.{IsPutAt, HasPut, IsListed, IsTracked}
 use Rattle.call_journal.specs.declared.lane_writes.EntryPut.{EntryPut}
 use Rattle.call_journal.specs.declared.lane_writes.LaneWrite.{LaneWrite}
@@ -127,7 +127,7 @@ with_put-at (Some number) place writes k old at = record {
   number = (here-kept number place old).1;
 }
 
-module _ (w : ShapeValue) (world : IsShape w) (journal : List Event) (legal : is_legal w journal ≡ true) (place : ℕ) (e : Event) (there : slice_get journal place ≡ Some e) (at : EntryPut) (next : ℕ) (noted : Bool) (writes : List LaneWrite) (tracked : IsTracked w journal place at next noted writes) where
+module _ (w : ShapeValue) (world : IsShape w) (journal : List Event) (legal : is_legal w journal ≡ true) (place : ℕ) (e : Event) (there : slice_get journal place ≡ Some e) (at : EntryPut) (next : ℕ) (notified : Bool) (writes : List LaneWrite) (tracked : IsTracked w journal place at next notified writes) where
   abbrev purged : Bool
   purged = is_purge_of at.origin at.queue e
 
@@ -230,7 +230,7 @@ module _ (w : ShapeValue) (world : IsShape w) (journal : List Event) (legal : is
       (length base + b.place, record { post = place; number = next + b.place; put = None }, behind-of-joined base more b.place (length base + b.place) refl ∙ new-at place next count b.place (omega arith), refl, sym number)
 
   -- what is known a place further
-  pub tracked-more : IsTracked w journal (place + 1) at (next + entries_in (post_of at.origin e)) (noted || is_note at next (post_of at.origin e)) (writes_after at place e next writes)
+  pub tracked-more : IsTracked w journal (place + 1) at (next + entries_in (post_of at.origin e)) (notified || is_notification_of at next (post_of at.origin e)) (writes_after at place e next writes)
   tracked-more = record {
     numbered = next-more w world journal legal place e there at next tracked.numbered;
     listed = λ k x h. parts k x (append-parts base more k x h);
@@ -239,23 +239,23 @@ module _ (w : ShapeValue) (world : IsShape w) (journal : List Event) (legal : is
         (λ same. subst (λ (p : ℕ). (k : ℕ) × (x : LaneWrite) × (slice_get (base ++ more) k ≡ Some x) × (x.post ≡ p) × (x.number ≡ m)) (sym same)
         (all-new m (subst (λ (p : ℕ). IsPostedAt w journal p at.origin at.queue at.target m) same posted)))
         (λ apart. all-base purged refl post m (omega arith) posted unpurged);
-    note = note-more w world journal legal place e there at next tracked.numbered noted tracked.posted tracked.note;
-    posted = below noted refl (post_of at.origin e);
+    note = note-more w world journal legal place e there at next tracked.numbered notified tracked.posted tracked.note;
+    posted = below notified refl (post_of at.origin e);
   }
     where
       parts : (k : ℕ) (x : LaneWrite) → ((j : ℕ) × (slice_get base j ≡ Some x)) ⊎ ((j : ℕ) × (slice_get more j ≡ Some x)) → IsListed w journal (place + 1) at x
       parts k x (inl b) = listed-base purged refl b.0 x b.1
       parts k x (inr n) = listed-new n.0 x n.1
 
-      by-note : (o : Option Post) → is_note at next o ≡ true → at.number < next + entries_in o
+      by-note : (o : Option Post) → is_notification_of at next o ≡ true → at.number < next + entries_in o
       by-note None h = absurd (let no : ⊥ = cc in no)
       by-note (Some post) h =
-          let a = both (goes_to at post) (post.noted && (next + post.posting.entries == at.number + 1)) h in
-          let b = both post.noted (next + post.posting.entries == at.number + 1) a.1 in
+          let a = both (goes_to at post) (post.notified && (next + post.posting.entries == at.number + 1)) h in
+          let b = both post.notified (next + post.posting.entries == at.number + 1) a.1 in
           let same = eqb-true (next + post.posting.entries) (at.number + 1) b.1 in
           omega arith
 
-      below : (b : Bool) → noted ≡ b → (o : Option Post) → (noted || is_note at next o) ≡ true → at.number < next + entries_in o
+      below : (b : Bool) → notified ≡ b → (o : Option Post) → (notified || is_notification_of at next o) ≡ true → at.number < next + entries_in o
       below true is o h = let less = tracked.posted is in omega arith
       below false is o h = by-note o (rw is at h)
 
@@ -286,6 +286,6 @@ event-at {A} xs place before x within is =
     let same : x ≡ y.0 = is ∙ get_or_from_slice_get (take place xs) before y.0 x y.1 in
     (taken-from place xs before y.0 y.1).1 ∙ ap (λ (z : A). Some z) (sym same)
 
-pub tracked-as : (w : ShapeValue) (journal : List Event) (place : ℕ) (at : EntryPut) (next next' : ℕ) (noted noted' : Bool) (writes writes' : List LaneWrite) → next' ≡ next → noted' ≡ noted → writes' ≡ writes
-    → IsTracked w journal place at next noted writes → IsTracked w journal place at next' noted' writes'
-tracked-as w journal place at next next' noted noted' writes writes' a b c tracked = rw (a, b, c) tracked
+pub tracked-as : (w : ShapeValue) (journal : List Event) (place : ℕ) (at : EntryPut) (next next' : ℕ) (notified notified' : Bool) (writes writes' : List LaneWrite) → next' ≡ next → notified' ≡ notified → writes' ≡ writes
+    → IsTracked w journal place at next notified writes → IsTracked w journal place at next' notified' writes'
+tracked-as w journal place at next next' notified notified' writes writes' a b c tracked = rw (a, b, c) tracked

@@ -24,16 +24,16 @@ writes_in (WriteListNotify call) = entries_of (WriteListNotify call) - 1
 writes_in call = 0
 
 -- whether its last entry is a notification
-abbrev pub is_noted : Call → Bool
-is_noted (Notify call) = true
-is_noted (WriteNotify call) = true
-is_noted (WriteListNotify call) = true
-is_noted call = false
+abbrev pub posts_notification : Call → Bool
+posts_notification (Notify call) = true
+posts_notification (WriteNotify call) = true
+posts_notification (WriteListNotify call) = true
+posts_notification call = false
 
 -- what a caller of a rank posted by an event
 abbrev pub post_in : Call → Option Posting → Option Post
 post_in call None = None
-post_in call (Some to) = Some (record { posting = to; writes = writes_in call; noted = is_noted call })
+post_in call (Some to) = Some (record { posting = to; writes = writes_in call; notified = posts_notification call })
 
 abbrev pub post_of : ℕ → Event → Option Post
 post_of origin (Called c call replies.Done) = if c.rank == origin then post_in call (row_of call).posting else None
@@ -84,9 +84,9 @@ writes_to at None = 0
 writes_to at (Some post) = if goes_to at post then post.writes else 0
 
 -- whether it posts the entry itself, as a notification
-abbrev pub is_note : EntryPut → ℕ → Option Post → Bool
-is_note at next None = false
-is_note at next (Some post) = goes_to at post && (post.noted && (next + post.posting.entries == at.number + 1))
+abbrev pub is_notification_of : EntryPut → ℕ → Option Post → Bool
+is_notification_of at next None = false
+is_notification_of at next (Some post) = goes_to at post && (post.notified && (next + post.posting.entries == at.number + 1))
 
 -- the writes of the lane after an event: none of those before it after a purge
 abbrev pub writes_after : EntryPut → ℕ → Event → ℕ → List LaneWrite → List LaneWrite

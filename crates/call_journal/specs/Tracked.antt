@@ -32,13 +32,13 @@ pub record IsListed (w : ShapeValue) (journal : List Event) (place : ℕ) (at : 
 
 -- The writes of the lane of an entry at a place of a journal, the number of its origin's next entry, and whether the entry itself
 -- was posted as a notification.
-pub record IsTracked (w : ShapeValue) (journal : List Event) (place : ℕ) (at : EntryPut) (next : ℕ) (noted : Bool) (writes : List LaneWrite) : Type 0 where
+pub record IsTracked (w : ShapeValue) (journal : List Event) (place : ℕ) (at : EntryPut) (next : ℕ) (notified : Bool) (writes : List LaneWrite) : Type 0 where
   pub numbered : (s : State) (posts : Posts) → reached w (take place journal) ≡ Ok s → slice_get s.posts at.origin ≡ Some posts → posts.next ≡ next
   pub listed : (k : ℕ) (x : LaneWrite) → slice_get writes k ≡ Some x → IsListed w journal place at x
   pub all : (post m : ℕ) → post < place → IsPostedAt w journal post at.origin at.queue at.target m → IsUnpurged journal post place at.origin at.queue
       → (k : ℕ) × (x : LaneWrite) × (slice_get writes k ≡ Some x) × (x.post ≡ post) × (x.number ≡ m)
-  pub note : (s : State) (e : Entry) → reached w (take place journal) ≡ Ok s → entry_after s at.origin at.queue at.target at.number ≡ Some e → is_notify e ≡ noted
-  pub posted : noted ≡ true → at.number < next
+  pub note : (s : State) (e : Entry) → reached w (take place journal) ≡ Ok s → entry_after s at.origin at.queue at.target at.number ≡ Some e → is_notify e ≡ notified
+  pub posted : notified ≡ true → at.number < next
 
 -- the numbers of writes rise from one on, and are below another
 abbrev pub Rise : ℕ → List LaneWrite → ℕ → Type 0

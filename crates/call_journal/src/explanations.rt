@@ -22,7 +22,7 @@ fn explained(alloc: Global, journal: &Journal, place: u64) -> Result<WhyAnswer, 
         return Ok(WhyAnswer::NoNotification);
     };
     let found = lane_writes(alloc, journal, place as usize, &at)?;
-    if !found.noted {
+    if !found.notified {
         return Ok(WhyAnswer::NoNotification);
     }
     let writes = arrived(alloc, &found.writes, at.number)?;

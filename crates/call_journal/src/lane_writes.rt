@@ -5,7 +5,7 @@ ghost use Rattle.gaspi_model.specs.Order.{is_purge_of};
 ghost use Rattle.gaspi_model.specs.Step.{is_legal};
 ghost use Rattle.gaspi_types.specs.CallRows.{entries_of};
 ghost use Rattle.gaspi_types.specs.World.{ShapeValue, IsShape};
-ghost use Rattle.call_journal.specs.LaneWrites.{writes_in, is_noted, post_of, goes_to, entries_in, writes_to, is_note, put_in, put_of, put_at, with_put, new_writes, writes_after, arrived, arrived_one};
+ghost use Rattle.call_journal.specs.LaneWrites.{writes_in, posts_notification, post_of, goes_to, entries_in, writes_to, is_notification_of, put_in, put_of, put_at, with_put, new_writes, writes_after, arrived, arrived_one};
 ghost use Rattle.call_journal.specs.Tracked.{IsTracked, Rise};
 
 use crate::answers::ArrivedWrite;
@@ -28,7 +28,7 @@ pub struct EntryPut {
 pub struct Post {
     pub posting: Posting,
     pub writes: u32,
-    pub noted: bool,
+    pub notified: bool,
 }
 
 /// A write: the place of the call that posted it, its number, and the place of its put, where it is put.
@@ -53,8 +53,8 @@ fn writes_in(call: &Call) -> u32
 }
 
 /// Whether a call posts a notification.
-fn is_noted(call: &Call) -> bool
-    ensures { result ≡ is_noted call.now }
+fn posts_notification(call: &Call) -> bool
+    ensures { result ≡ posts_notification call.now }
 {
     matches!(
         call,
@@ -72,7 +72,7 @@ fn post_of(event: &Event, origin: RankId) -> Option<Post>
             Some(Post {
                 posting,
                 writes: writes_in(call),
-                noted: is_noted(call),
+                notified: posts_notification(call),
             })
         }
         _ => None,
@@ -108,11 +108,11 @@ fn writes_to(at: &EntryPut, post: Option<Post>) -> u32
 }
 
 /// Whether an entry itself was posted, as the notification of a post, where the first of the post had that number.
-fn is_note(at: &EntryPut, next: u32, post: Option<Post>) -> bool
-    ensures { result ≡ is_note at.now next post }
+fn is_notification_of(at: &EntryPut, next: u32, post: Option<Post>) -> bool
+    ensures { result ≡ is_notification_of at.now next post }
 {
     match post {
-        Some(post) if goes_to(at, &post) && post.noted => {
+        Some(post) if goes_to(at, &post) && post.notified => {
             let number = at.number;
             u64::from(next) + u64::from(post.posting.entries) == u64::from(number) + 1
         }
@@ -216,24 +216,24 @@ pub struct LaneWrites {
     /// The number of the next entry of its origin.
     pub next: u32,
     /// Whether the entry itself was posted as a notification.
-    pub noted: bool,
+    pub notified: bool,
     /// The writes that were posted since the last purge of its queue, by rising number.
     pub writes: Vec<LaneWrite>,
 }
 
 impl LaneWrites {
     /// Takes the event at a place in.
-    fn pass(&mut self, at: &EntryPut, place: u64, event: &Event) -> Result<(), NoMemory>
+    fn track(&mut self, at: &EntryPut, place: u64, event: &Event) -> Result<(), NoMemory>
         requires few { self.old.next ≤ 2 ^ 30 }
         requires rise { Rise 0 self.old.writes.items self.old.next }
         ensures next { OnOk result (self.new.next ≡ self.old.next + entries_in (post_of at.now.origin event.now)) }
-        ensures noted { OnOk result (self.new.noted ≡ (self.old.noted || is_note at.now self.old.next (post_of at.now.origin event.now))) }
+        ensures notified { OnOk result (self.new.notified ≡ (self.old.notified || is_notification_of at.now self.old.next (post_of at.now.origin event.now))) }
         ensures writes { OnOk result (self.new.writes.items ≡ writes_after at.now place event.now self.old.next self.old.writes.items) }
     {
         let post = post_of(event, at.origin);
         keep(&mut self.writes, at, place, event);
         add(&mut self.writes, place, self.next, writes_to(at, post))?;
-        self.noted |= is_note(at, self.next, post);
+        self.notified |= is_notification_of(at, self.next, post);
         self.next += entries_in(post);
         Ok(())
     }
@@ -249,16 +249,16 @@ pub fn lane_writes(
     requires there { place ≤ length journal.now }
     requires short { length journal.now ≤ 16 * 65536 }
     ensures rise { IfOk result (λ found. Rise 0 found.writes.items found.next) }
-    ensures tracked { IfOk result (λ found. (w : ShapeValue) → IsShape w → is_legal w journal.now ≡ true → IsTracked w journal.now place at.now found.next found.noted found.writes.items) }
+    ensures tracked { IfOk result (λ found. (w : ShapeValue) → IsShape w → is_legal w journal.now ≡ true → IsTracked w journal.now place at.now found.next found.notified found.writes.items) }
 {
     let mut found = LaneWrites {
         next: 0,
-        noted: false,
+        notified: false,
         writes: Vec::new(alloc),
     };
     let earlier = &journal.as_slice()[..place];
     for (before, event) in earlier.iter().enumerate() {
-        found.pass(at, before as u64, event)?;
+        found.track(at, before as u64, event)?;
     }
     Ok(found)
 }

@@ -5,8 +5,8 @@ use std::alloc::{AllocError, Global};
 use std::sync::atomic::AtomicU64;
 use std::sync::atomic::Ordering::SeqCst;
 
-/// For each of so many things how often it was changed, modulo 2^64, as far as the threads told. A count says only when another try
-/// may be worth while: what has changed, and whether all changes were told, it does not. Each lies on a line of a processor's cache of its own.
+/// For each of so many things how often it was changed, modulo 2^64, as far as threads counted it. A count says only when another try
+/// may be worth while: what has changed, and whether all changes were counted, it does not. Each lies on a line of a processor's cache of its own.
 #[derive(Drop)]
 pub struct Changes {
     counts: Vec<CachePadded<AtomicU64>>,
@@ -22,14 +22,14 @@ impl Changes {
         Ok(Changes { counts })
     }
 
-    /// Tells that a thing was changed.
-    pub fn tell(&self, thing: u32) {
+    /// Counts a change of a thing.
+    pub fn count_change(&self, thing: u32) {
         if let Some(count) = self.counts.get(thing as usize) {
             count.fetch_add(1, SeqCst);
         }
     }
 
-    /// How often that was told. Of what is no thing, never.
+    /// How often that was counted. Of what is no thing, never.
     pub fn count(&self, thing: u32) -> u64 {
         match self.counts.get(thing as usize) {
             Some(count) => count.load(SeqCst),

@@ -91,9 +91,9 @@ pub record HasWrites (place : ℕ) (world : ShapeValue) (journal : List Event) (
   pub text_is : text ≡ why_text place answer
 
 -- what was asked of a journal
-abbrev pub HasReply : Question → ShapeValue → List Event → ℕ → List ℕ → Type 0
-HasReply questions.Verdict world journal status text = HasVerdict world journal status text
-HasReply (questions.Writes place) world journal status text = HasWrites place world journal status text
+abbrev pub AnswersQuestion : Question → ShapeValue → List Event → ℕ → List ℕ → Type 0
+AnswersQuestion questions.Verdict world journal status text = HasVerdict world journal status text
+AnswersQuestion (questions.Writes place) world journal status text = HasWrites place world journal status text
 
 -- a text that is no journal from its line on, the first line of which has that number
 pub record IsUnread (text : List ℕ) (number : ℕ) (journal : List Event) (status : ℕ) (told : List ℕ) : Type 0 where
@@ -105,7 +105,7 @@ pub record IsUnread (text : List ℕ) (number : ℕ) (journal : List Event) (sta
 pub record IsJudged (question : Question) (world : ShapeValue) (text : List ℕ) (journal : List Event) (status : ℕ) (told : List ℕ) : Type 0 where
   pub journal_is : text ≡ journal_text journal
   pub ranges : AreInRange journal
-  pub reply : HasReply question world journal status told
+  pub answer : AnswersQuestion question world journal status told
 
 -- what is told of the text of a journal, the first line of which has that number
 abbrev pub IsRead : Question → ShapeValue → List ℕ → ℕ → List Event → ℕ → List ℕ → Type 0

@@ -5,7 +5,7 @@ ghost use Rattle.std.specs.List.{flat_map};
 ghost use Rattle.rank_script.specs.WorldText.{checked_world};
 ghost use Rattle.rank_script.specs.declared.scripts.ScriptFault.TheVariants as script_faults;
 ghost use Rattle.call_texts.specs.Lines.{fed_lines};
-ghost use Rattle.gaspi_run.specs.Judging.{HasReply, HasVerdict, HasWrites, IsChecked, IsNoJournal, IsRead, illegal_text, verdict_status, verdict_text, why_status, why_text, why_word, write_line, writes_text, no_notification_text};
+ghost use Rattle.gaspi_run.specs.Judging.{AnswersQuestion, HasVerdict, HasWrites, IsChecked, IsNoJournal, IsRead, illegal_text, verdict_status, verdict_text, why_status, why_text, why_word, write_line, writes_text, no_notification_text};
 
 use crate::results::CommandResult;
 use call_journal::{ArrivedWrite, Verdict, WhyAnswer, check, why};
@@ -180,7 +180,7 @@ fn why_status(answer: &WhyAnswer) -> u8
 }
 
 /// Tells which writes the notification stands for that was put at a place of a journal.
-fn tell_writes(
+fn writes_result(
     alloc: Global,
     shape: &Shape,
     journal: Journal,
@@ -201,19 +201,19 @@ fn tell_writes(
 }
 
 /// Tells of a journal what is asked.
-fn tell_reply(
+fn question_result(
     alloc: Global,
     shape: &Shape,
     journal: Journal,
     question: Question,
 ) -> Result<CommandResult, NoMemory>
-    ensures reply { IfOk result (λ told. HasReply question shape.now told.journal told.status told.text) }
+    ensures answer { IfOk result (λ told. AnswersQuestion question shape.now told.journal told.status told.text) }
     ensures journal { IfOk result (λ told. told.journal ≡ journal) }
     ensures plain { IfOk result (λ told. told.tally ≡ None) }
 {
     match question {
         Question::Verdict => verdict_result(alloc, shape, journal),
-        Question::Writes { place } => tell_writes(alloc, shape, journal, place),
+        Question::Writes { place } => writes_result(alloc, shape, journal, place),
     }
 }
 
@@ -233,7 +233,7 @@ fn line_count(text: &[u8]) -> u64
 }
 
 /// Reads the journal of an input, which begins at a line of that number, and tells of it what is asked.
-fn tell_journal(
+fn journal_result(
     alloc: Global,
     shape: &Shape,
     text: &[u8],
@@ -245,14 +245,14 @@ fn tell_journal(
     ensures plain { IfOk result (λ told. told.tally ≡ None) }
 {
     match read(alloc, text) {
-        Ok(journal) => tell_reply(alloc, shape, journal, question),
+        Ok(journal) => question_result(alloc, shape, journal, question),
         Err(JournalFault::At { line }) => no_journal_result(alloc, number - 1 + line),
         Err(JournalFault::NoMemory) => Err(NoMemory),
     }
 }
 
 /// Replays the journal of an input in the world of the text before it, and tells of it what is asked.
-pub fn tell_judged(
+pub fn judge_input(
     alloc: Global,
     input: &[u8],
     question: Question,
@@ -267,7 +267,7 @@ pub fn tell_judged(
         None => Ok(no_journal_result(alloc, line_count(input) + 1)?),
         Some((place, number)) => {
             let journal = &input[place as usize..];
-            Ok(tell_journal(alloc, &shape, journal, number, question)?)
+            Ok(journal_result(alloc, &shape, journal, number, question)?)
         }
     }
 }

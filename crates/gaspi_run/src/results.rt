@@ -9,7 +9,7 @@ ghost use Rattle.gaspi_model.specs.Step.{is_legal};
 ghost use Rattle.call_journal.specs.Numbers.{AreNumbers};
 ghost use Rattle.gaspi_run.specs.Command.{has_failed_or_stuck, is_any_limit, run_status, run_text, numbers_text, IsWithin, is_plain, HasRunOnThreads, HasBenched, IsStepped, IsCommandResult, world_read};
 
-use crate::judging::{Question, tell_judged};
+use crate::judging::{Question, judge_input};
 use crate::schedule_states::EndedCaller;
 use crate::scheduling::schedule;
 use crate::threads::{RunResult, run_on_threads};
@@ -225,7 +225,7 @@ pub fn command_result(
     match command {
         Command::Run { .. } | Command::Bench { .. } => unreachable!(),
         Command::Step { seed, limit, brief } => step_result(alloc, seed, limit, brief, input),
-        Command::Check => tell_judged(alloc, input, Question::Verdict),
-        Command::Why { place } => tell_judged(alloc, input, Question::Writes { place }),
+        Command::Check => judge_input(alloc, input, Question::Verdict),
+        Command::Why { place } => judge_input(alloc, input, Question::Writes { place }),
     }
 }

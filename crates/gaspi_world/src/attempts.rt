@@ -237,9 +237,15 @@ fn attempt_held(
 }
 
 /// Tells who may wait for it that a call was recorded.
-fn tell(start: &Start, told: &Result<Reply, Halt>, row: &CallRow, own: u32, other: Option<u32>) {
+fn count_changes(
+    start: &Start,
+    told: &Result<Reply, Halt>,
+    row: &CallRow,
+    own: u32,
+    other: Option<u32>,
+) {
     if told.is_ok() {
-        start.tell_call(row, own, other);
+        start.count_call(row, own, other);
     }
 }
 
@@ -268,6 +274,6 @@ pub fn attempt(
     };
     let told = attempt_held(table, pass, alloc, &mut held, invocation, look);
     give_back(table, pass, held);
-    tell(table.start(), &told, &invocation.row, own.number(), other);
+    count_changes(table.start(), &told, &invocation.row, own.number(), other);
     told
 }

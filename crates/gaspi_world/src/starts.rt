@@ -22,23 +22,23 @@ pub struct Start {
 impl Start {
     ghost use Rattle.std.specs.Prelude.{◌≡◌, IfOk};
 
-    /// Tells that a call was recorded: workers, where it posted or ended its thread, and who waits at the shard that it has beside its
+    /// Counts a recorded call: for workers, where it posted or ended its thread, and for who waits at the shard that it has beside its
     /// rank's.
-    pub(crate) fn tell_call(&self, row: &CallRow, own: u32, other: Option<u32>) {
+    pub(crate) fn count_call(&self, row: &CallRow, own: u32, other: Option<u32>) {
         if row.posting.is_some() || row.ends {
-            self.posts.tell(own);
+            self.posts.count_change(own);
         }
         if let Some(other) = other {
-            self.changes.tell(other);
+            self.changes.count_change(other);
         }
     }
 
-    /// Tells that transfers were made: who waits at their shards.
-    pub(crate) fn tell_transfer(&self, own: u32, other: Option<u32>) {
-        self.changes.tell(own);
+    /// Counts transfers that were made, for who waits at their shards.
+    pub(crate) fn count_transfer(&self, own: u32, other: Option<u32>) {
+        self.changes.count_change(own);
         let other = other.unwrap_or(own);
         if other != own {
-            self.changes.tell(other);
+            self.changes.count_change(other);
         }
     }
 

@@ -157,7 +157,7 @@ fn transfer_once(table: &CommitTable<Start>, pass: &mut Pass, origin: RankId) ->
             commit_front(table, pass, &mut held, t);
             let other = held.other;
             give_back(table, pass, held);
-            table.start().tell_transfer(origin.number(), other);
+            table.start().count_transfer(origin.number(), other);
             Moving::Moved
         }
     }
@@ -258,7 +258,7 @@ fn move_lane(table: &CommitTable<Start>, pass: &mut Pass, origin: RankId) -> Mov
             give_back(table, pass, held);
             table
                 .start()
-                .tell_transfer(origin.number(), Some(target.number()));
+                .count_transfer(origin.number(), Some(target.number()));
             Moving::Moved
         }
     }

@@ -98,7 +98,7 @@ fn post(rank: u64) -> Call
 struct Stuck;
 
 /// A call of a rank, which is answered at one look.
-fn tell(alloc: Global, nodes: &mut TwoNodes, rank: RankId, call: &Call) -> Result<(), Stuck>
+fn call_once(alloc: Global, nodes: &mut TwoNodes, rank: RankId, call: &Call) -> Result<(), Stuck>
     requires rank { rank < 2 }
     requires callers { HasTwoCallers nodes.old }
     requires driven { is_driven call.now ≡ true }
@@ -115,13 +115,13 @@ fn tell(alloc: Global, nodes: &mut TwoNodes, rank: RankId, call: &Call) -> Resul
 }
 
 /// A call of both ranks.
-fn tell_both(alloc: Global, nodes: &mut TwoNodes, call: &Call) -> Result<(), Stuck>
+fn call_both(alloc: Global, nodes: &mut TwoNodes, call: &Call) -> Result<(), Stuck>
     requires callers { HasTwoCallers nodes.old }
     requires driven { is_driven call.now ≡ true }
     ensures { HasTwoCallers nodes.new }
 {
-    tell(alloc, nodes, RankId::of(0), call)?;
-    tell(alloc, nodes, RankId::of(1), call)
+    call_once(alloc, nodes, RankId::of(0), call)?;
+    call_once(alloc, nodes, RankId::of(1), call)
 }
 
 /// A transfer of a rank.
@@ -155,12 +155,12 @@ fn send(alloc: Global, nodes: &mut TwoNodes, store: &Call) -> Result<(), Stuck>
     requires driven { is_driven store.now ≡ true }
     ensures { HasTwoCallers nodes.new }
 {
-    tell_both(alloc, nodes, store)?;
-    tell(alloc, nodes, RankId::of(0), &post(1))?;
-    tell(alloc, nodes, RankId::of(1), &post(0))?;
+    call_both(alloc, nodes, store)?;
+    call_once(alloc, nodes, RankId::of(0), &post(1))?;
+    call_once(alloc, nodes, RankId::of(1), &post(0))?;
     move_two(nodes, RankId::of(0))?;
     move_two(nodes, RankId::of(1))?;
-    tell_both(alloc, nodes, &Call::Wait(Wait { queue: 0 }))
+    call_both(alloc, nodes, &Call::Wait(Wait { queue: 0 }))
 }
 
 /// Both ranks find their notification and read what was sent.
@@ -178,9 +178,9 @@ fn receive(alloc: Global, nodes: &mut TwoNodes) -> Result<(), Stuck>
         offset: 8,
         size: 8,
     };
-    tell_both(alloc, nodes, &Call::Waitsome(find))?;
-    tell_both(alloc, nodes, &Call::Reset(Reset { seg: 0, note: 0 }))?;
-    tell_both(alloc, nodes, &Call::Load(load))
+    call_both(alloc, nodes, &Call::Waitsome(find))?;
+    call_both(alloc, nodes, &Call::Reset(Reset { seg: 0, note: 0 }))?;
+    call_both(alloc, nodes, &Call::Load(load))
 }
 
 /// A rank joins a barrier that is not full.
@@ -189,7 +189,7 @@ fn join_first(alloc: Global, nodes: &mut TwoNodes, barrier: &Call) -> Result<(),
     requires driven { is_driven barrier.now ≡ true }
     ensures { HasTwoCallers nodes.new }
 {
-    match tell(alloc, nodes, RankId::of(0), barrier) {
+    match call_once(alloc, nodes, RankId::of(0), barrier) {
         Ok(()) => Err(Stuck),
         Err(Stuck) => Ok(()),
     }
@@ -202,8 +202,8 @@ fn meet(alloc: Global, nodes: &mut TwoNodes) -> Result<(), Stuck>
 {
     let barrier = Barrier { group: 0 };
     join_first(alloc, nodes, &Call::Barrier(barrier))?;
-    tell(alloc, nodes, RankId::of(1), &Call::Barrier(barrier))?;
-    tell(alloc, nodes, RankId::of(0), &Call::Barrier(barrier))
+    call_once(alloc, nodes, RankId::of(1), &Call::Barrier(barrier))?;
+    call_once(alloc, nodes, RankId::of(0), &Call::Barrier(barrier))
 }
 
 /// A round of both ranks.

@@ -40,7 +40,7 @@ fn news(posts: &NodePosts, call: &Call, reply: &Reply) -> Option<Registration>
 }
 
 /// Tells a peer.
-fn tell(peer: &mut NodePosts, news: Option<Registration>)
+fn register_at(peer: &mut NodePosts, news: Option<Registration>)
     ensures { peer.new ≡ with_posts peer.old (with_registration news peer.old.posts) }
 {
     if let Some(news) = news {
@@ -136,5 +136,5 @@ pub fn called_between(
         reply,
         room,
     );
-    tell(&mut peer.posts, news);
+    register_at(&mut peer.posts, news);
 }

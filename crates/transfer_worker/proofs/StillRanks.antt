@@ -37,7 +37,7 @@ use Rattle.gaspi_model.proofs.Same.{same_reply-same}
 use Rattle.gaspi_model.proofs.Settled.EmptyLanes.{lanes-empty}
 use Rattle.gaspi_model.proofs.Sound.Steps.{limits-stay}
 use Rattle.gaspi_model.proofs.Sound.Registered.{IsTold, registering, registered-get}
-use Rattle.transfer_worker.specs.StillRanks.{HasStopped}
+use Rattle.transfer_worker.specs.StillRanks.{IsStill}
 
 -- What stands in lists.
 
@@ -131,7 +131,7 @@ pub record AreSame (s t : State) (rank : ℕ) : Type 0 where
   pub limits : t.limits ≡ s.limits
   pub posts : (after : Posts) → slice_get t.posts rank ≡ Some after → (before : Posts) × (slice_get s.posts rank ≡ Some before) × (after.queues ≡ before.queues) × (after.threads ≡ before.threads)
 
-stopped-same : (s t : State) (rank : ℕ) → AreSame s t rank → HasStopped s rank → HasStopped t rank
+stopped-same : (s t : State) (rank : ℕ) → AreSame s t rank → IsStill s rank → IsStill t rank
 stopped-same s t rank same stopped = record { none = none; ended = λ thread. ended thread (slice_get t.posts rank) refl }
   where
     none : (k : ℕ) (x : Transfer) → slice_get (transfers t.limits t.posts) k ≡ Some x → x.origin ≢ rank
@@ -193,7 +193,7 @@ counted-same s t rank only = rw only.after (record {
 })
 
 -- an event of the rank itself: a call is refused, and there is no other
-own-same : (s t : State) (e : Event) → step s e ≡ Ok t → HasStopped s (owner_of e) → AreSame s t (owner_of e)
+own-same : (s t : State) (e : Event) → step s e ≡ Ok t → IsStill s (owner_of e) → AreSame s t (owner_of e)
 own-same s t (Joined c id args) h stopped =
     let made = step-joined s t c id args h in
     let m = made.2 in
@@ -220,23 +220,23 @@ own-same s t (Called c call reply) h stopped = by-group (row_of call).group refl
 own-same s t (Take origin queue target number outcome) h stopped = (let listed = take-listed s t origin queue target number outcome h in absurd (stopped.none listed.0 _ listed.1 refl))
 own-same s t (Put origin queue target number outcome) h stopped = (let listed = put-listed s t origin queue target number outcome h in absurd (stopped.none listed.0 _ listed.1 refl))
 
-step-stopped : (s t : State) (e : Event) (rank : ℕ) → step s e ≡ Ok t → HasStopped s rank → HasStopped t rank
+step-stopped : (s t : State) (e : Event) (rank : ℕ) → step s e ≡ Ok t → IsStill s rank → IsStill t rank
 step-stopped s t e rank h stopped = go (owner_of e == rank) refl
   where
-    go : (b : Bool) → (owner_of e == rank) ≡ b → HasStopped t rank
+    go : (b : Bool) → (owner_of e == rank) ≡ b → IsStill t rank
     go false other = stopped-same s t rank (other-same s t e rank h other) stopped
     go true is =
         let own : owner_of e ≡ rank = eqb-true (owner_of e) rank is in
-        stopped-same s t rank (subst (AreSame s t) own (own-same s t e h (subst (HasStopped s) (sym own) stopped))) stopped
+        stopped-same s t rank (subst (AreSame s t) own (own-same s t e h (subst (IsStill s) (sym own) stopped))) stopped
 
-pub stays-stopped : (s t : State) (events : List Event) (rank : ℕ) → after s events ≡ Ok t → HasStopped s rank → HasStopped t rank
-stays-stopped s t [] rank h stopped = let same : s ≡ t = cc in subst (λ (x : State). HasStopped x rank) same stopped
+pub stays-stopped : (s t : State) (events : List Event) (rank : ℕ) → after s events ≡ Ok t → IsStill s rank → IsStill t rank
+stays-stopped s t [] rank h stopped = let same : s ≡ t = cc in subst (λ (x : State). IsStill x rank) same stopped
 stays-stopped s t (e ∷ events) rank h stopped =
     let first = after-first s t e events h in
     stays-stopped first.0 t events rank first.2 (step-stopped s first.0 e rank first.1 stopped)
 
 -- where every rank has stopped, nothing is left to do
-pub all-stopped : (s : State) → IsSound s → ((rank : ℕ) → rank < s.limits.ranks → HasStopped s rank) → IsSettled s
+pub all-stopped : (s : State) → IsSound s → ((rank : ℕ) → rank < s.limits.ranks → IsStill s rank) → IsSettled s
 all-stopped s sound stopped = record { callers = λ rank thread. ended rank thread (slice_get s.posts rank) refl; lanes = lanes-empty s sound (none (transfers s.limits s.posts) refl) }
   where
     within : (rank : ℕ) (posts : Posts) → slice_get s.posts rank ≡ Some posts → rank < s.limits.ranks

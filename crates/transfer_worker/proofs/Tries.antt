@@ -24,7 +24,7 @@ use Rattle.gaspi_world.specs.declared.moving.Moving.{Moving}
 use Rattle.gaspi_world.specs.declared.moving.Moving.TheVariants as moves
 use Rattle.transfer_worker.specs.Order.{HaveTried, MakesTurn}
 use Rattle.transfer_worker.specs.QuietRanks.{IsKnown, KnowsStill}
-use Rattle.transfer_worker.specs.StillRanks.{HasStopped}
+use Rattle.transfer_worker.specs.StillRanks.{IsStill}
 use Rattle.transfer_worker.specs.Turns.{with_try, IsExtended, IsDrained, IsTransferMade, HasMissed, HasNoTransferSeen, IsActive, IsEnded, AreRanksTried, Turned}
 use Rattle.transfer_worker.specs.declared.turns.Turn.{Turn}
 use Rattle.transfer_worker.specs.declared.turns.Turn.TheVariants.{Moved, Busy, Idle, Drained}
@@ -302,7 +302,7 @@ module _ {S : Type 0} (w : ShapeValue) where
       let end = leads (reached w n.seen) legal in
       (end.0, end.1, all-stopped end.0 (reached-sound w n.seen end.0 world end.1) (λ rank less. stopped end.0 end.1 rank (subst (λ (k : ℕ). rank < k) (ap (λ l. l.ranks) (after-limits (opening w) end.0 n.seen end.1)) less)))
     where
-      stopped : (s : State) → reached w n.seen ≡ Ok s → (rank : ℕ) → rank < w.limits.ranks → HasStopped s rank
+      stopped : (s : State) → reached w n.seen ≡ Ok s → (rank : ℕ) → rank < w.limits.ranks → IsStill s rank
       stopped s is rank less =
           let still = ended rank less in
           let parts = after-both (opening w) s still.0.history still.0.until.0 (ap (after (opening w)) still.0.until.1 ∙ is) in

@@ -6,6 +6,6 @@ use Rattle.gaspi_model.specs.Transfers.{transfers}
 use Rattle.gaspi_model.specs.declared.states.State.{State}
 
 -- no transfer of a rank may come next, and its threads have ended
-pub record HasStopped (s : State) (rank : ℕ) : Type 0 where
+pub record IsStill (s : State) (rank : ℕ) : Type 0 where
   pub none : (k : ℕ) (t : Transfer) → slice_get (transfers s.limits s.posts) k ≡ Some t → t.origin ≢ rank
   pub ended : (thread : ℕ) → is_active s rank thread ≡ false

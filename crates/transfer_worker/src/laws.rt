@@ -6,11 +6,11 @@ ghost use Rattle.gaspi_model.specs.Settled.{IsSettled};
 ghost use Rattle.gaspi_model.specs.Sound.{IsSound};
 ghost use Rattle.gaspi_model.specs.Step.{after};
 ghost use Rattle.gaspi_model.specs.declared.states.State.{State};
-ghost use Rattle.transfer_worker.specs.StillRanks.{HasStopped};
+ghost use Rattle.transfer_worker.specs.StillRanks.{IsStill};
 
 /// A rank whose threads have ended and of which no transfer may come next stays so, whatever comes. Where every rank is so, nothing is
 /// left to do. So a worker may look at one rank after another.
 pub fn still_ranks()
-    ensures stays { (s t : State) (events : List Event) (rank : ℕ) → after s events ≡ Ok t → HasStopped s rank → HasStopped t rank }
-    ensures settled { (s : State) → IsSound s → ((rank : ℕ) → rank < s.limits.ranks → HasStopped s rank) → IsSettled s }
+    ensures stays { (s t : State) (events : List Event) (rank : ℕ) → after s events ≡ Ok t → IsStill s rank → IsStill t rank }
+    ensures settled { (s : State) → IsSound s → ((rank : ℕ) → rank < s.limits.ranks → IsStill s rank) → IsSettled s }
 {}

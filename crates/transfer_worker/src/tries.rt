@@ -1,4 +1,4 @@
-//! A round of tries: a transfer of each rank is tried, from one rank on.
+//! The tries of a turn: a transfer of each rank is tried, from one rank on.
 
 ghost use Rattle.std.specs.Prelude.{◌≡◌, ◌<◌, true};
 ghost use Rattle.commit_table.specs.Calls.{IsOf, HoldsNone};

@@ -14,5 +14,5 @@ returns c = λ w world legal.
     let list : arrived at.number found.writes.items ≡ c.in_ok-writes.writes = sym (c.in_ok-writes.ensures ∙ ap (λ (writes : List LaneWrite). arrived at.number writes) c.deref.ensures.value) in (
       legal,
       subst (λ (writes : List ArrivedWrite). IsExplained w c.args.journal.now c.args.place writes) list
-          (explained w world c.args.journal.now legal c.args.place at there found.next found.noted found.writes.items (c.in_ok-found.ensures.tracked w world legal) c.if-not-found.false c.in_ok-found.ensures.rise),
+          (explained w world c.args.journal.now legal c.args.place at there found.next found.notified found.writes.items (c.in_ok-found.ensures.tracked w world legal) c.if-not-found.false c.in_ok-found.ensures.rise),
     )

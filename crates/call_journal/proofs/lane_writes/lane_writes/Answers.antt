@@ -20,19 +20,19 @@ pub loop-before-preserved : goal.loop-before-preserved
 loop-before-preserved c =
     let known = c.loop-before.invariant in
     let old = c.loop-before.found in
-    let new = c.pass.new.self in
+    let new = c.track.new.self in
     let at = c.args.at.now in
     let before = c.loop-before.before in
     let event = c.index-earlier-before.result in
-    let told = c.in_ok-pass.ensures in
+    let told = c.in_ok-track.ensures in
     let few = entries-few at.origin event in
     record {
       few = omega (arith, few, known.few, told.next);
       rise = rw (told.next, told.writes) (rise-after at before event old.next old.writes.items known.rise);
       tracked = λ w world legal.
           let there = event-at c.args.journal.now c.args.place before event (rw (← c.as_slice.ensures) c.loop-before-test.true) (rw (← c.as_slice.ensures) c.index-earlier-before.is) in
-          tracked-as w c.args.journal.now (before + 1) at _ new.next _ new.noted _ new.writes.items told.next told.noted told.writes
-          (tracked-more w world c.args.journal.now legal before event there at old.next old.noted old.writes.items (known.tracked w world legal));
+          tracked-as w c.args.journal.now (before + 1) at _ new.next _ new.notified _ new.writes.items told.next told.notified told.writes
+          (tracked-more w world c.args.journal.now legal before event there at old.next old.notified old.writes.items (known.tracked w world legal));
     }
 
 pub returns-clause-tracked : goal.returns-clause-tracked
@@ -43,4 +43,4 @@ returns-clause-tracked c =
     let many = length-take-le c.args.place c.args.journal.now c.requires.there in
     let all : length (take c.args.place c.as_slice.result.now) ≡ c.args.place = rw c.as_slice.ensures many in
     let same : c.loop-before.before ≡ c.args.place = omega arith in
-    λ w world legal. subst (λ (n : ℕ). IsTracked w c.args.journal.now n c.args.at.now c.loop-before.found.next c.loop-before.found.noted c.loop-before.found.writes.items) same (known.tracked w world legal)
+    λ w world legal. subst (λ (n : ℕ). IsTracked w c.args.journal.now n c.args.at.now c.loop-before.found.next c.loop-before.found.notified c.loop-before.found.writes.items) same (known.tracked w world legal)

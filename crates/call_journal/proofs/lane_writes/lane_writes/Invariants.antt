@@ -9,5 +9,5 @@ abbrev pub invariant-loop-before : goal.invariant-loop-before
 invariant-loop-before l = record {
   few : l.found.next ≤ 257 * l.before;
   rise : Rise 0 l.found.writes.items l.found.next;
-  tracked : (w : ShapeValue) → IsShape w → is_legal w l.journal ≡ true → IsTracked w l.journal l.before l.at l.found.next l.found.noted l.found.writes.items;
+  tracked : (w : ShapeValue) → IsShape w → is_legal w l.journal ≡ true → IsTracked w l.journal l.before l.at l.found.next l.found.notified l.found.writes.items;
 }

@@ -10,7 +10,7 @@ overflow_add-posts c =
     elim c.if-not-is_refused_or_timeout.branch [
       | then-not-is_refused_or_timeout w ↦
           (let is : c.if-not-is_refused_or_timeout.posts ≡ completed_posts c.args.posts.now c.args.group.now c.args.me c.args.id c.args.call.now =
-          w.posts-is ∙ w.set_pending.ensures ∙ ap (with_pending c.args.id None) w.tell_posts.ensures in
+          w.posts-is ∙ w.set_pending.ensures ∙ ap (with_pending c.args.id None) w.complete_posts.ensures in
           let events = ap (λ (p : Posts). p.events) is ∙ (completed-even c.args.posts.now c.args.group.now c.args.me c.args.id c.args.call.now).events in
           let few = c.requires.events in
           omega (arith, events, few))

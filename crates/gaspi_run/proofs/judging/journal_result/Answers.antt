@@ -3,7 +3,7 @@ use Rattle.call_texts.proofs.FedLines.{lines-short}
 use Rattle.gaspi_run.specs.Judging.{IsNoJournal, IsRead}
 use Rattle.gaspi_run.specs.declared.results.CommandResult.{CommandResult}
 use Rattle.gaspi_run.proofs.Answering.{if-ok}
-use Rattle.gaspi_run.proofs.judging.tell_journal.Goals as goal
+use Rattle.gaspi_run.proofs.judging.journal_result.Goals as goal
 
 pub overflow_add-number : goal.overflow_add-number
 overflow_add-number c =
