@@ -7,4 +7,4 @@ use Rattle.plain_calls.specs.declared.segment_calls.Registration.{Registration}
 -- the posts of a peer that is told something, or nothing
 abbrev pub with_registration : Option Registration → Posts → Posts
 with_registration None peer = peer
-with_registration (Some news) peer = with_known news.owner news.seg news.extent peer
+with_registration (Some registration) peer = with_known registration.owner registration.seg registration.extent peer

@@ -293,10 +293,10 @@ pub fn registration(
 }
 
 /// Tells a peer.
-pub fn register_at_peer(peer: &mut Posts, news: Option<Registration>)
-    ensures { peer.new ≡ with_registration news peer.old }
+pub fn register_at_peer(peer: &mut Posts, registration: Option<Registration>)
+    ensures { peer.new ≡ with_registration registration peer.old }
 {
-    if let Some(news) = news {
-        set_known_extent(peer, news);
+    if let Some(registration) = registration {
+        set_known_extent(peer, registration);
     }
 }

@@ -117,10 +117,15 @@ pub fn registration_of(me: RankId, own: &Extents, call: &Register) -> Registrati
 }
 
 /// Makes a segment of an owner known to a rank.
-pub fn set_known_extent(posts: &mut Posts, news: Registration)
-    ensures { posts.new ≡ with_known news.owner news.seg news.extent posts.old }
+pub fn set_known_extent(posts: &mut Posts, registration: Registration)
+    ensures { posts.new ≡ with_known registration.owner registration.seg registration.extent posts.old }
 {
-    set_known(&mut posts.segments, news.owner, news.seg, news.extent);
+    set_known(
+        &mut posts.segments,
+        registration.owner,
+        registration.seg,
+        registration.extent,
+    );
 }
 
 /// Whether an entry of a queue has to read an own segment yet.

@@ -86,9 +86,9 @@ called_telling s c call reply rank p q q' m m' posts' plain there is none peer_t
     ∙ ap (λ (x : Posts). Ok (record s { posts = slice_set posts' rank x })) (sym with_registration)))
 
 -- what a peer is told takes no room
-pub registered_used : (news : Option Registration) (peer : Posts) → used_room_of (with_registration news peer) ≡ used_room_of peer
+pub registered_used : (registration : Option Registration) (peer : Posts) → used_room_of (with_registration registration peer) ≡ used_room_of peer
 registered_used None peer = refl
-registered_used (Some news) peer = refl
+registered_used (Some registration) peer = refl
 
 -- the count of events has room for one more in its 32 bits
 pub events_fit : (limits : Limits) (p : Posts) → are_limits limits ≡ true → IsSoundPosts limits p → p.events + 1 < 2 ^ 32

@@ -232,10 +232,10 @@ fn record_plain(
         }
         Footprint::PeerPosts(peer) => {
             let own = ranks.posts.at(rank.index());
-            let news = registration(rank, own, invocation.call, &look);
+            let registration = registration(rank, own, invocation.call, &look);
             let mut none = empty_memory(alloc);
             let reply = record_on(ranks, &mut none, alloc, invocation, look, charge)?;
-            register_at_peer(ranks.posts.at_mut(peer.index()), news);
+            register_at_peer(ranks.posts.at_mut(peer.index()), registration);
             Ok(reply)
         }
     }

@@ -27,7 +27,7 @@ use plain_calls::{Registration, is_refused_or_timeout, registration_of};
 use std::alloc::Global;
 
 /// What a call tells a peer that it reaches, where it is recorded with that reply.
-fn news(posts: &NodePosts, call: &Call, reply: &Reply) -> Option<Registration>
+fn registration(posts: &NodePosts, call: &Call, reply: &Reply) -> Option<Registration>
     ensures { (peer : Posts) → with_registration result peer ≡ peer_after posts.now.me posts.now.posts call.now reply.now peer }
 {
     if is_refused_or_timeout(reply) {
@@ -39,12 +39,12 @@ fn news(posts: &NodePosts, call: &Call, reply: &Reply) -> Option<Registration>
     }
 }
 
-/// Tells a peer.
-fn register_at(peer: &mut NodePosts, news: Option<Registration>)
-    ensures { peer.new ≡ with_posts peer.old (with_registration news peer.old.posts) }
+/// Registers a segment at a peer.
+fn register_at(peer: &mut NodePosts, registration: Option<Registration>)
+    ensures { peer.new ≡ with_posts peer.old (with_registration registration peer.old.posts) }
 {
-    if let Some(news) = news {
-        peer.set_known(news.owner, news.seg, news.extent);
+    if let Some(registration) = registration {
+        peer.set_known(registration.owner, registration.seg, registration.extent);
     }
 }
 
@@ -126,7 +126,7 @@ pub fn called_between(
     ensures { (s t : State) (group : Option GroupNode) → IsStepOn s t (Called caller call reply) own.old (Some peer.old) group
         → IsLeft s t (Called caller call reply) place own.old own.new (Some peer.old) (Some peer.new) group }
 {
-    let news = news(&own.posts, &call, &reply);
+    let registration = registration(&own.posts, &call, &reply);
     record(
         &mut own.posts,
         &mut peer.memory,
@@ -136,5 +136,5 @@ pub fn called_between(
         reply,
         room,
     );
-    register_at(&mut peer.posts, news);
+    register_at(&mut peer.posts, registration);
 }

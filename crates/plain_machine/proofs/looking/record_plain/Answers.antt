@@ -58,10 +58,10 @@ returns-in_ok-reply-in-PeerPosts-clause-step c =
     rw c.index-in-PeerPosts-2.ensures.value
     (limits_as c.args.ranks.now c.record_on-in-PeerPosts.new.ranks _ c.args.memories.now (Ok tt) s _ c.in_ok-reply-in-PeerPosts.ensures.limits c.in_ok-reply-in-PeerPosts.ensures.groups
     (called_telling s caller call (recorded_reply c.args.look.ready) c.in-PeerPosts.peer _ _ _ _ _ c.record_on-in-PeerPosts.new.ranks.posts
-    c.requires.plain own (sym c.call_reach.ensures ∙ c.in-PeerPosts.is) c.empty_memory-none-in-PeerPosts.ensures peer (c.register_at_peer.ensures ∙ c.registration-news.ensures _)
+    c.requires.plain own (sym c.call_reach.ensures ∙ c.in-PeerPosts.is) c.empty_memory-none-in-PeerPosts.ensures peer (c.register_at_peer.ensures ∙ c.registration-registration.ensures _)
     (sym (lent_same c.args.look c.args.ranks.now.limits c.args.ranks.now.posts (call_message s caller.rank call) c.empty_memory-none-in-PeerPosts.result caller call c.requires.found.finds.message) ∙ c.in_ok-reply-in-PeerPosts.ensures.step)))
 
 pub returns-in_ok-reply-in-PeerPosts-clause-taken : goal.returns-in_ok-reply-in-PeerPosts-clause-taken
 returns-in_ok-reply-in-PeerPosts-clause-taken c =
     c.in_ok-reply-in-PeerPosts.ensures.taken
-    ∙ sym (map_kept used_room_of c.record_on-in-PeerPosts.new.ranks.posts c.index-in-PeerPosts-2.result _ c.register_at_peer.new.peer c.at_mut.ensures.value (ap used_room_of c.register_at_peer.ensures ∙ registered_used c.registration-news.result _))
+    ∙ sym (map_kept used_room_of c.record_on-in-PeerPosts.new.ranks.posts c.index-in-PeerPosts-2.result _ c.register_at_peer.new.peer c.at_mut.ensures.value (ap used_room_of c.register_at_peer.ensures ∙ registered_used c.registration-registration.result _))

@@ -13,4 +13,4 @@ record-requires-clause-memory c = (granted-between c.args.caller c.args.call c.a
 pub returns : goal.returns
 returns c = λ s t group is.
     left-between s t c.args.caller c.args.call c.args.reply c.args.place c.args.own.now _ c.args.peer.now _ group c.args.room.now c.requires.plain is c.requires.room c.record.ensures.posts refl c.record.ensures.memory
-    (c.register_at.ensures ∙ ap (with_posts c.args.peer.now.posts) (c.news-news.ensures c.args.peer.now.posts.posts))
+    (c.register_at.ensures ∙ ap (with_posts c.args.peer.now.posts) (c.registration-registration.ensures c.args.peer.now.posts.posts))
