@@ -88,7 +88,7 @@ group-same all id = go (nat_lt id 8)
 
 -- the touches of a collective on a group
 abbrev pub IsOnGroup : DeclaredFootprint → ℕ → Type 0
-IsOnGroup touch id = (touch ≡ touches.GroupOf id) ⊎ (touch ≡ touches.GroupAndMemory id)
+IsOnGroup declaration id = (declaration ≡ touches.GroupOf id) ⊎ (declaration ≡ touches.GroupAndMemory id)
 
 pub collective-footprint : (call : Call) (id : ℕ) → (row_of call).group ≡ Some id → IsOnGroup (row_of call).footprint id
 collective-footprint (calls.Commit call) id h = inl (let same : call.group ≡ id = cc in ap touches.GroupOf same)
@@ -104,27 +104,27 @@ join-footprint id (colls.Create seg size) = inr refl
 join-footprint id (colls.Commit mask) = inl refl
 
 -- the group that is worked on, where a group is touched, and the state after a step there
-pub group-on_memory : (s : State) (posts : Posts) (me id : ℕ) (touch : DeclaredFootprint) → IsOnGroup touch id
-    → group_or_none (parts_of s posts (part_numbers me (footprint_of s.limits.ranks me touch))).group ≡ group_in s id
-group-on_memory s posts me id touch (inl is) = rw is (go (nat_lt id 8))
+pub group-on_memory : (s : State) (posts : Posts) (me id : ℕ) (declaration : DeclaredFootprint) → IsOnGroup declaration id
+    → group_or_none (parts_of s posts (part_numbers me (footprint_of s.limits.ranks me declaration))).group ≡ group_in s id
+group-on_memory s posts me id declaration (inl is) = rw is (go (nat_lt id 8))
   where
     go : (b : Bool) → group_or_none (parts_of s posts (part_numbers me (if b then Group id else Alone))).group ≡ group_or_none (if b then slice_get s.groups id else None)
     go true = refl
     go false = refl
-group-on_memory s posts me id touch (inr is) = rw is (go (nat_lt id 8))
+group-on_memory s posts me id declaration (inr is) = rw is (go (nat_lt id 8))
   where
     go : (b : Bool) → group_or_none (parts_of s posts (part_numbers me (if b then GroupAndMemory id else Alone))).group ≡ group_or_none (if b then slice_get s.groups id else None)
     go true = refl
     go false = refl
 
 -- the memories after a step that wrote that one
-pub lifted-group : (s : State) (me id : ℕ) (touch : DeclaredFootprint) (before after : Posts) (memory : Memory) (g : groups.Group) → IsOnGroup touch id
-    → with_parts s me (part_numbers me (footprint_of s.limits.ranks me touch)) (record (with_accessed_memory (footprint_of s.limits.ranks me touch) (parts_of s before (part_numbers me (footprint_of s.limits.ranks me touch))) memory) {
+pub lifted-group : (s : State) (me id : ℕ) (declaration : DeclaredFootprint) (before after : Posts) (memory : Memory) (g : groups.Group) → IsOnGroup declaration id
+    → with_parts s me (part_numbers me (footprint_of s.limits.ranks me declaration)) (record (with_accessed_memory (footprint_of s.limits.ranks me declaration) (parts_of s before (part_numbers me (footprint_of s.limits.ranks me declaration))) memory) {
       posts = after;
       group = Some g;
     })
-    ≡ record s { posts = slice_set s.posts me after; memories = memories_at (footprint_of s.limits.ranks me touch) me memory s.memories; groups = with_group_at s.groups id g }
-lifted-group s me id touch before after memory g (inl is) = rw is (go (nat_lt id 8))
+    ≡ record s { posts = slice_set s.posts me after; memories = memories_at (footprint_of s.limits.ranks me declaration) me memory s.memories; groups = with_group_at s.groups id g }
+lifted-group s me id declaration before after memory g (inl is) = rw is (go (nat_lt id 8))
   where
     go : (b : Bool) → with_parts s me (part_numbers me (if b then Group id else Alone)) (record (with_accessed_memory (if b then Group id else Alone) (parts_of s before (part_numbers me (if b then Group id else Alone))) memory) {
       posts = after;
@@ -133,7 +133,7 @@ lifted-group s me id touch before after memory g (inl is) = rw is (go (nat_lt id
         ≡ record s { posts = slice_set s.posts me after; memories = memories_at (if b then Group id else Alone) me memory s.memories; groups = if b then slice_set s.groups id g else s.groups }
     go true = refl
     go false = refl
-lifted-group s me id touch before after memory g (inr is) = rw is (go (nat_lt id 8))
+lifted-group s me id declaration before after memory g (inr is) = rw is (go (nat_lt id 8))
   where
     go : (b : Bool) → with_parts s me (part_numbers me (if b then GroupAndMemory id else Alone)) (record (with_accessed_memory (if b then GroupAndMemory id else Alone) (parts_of s before (part_numbers me (if b then GroupAndMemory id else Alone))) memory) {
       posts = after;
@@ -144,16 +144,16 @@ lifted-group s me id touch before after memory g (inr is) = rw is (go (nat_lt id
     go false = refl
 
 -- one that wrote none
-pub lifted-unwritten : (s : State) (me id : ℕ) (touch : DeclaredFootprint) (before after : Posts) (g : groups.Group) → IsOnGroup touch id
-    → with_parts s me (part_numbers me (footprint_of s.limits.ranks me touch)) (record (parts_of s before (part_numbers me (footprint_of s.limits.ranks me touch))) { posts = after; group = Some g })
+pub lifted-unwritten : (s : State) (me id : ℕ) (declaration : DeclaredFootprint) (before after : Posts) (g : groups.Group) → IsOnGroup declaration id
+    → with_parts s me (part_numbers me (footprint_of s.limits.ranks me declaration)) (record (parts_of s before (part_numbers me (footprint_of s.limits.ranks me declaration))) { posts = after; group = Some g })
     ≡ record s { posts = slice_set s.posts me after; groups = with_group_at s.groups id g }
-lifted-unwritten s me id touch before after g (inl is) = rw is (go (nat_lt id 8))
+lifted-unwritten s me id declaration before after g (inl is) = rw is (go (nat_lt id 8))
   where
     go : (b : Bool) → with_parts s me (part_numbers me (if b then Group id else Alone)) (record (parts_of s before (part_numbers me (if b then Group id else Alone))) { posts = after; group = Some g })
         ≡ record s { posts = slice_set s.posts me after; groups = if b then slice_set s.groups id g else s.groups }
     go true = refl
     go false = refl
-lifted-unwritten s me id touch before after g (inr is) = rw is (go (nat_lt id 8))
+lifted-unwritten s me id declaration before after g (inr is) = rw is (go (nat_lt id 8))
   where
     go : (b : Bool) → with_parts s me (part_numbers me (if b then GroupAndMemory id else Alone)) (record (parts_of s before (part_numbers me (if b then GroupAndMemory id else Alone))) { posts = after; group = Some g })
         ≡ record s { posts = slice_set s.posts me after; groups = if b then slice_set s.groups id g else s.groups }
@@ -170,23 +170,23 @@ pub step-completed : (s t : State) (c : CallerId) (id : ℕ) (call : Call) (repl
     → (posts : Posts) × (after : PostsAndGroup) × IsCompletedStep s t c id call reply posts after
 step-completed s t c id call reply named h =
     found_then (slice_get s.posts c.rank) whys.Caller _ t h (λ posts hp h1.
-    bind_then (on_parts s.limits reach (Called c call reply) (parts_of s posts (part_numbers c.rank reach))) _ t h1 (λ parts hl0 h2.
-    let hl : completed_on s.limits c id call reply (parts_of s posts (part_numbers c.rank reach)) ≡ Ok parts = rw named at hl0 in
-    bind_then (completed s.limits c.rank posts (group_or_none (parts_of s posts (part_numbers c.rank reach)).group) c.thread id call reply) _ parts hl (λ after ha h3.
+    bind_then (on_parts s.limits footprint (Called c call reply) (parts_of s posts (part_numbers c.rank footprint))) _ t h1 (λ parts hl0 h2.
+    let hl : completed_on s.limits c id call reply (parts_of s posts (part_numbers c.rank footprint)) ≡ Ok parts = rw named at hl0 in
+    bind_then (completed s.limits c.rank posts (group_or_none (parts_of s posts (part_numbers c.rank footprint)).group) c.thread id call reply) _ parts hl (λ after ha h3.
     let on = collective-footprint call id named in
-    let state : t ≡ with_parts s c.rank (part_numbers c.rank reach) parts = sym (same_Ok _ _ h2) in (
+    let state : t ≡ with_parts s c.rank (part_numbers c.rank footprint) parts = sym (same_Ok _ _ h2) in (
       posts,
       after,
       record {
         posts_there = hp;
         is = completed-ok s.limits c.rank posts (group_in s id) c.thread id call reply after
             (subst (λ (g : groups.Group). completed s.limits c.rank posts g c.thread id call reply ≡ Ok after) (group-on_memory s posts c.rank id (row_of call).footprint on) ha);
-        leaves = state ∙ ap (with_parts s c.rank (part_numbers c.rank reach)) (sym (same_Ok _ _ h3)) ∙ lifted-unwritten s c.rank id (row_of call).footprint posts after.posts after.group on;
+        leaves = state ∙ ap (with_parts s c.rank (part_numbers c.rank footprint)) (sym (same_Ok _ _ h3)) ∙ lifted-unwritten s c.rank id (row_of call).footprint posts after.posts after.group on;
       },
     ))))
   where
-    reach : Footprint
-    reach = footprint_of s.limits.ranks c.rank (row_of call).footprint
+    footprint : Footprint
+    footprint = footprint_of s.limits.ranks c.rank (row_of call).footprint
 
 -- the memory that a join works on
 abbrev pub joined-footprint : ℕ → ℕ → ℕ → Coll → Footprint
@@ -205,25 +205,25 @@ pub step-joined : (s t : State) (c : CallerId) (id : ℕ) (args : Args) → step
     → (posts : Posts) × (after : PostsAndGroup) × IsJoinedStep s t c id args posts after
 step-joined s t c id args h =
     found_then (slice_get s.posts c.rank) whys.Caller _ t h (λ posts hp h1.
-    bind_then (on_parts s.limits reach (Joined c id args) (parts_of s posts (part_numbers c.rank reach))) _ t h1 (λ parts hl h2.
-    bind_then (joined s.limits c.rank posts (group_or_none (parts_of s posts (part_numbers c.rank reach)).group) c.thread id args) _ parts hl (λ after ha h3.
+    bind_then (on_parts s.limits footprint (Joined c id args) (parts_of s posts (part_numbers c.rank footprint))) _ t h1 (λ parts hl h2.
+    bind_then (joined s.limits c.rank posts (group_or_none (parts_of s posts (part_numbers c.rank footprint)).group) c.thread id args) _ parts hl (λ after ha h3.
     let on = join-footprint id args.coll in
-    let state : t ≡ with_parts s c.rank (part_numbers c.rank reach) parts = sym (same_Ok _ _ h2) in
-    let memory = made_memory s.limits posts (accessed_memory reach (parts_of s posts (part_numbers c.rank reach))) args.coll in (
+    let state : t ≡ with_parts s c.rank (part_numbers c.rank footprint) parts = sym (same_Ok _ _ h2) in
+    let memory = made_memory s.limits posts (accessed_memory footprint (parts_of s posts (part_numbers c.rank footprint))) args.coll in (
       posts,
       after,
       record {
         posts_there = hp;
         is = joined-ok s.limits c.rank posts (group_in s id) c.thread id args after
             (subst (λ (g : groups.Group). joined s.limits c.rank posts g c.thread id args ≡ Ok after) (group-on_memory s posts c.rank id (join_footprint id args.coll) on) ha);
-        leaves = state ∙ ap (with_parts s c.rank (part_numbers c.rank reach)) (sym (same_Ok _ _ h3)) ∙ lifted-group s c.rank id (join_footprint id args.coll) posts after.posts memory after.group on
+        leaves = state ∙ ap (with_parts s c.rank (part_numbers c.rank footprint)) (sym (same_Ok _ _ h3)) ∙ lifted-group s c.rank id (join_footprint id args.coll) posts after.posts memory after.group on
             ∙ ap (λ (m : Memory). record s {
               posts = slice_set s.posts c.rank after.posts;
-              memories = memories_at reach c.rank (made_memory s.limits posts m args.coll) s.memories;
+              memories = memories_at footprint c.rank (made_memory s.limits posts m args.coll) s.memories;
               groups = with_group_at s.groups id after.group;
-            }) (on_memory-at s posts c.rank reach);
+            }) (on_memory-at s posts c.rank footprint);
       },
     ))))
   where
-    reach : Footprint
-    reach = joined-footprint s.limits.ranks c.rank id args.coll
+    footprint : Footprint
+    footprint = joined-footprint s.limits.ranks c.rank id args.coll

@@ -112,7 +112,7 @@ memories_at (PeerPosts rank) me memory all = all
 memories_at (Group id) me memory all = all
 memories_at (GroupAndMemory id) me memory all = slice_set all me memory
 
-pub on_memory-at : (s : State) (posts : Posts) (me : ℕ) (reach : Footprint) → accessed_memory reach (parts_of s posts (part_numbers me reach)) ≡ memory_at reach me s.memories
+pub on_memory-at : (s : State) (posts : Posts) (me : ℕ) (footprint : Footprint) → accessed_memory footprint (parts_of s posts (part_numbers me footprint)) ≡ memory_at footprint me s.memories
 on_memory-at s posts me Alone = refl
 on_memory-at s posts me OwnMemory = refl
 on_memory-at s posts me (PeerMemory rank) = refl
@@ -134,7 +134,7 @@ same-set all place = go (slice_get all place) refl
     go None at = none-set all place _ at
     go (Some x) at = rw at (set-there all place x at)
 
-pub memories-same : (reach : Footprint) (me : ℕ) (all : List Memory) → memories_at reach me (memory_at reach me all) all ≡ all
+pub memories-same : (footprint : Footprint) (me : ℕ) (all : List Memory) → memories_at footprint me (memory_at footprint me all) all ≡ all
 memories-same Alone me all = refl
 memories-same OwnMemory me all = same-set all me
 memories-same (PeerMemory rank) me all = same-set all rank
@@ -143,7 +143,7 @@ memories-same (PeerPosts rank) me all = refl
 memories-same (Group id) me all = refl
 memories-same (GroupAndMemory id) me all = same-set all me
 
-pub memories-length : (reach : Footprint) (me : ℕ) (memory : Memory) (all : List Memory) → length (memories_at reach me memory all) ≡ length all
+pub memories-length : (footprint : Footprint) (me : ℕ) (memory : Memory) (all : List Memory) → length (memories_at footprint me memory all) ≡ length all
 memories-length Alone me memory all = refl
 memories-length OwnMemory me memory all = length-set all me memory
 memories-length (PeerMemory rank) me memory all = length-set all rank memory
@@ -163,12 +163,12 @@ part-same {A} table (Some place) = go (slice_get table place) refl
 
 -- The state after a step on the parts of a reach: the owner's posts are replaced, those of a peer changed, and the memory
 -- that is worked on is replaced.
-lifted-after : (s : State) (me : ℕ) (reach : Footprint) (before after : Posts) (memory : Memory) (change : Posts → Posts) → ((rank : ℕ) → reach ≡ PeerPosts rank → me ≡ rank → ⊥)
-    → with_parts s me (part_numbers me reach) (record (with_accessed_memory reach (parts_of s before (part_numbers me reach)) memory) {
+lifted-after : (s : State) (me : ℕ) (footprint : Footprint) (before after : Posts) (memory : Memory) (change : Posts → Posts) → ((rank : ℕ) → footprint ≡ PeerPosts rank → me ≡ rank → ⊥)
+    → with_parts s me (part_numbers me footprint) (record (with_accessed_memory footprint (parts_of s before (part_numbers me footprint)) memory) {
       posts = after;
-      peer_posts = option_map change (parts_of s before (part_numbers me reach)).peer_posts;
+      peer_posts = option_map change (parts_of s before (part_numbers me footprint)).peer_posts;
     })
-    ≡ record s { posts = changed_peer reach (slice_set s.posts me after) change; memories = memories_at reach me memory s.memories }
+    ≡ record s { posts = changed_peer footprint (slice_set s.posts me after) change; memories = memories_at footprint me memory s.memories }
 lifted-after s me Alone before after memory change apart = refl
 lifted-after s me OwnMemory before after memory change apart = refl
 lifted-after s me (PeerMemory rank) before after memory change apart = refl
@@ -193,9 +193,9 @@ abbrev pub call-footprint : ℕ → ℕ → Call → Footprint
 call-footprint ranks me call = footprint_of ranks me (row_of call).footprint
 
 -- a peer that the owner is, is none
-pub peer-apart : (ranks me : ℕ) (touch : DeclaredFootprint) (rank : ℕ) → footprint_of ranks me touch ≡ PeerPosts rank → me ≡ rank → ⊥
-peer-apart ranks me touch rank is same =
-    let other = (peer-touched ranks me rank touch is).1 in
+pub peer-apart : (ranks me : ℕ) (declaration : DeclaredFootprint) (rank : ℕ) → footprint_of ranks me declaration ≡ PeerPosts rank → me ≡ rank → ⊥
+peer-apart ranks me declaration rank is same =
+    let other = (peer-touched ranks me rank declaration is).1 in
     let mine = eq-eqb rank me (sym same) in
     let no : ⊥ = cc in no
 
@@ -213,30 +213,30 @@ pub step-called : (s t : State) (c : CallerId) (call : Call) (reply : Reply) →
     → (posts : Posts) × (memory : Memory) × (after : PostsAndMemory) × IsCalledStep s t c call reply posts memory after
 step-called s t c call reply plain h =
     found_then (slice_get s.posts c.rank) whys.Caller _ t h (λ posts hp h1.
-    bind_then (on_parts s.limits reach (Called c call reply) (parts_of s posts (part_numbers c.rank reach))) _ t h1 (λ parts hl0 h2.
-    let hl : called_on s.limits reach c call reply (parts_of s posts (part_numbers c.rank reach)) ≡ Ok parts = rw plain at hl0 in
-    bind_then (called s.limits c.rank posts (call_message s c.rank call) (accessed_memory reach (parts_of s posts (part_numbers c.rank reach))) c.thread call reply) _ parts hl (λ after ha h3.
-    let worked = on_memory-at s posts c.rank reach in
-    let ends = lifted-after s c.rank reach posts after.posts after.memory (peer_after c.rank posts call reply) (peer-apart s.limits.ranks c.rank (row_of call).footprint) in
+    bind_then (on_parts s.limits footprint (Called c call reply) (parts_of s posts (part_numbers c.rank footprint))) _ t h1 (λ parts hl0 h2.
+    let hl : called_on s.limits footprint c call reply (parts_of s posts (part_numbers c.rank footprint)) ≡ Ok parts = rw plain at hl0 in
+    bind_then (called s.limits c.rank posts (call_message s c.rank call) (accessed_memory footprint (parts_of s posts (part_numbers c.rank footprint))) c.thread call reply) _ parts hl (λ after ha h3.
+    let worked = on_memory-at s posts c.rank footprint in
+    let ends = lifted-after s c.rank footprint posts after.posts after.memory (peer_after c.rank posts call reply) (peer-apart s.limits.ranks c.rank (row_of call).footprint) in
     let told_is = told-changed posts (slice_set s.posts c.rank after.posts) in
-    let state : t ≡ with_parts s c.rank (part_numbers c.rank reach) parts = sym (same_Ok _ _ h2) in (
+    let state : t ≡ with_parts s c.rank (part_numbers c.rank footprint) parts = sym (same_Ok _ _ h2) in (
       posts,
-      memory_at reach c.rank s.memories,
+      memory_at footprint c.rank s.memories,
       after,
       record {
         posts_there = hp;
         worked = refl;
         is = called-ok _ _ _ _ _ _ _ _ _ (subst (λ (m : Memory). called s.limits c.rank posts (call_message s c.rank call) m c.thread call reply ≡ Ok after) worked ha);
-        leaves = state ∙ ap (with_parts s c.rank (part_numbers c.rank reach)) (sym (same_Ok _ _ h3)) ∙ ends
-            ∙ ap (λ (x : List Posts). record s { posts = x; memories = memories_at reach c.rank after.memory s.memories }) told_is;
+        leaves = state ∙ ap (with_parts s c.rank (part_numbers c.rank footprint)) (sym (same_Ok _ _ h3)) ∙ ends
+            ∙ ap (λ (x : List Posts). record s { posts = x; memories = memories_at footprint c.rank after.memory s.memories }) told_is;
       },
     ))))
   where
-    reach : Footprint
-    reach = call-footprint s.limits.ranks c.rank call
+    footprint : Footprint
+    footprint = call-footprint s.limits.ranks c.rank call
 
-    told-changed : (posts : Posts) (all : List Posts) → changed_peer reach all (peer_after c.rank posts call reply) ≡ registering s.limits.ranks c.rank posts call reply all
-    told-changed posts all = go reach
+    told-changed : (posts : Posts) (all : List Posts) → changed_peer footprint all (peer_after c.rank posts call reply) ≡ registering s.limits.ranks c.rank posts call reply all
+    told-changed posts all = go footprint
       where
         go : (r : Footprint) → changed_peer r all (peer_after c.rank posts call reply) ≡ registered_at r c.rank posts call reply all
         go Alone = refl
@@ -284,7 +284,7 @@ is_grouped (touches.PostsOf rank) = false
 is_grouped (touches.GroupOf id) = true
 is_grouped (touches.GroupAndMemory id) = true
 
-ungrouped : (ranks me id : ℕ) (touch : DeclaredFootprint) → is_grouped touch ≡ false → (footprint_of ranks me touch ≡ Group id) ⊎ (footprint_of ranks me touch ≡ GroupAndMemory id) → ⊥
+ungrouped : (ranks me id : ℕ) (declaration : DeclaredFootprint) → is_grouped declaration ≡ false → (footprint_of ranks me declaration ≡ Group id) ⊎ (footprint_of ranks me declaration ≡ GroupAndMemory id) → ⊥
 ungrouped ranks me id touches.Nothing plain (inl is) = (let no : ⊥ = cc in no)
 ungrouped ranks me id touches.Nothing plain (inr is) = (let no : ⊥ = cc in no)
 ungrouped ranks me id touches.OwnMemory plain (inl is) = (let no : ⊥ = cc in no)
@@ -367,11 +367,11 @@ pub step-take : (s t : State) (origin queue target number : ℕ) (outcome : Outc
     → (posts : Posts) × (memory : Memory) × (after : Posts) × (at : EntryPosition) × IsTakeStep s t origin queue target number outcome posts memory after at
 step-take s t origin queue target number outcome h =
     found_then (slice_get s.posts origin) _ _ t h (λ posts hp h1.
-    bind_then (on_parts s.limits (reach posts) (Take origin queue target number outcome) (parts_of s posts (part_numbers origin (reach posts)))) _ t h1 (λ parts hl h2.
-    bind_then (take s.limits posts (accessed_memory (reach posts) (parts_of s posts (part_numbers origin (reach posts)))) queue target number outcome) _ parts hl (λ after ha h3.
-    let taken = take-ok s.limits posts (accessed_memory (reach posts) (parts_of s posts (part_numbers origin (reach posts)))) queue target number outcome after ha in
-    let reaches = reach-is posts taken.0.entry (entry-found posts queue target number taken.0 taken.1.is) in
-    let state : t ≡ with_parts s origin (part_numbers origin (reach posts)) parts = sym (same_Ok _ _ h2) in (
+    bind_then (on_parts s.limits (footprint posts) (Take origin queue target number outcome) (parts_of s posts (part_numbers origin (footprint posts)))) _ t h1 (λ parts hl h2.
+    bind_then (take s.limits posts (accessed_memory (footprint posts) (parts_of s posts (part_numbers origin (footprint posts)))) queue target number outcome) _ parts hl (λ after ha h3.
+    let taken = take-ok s.limits posts (accessed_memory (footprint posts) (parts_of s posts (part_numbers origin (footprint posts)))) queue target number outcome after ha in
+    let reaches = footprint-is posts taken.0.entry (entry-found posts queue target number taken.0 taken.1.is) in
+    let state : t ≡ with_parts s origin (part_numbers origin (footprint posts)) parts = sym (same_Ok _ _ h2) in (
       posts,
       memory_at (take-footprint s.limits.ranks origin target taken.0.entry.kind) origin s.memories,
       after,
@@ -380,18 +380,18 @@ step-take s t origin queue target number outcome h =
         posts_there = hp;
         worked = refl;
         is = subst (λ (m : Memory). IsTake s.limits posts m queue target number outcome after taken.0)
-            (on_memory-at s posts origin (reach posts) ∙ ap (λ (r : Footprint). memory_at r origin s.memories) reaches) taken.1;
-        leaves = state ∙ ap (with_parts s origin (part_numbers origin (reach posts))) (sym (same_Ok _ _ h3))
-            ∙ leaves posts after (reach posts) (λ rank is. take-alone s.limits.ranks origin target taken.0.entry.kind rank (sym reaches ∙ is))
+            (on_memory-at s posts origin (footprint posts) ∙ ap (λ (r : Footprint). memory_at r origin s.memories) reaches) taken.1;
+        leaves = state ∙ ap (with_parts s origin (part_numbers origin (footprint posts))) (sym (same_Ok _ _ h3))
+            ∙ leaves posts after (footprint posts) (λ rank is. take-alone s.limits.ranks origin target taken.0.entry.kind rank (sym reaches ∙ is))
             (λ id is. take-ungrouped s.limits.ranks origin target taken.0.entry.kind id (onto reaches is));
       },
     ))))
   where
-    reach : Posts → Footprint
-    reach posts = footprint_of s.limits.ranks origin (declared_entry_footprint (take_footprint target) (entry_in posts queue target number))
+    footprint : Posts → Footprint
+    footprint posts = footprint_of s.limits.ranks origin (declared_entry_footprint (take_footprint target) (entry_in posts queue target number))
 
-    reach-is : (posts : Posts) (e : Entry) → entry_in posts queue target number ≡ Some e → reach posts ≡ take-footprint s.limits.ranks origin target e.kind
-    reach-is posts e found = rw found refl
+    footprint-is : (posts : Posts) (e : Entry) → entry_in posts queue target number ≡ Some e → footprint posts ≡ take-footprint s.limits.ranks origin target e.kind
+    footprint-is posts e found = rw found refl
 
     leaves : (posts after : Posts) (r : Footprint) → ((rank : ℕ) → r ≡ PeerPosts rank → ⊥) → ((id : ℕ) → (r ≡ Group id) ⊎ (r ≡ GroupAndMemory id) → ⊥)
         → with_parts s origin (part_numbers origin r) (record (parts_of s posts (part_numbers origin r)) { posts = after }) ≡ record s { posts = slice_set s.posts origin after }
@@ -409,11 +409,11 @@ pub step-put : (s t : State) (origin queue target number : ℕ) (outcome : Outco
     → (posts : Posts) × (memory : Memory) × (after : PostsAndMemory) × (at : EntryPosition) × IsPutStep s t origin queue target number outcome posts memory after at
 step-put s t origin queue target number outcome h =
     found_then (slice_get s.posts origin) _ _ t h (λ posts hp h1.
-    bind_then (on_parts s.limits (reach posts) (Put origin queue target number outcome) (parts_of s posts (part_numbers origin (reach posts)))) _ t h1 (λ parts hl h2.
-    bind_then (put posts (accessed_memory (reach posts) (parts_of s posts (part_numbers origin (reach posts)))) queue target number outcome) _ parts hl (λ after ha h3.
+    bind_then (on_parts s.limits (footprint posts) (Put origin queue target number outcome) (parts_of s posts (part_numbers origin (footprint posts)))) _ t h1 (λ parts hl h2.
+    bind_then (put posts (accessed_memory (footprint posts) (parts_of s posts (part_numbers origin (footprint posts)))) queue target number outcome) _ parts hl (λ after ha h3.
     let made = put-ok posts _ queue target number outcome after ha in
-    let reaches = reach-is posts made.0.entry (entry-found posts queue target number made.0 made.1.is) in
-    let state : t ≡ with_parts s origin (part_numbers origin (reach posts)) parts = sym (same_Ok _ _ h2) in (
+    let reaches = footprint-is posts made.0.entry (entry-found posts queue target number made.0 made.1.is) in
+    let state : t ≡ with_parts s origin (part_numbers origin (footprint posts)) parts = sym (same_Ok _ _ h2) in (
       posts,
       memory_at (put-footprint s.limits.ranks origin target made.0.entry.kind) origin s.memories,
       after,
@@ -422,19 +422,19 @@ step-put s t origin queue target number outcome h =
         posts_there = hp;
         worked = refl;
         is = subst (λ (m : Memory). IsPut posts m queue target number outcome after made.0)
-            (on_memory-at s posts origin (reach posts) ∙ ap (λ (r : Footprint). memory_at r origin s.memories) reaches) made.1;
-        leaves = state ∙ ap (with_parts s origin (part_numbers origin (reach posts))) (sym (same_Ok _ _ h3))
-            ∙ leaves posts after (reach posts) (λ rank is. put-alone s.limits.ranks origin target made.0.entry.kind rank (sym reaches ∙ is))
+            (on_memory-at s posts origin (footprint posts) ∙ ap (λ (r : Footprint). memory_at r origin s.memories) reaches) made.1;
+        leaves = state ∙ ap (with_parts s origin (part_numbers origin (footprint posts))) (sym (same_Ok _ _ h3))
+            ∙ leaves posts after (footprint posts) (λ rank is. put-alone s.limits.ranks origin target made.0.entry.kind rank (sym reaches ∙ is))
             (λ id is. put-ungrouped s.limits.ranks origin target made.0.entry.kind id (onto reaches is))
             ∙ ap (λ (r : Footprint). record s { posts = slice_set s.posts origin after.posts; memories = memories_at r origin after.memory s.memories }) reaches;
       },
     ))))
   where
-    reach : Posts → Footprint
-    reach posts = footprint_of s.limits.ranks origin (declared_entry_footprint (put_footprint target) (entry_in posts queue target number))
+    footprint : Posts → Footprint
+    footprint posts = footprint_of s.limits.ranks origin (declared_entry_footprint (put_footprint target) (entry_in posts queue target number))
 
-    reach-is : (posts : Posts) (e : Entry) → entry_in posts queue target number ≡ Some e → reach posts ≡ put-footprint s.limits.ranks origin target e.kind
-    reach-is posts e found = rw found refl
+    footprint-is : (posts : Posts) (e : Entry) → entry_in posts queue target number ≡ Some e → footprint posts ≡ put-footprint s.limits.ranks origin target e.kind
+    footprint-is posts e found = rw found refl
 
     leaves : (posts : Posts) (after : PostsAndMemory) (r : Footprint) → ((rank : ℕ) → r ≡ PeerPosts rank → ⊥) → ((id : ℕ) → (r ≡ Group id) ⊎ (r ≡ GroupAndMemory id) → ⊥)
         → with_parts s origin (part_numbers origin r) (record (with_accessed_memory r (parts_of s posts (part_numbers origin r)) after.memory) { posts = after.posts })

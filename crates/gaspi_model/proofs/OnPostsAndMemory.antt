@@ -56,7 +56,7 @@ abbrev pub memory_rank : Limits → ℕ → Call → ℕ
 memory_rank limits me call = memory_place (call-footprint limits.ranks me call) me
 
 -- that is a rank
-pub place-within : (ranks me : ℕ) (touch : DeclaredFootprint) → me < ranks → memory_place (footprint_of ranks me touch) me < ranks
+pub place-within : (ranks me : ℕ) (declaration : DeclaredFootprint) → me < ranks → memory_place (footprint_of ranks me declaration) me < ranks
 place-within ranks me touches.Nothing less = less
 place-within ranks me touches.OwnMemory less = less
 place-within ranks me (touches.MemoryOf r) less = go (r == me) (nat_lt r ranks) refl
@@ -187,7 +187,7 @@ called-there s t c call reply plain has h =
     let within = slice_get_within s.posts c.rank made.0 made.3.posts_there in
     let place = place-within s.limits.ranks c.rank (row_of call).footprint (let ranks = has.ranks in omega arith) in
     let there = there-within s.memories (memory_rank s.limits c.rank call) (let memories = has.memories in omega arith) in
-    by-reach (call-footprint s.limits.ranks c.rank call) refl made.0 made.1 made.2 made.3 there.0 there.1
+    by-footprint (call-footprint s.limits.ranks c.rank call) refl made.0 made.1 made.2 made.3 there.0 there.1
   where
     -- the memory is worked on
     worked : (posts : Posts) (m : Memory) (after : PostsAndMemory) → IsCalledStep s t c call reply posts m after → (memory : Memory) → slice_get s.memories (memory_rank s.limits c.rank call) ≡ Some memory
@@ -226,32 +226,32 @@ called-there s t c call reply plain has h =
       },
     )
 
-    by-reach : (r : Footprint) → call-footprint s.limits.ranks c.rank call ≡ r → (posts : Posts) (m : Memory) (after : PostsAndMemory) → IsCalledStep s t c call reply posts m after
+    by-footprint : (r : Footprint) → call-footprint s.limits.ranks c.rank call ≡ r → (posts : Posts) (m : Memory) (after : PostsAndMemory) → IsCalledStep s t c call reply posts m after
         → (memory : Memory) → slice_get s.memories (memory_rank s.limits c.rank call) ≡ Some memory
         → (posts : Posts) × (memory : Memory) × (after : PostsAndMemory) × IsCalledThere s t c call reply posts memory after
-    by-reach Alone is posts m after made memory there = unworked posts m after made memory there (rw is refl) (rw is refl)
-    by-reach OwnMemory is posts m after made memory there =
+    by-footprint Alone is posts m after made memory there = unworked posts m after made memory there (rw is refl) (rw is refl)
+    by-footprint OwnMemory is posts m after made memory there =
         let here : slice_get s.memories c.rank ≡ Some memory = rw is at there in
         worked posts m after made memory there (rw (is, here) refl) (rw is refl)
-    by-reach (PeerMemory rank) is posts m after made memory there =
+    by-footprint (PeerMemory rank) is posts m after made memory there =
         let here : slice_get s.memories rank ≡ Some memory = rw is at there in
         worked posts m after made memory there (rw (is, here) refl) (rw is refl)
-    by-reach (BothMemories rank) is posts m after made memory there =
+    by-footprint (BothMemories rank) is posts m after made memory there =
         let here : slice_get s.memories rank ≡ Some memory = rw is at there in
         worked posts m after made memory there (rw (is, here) refl) (rw is refl)
-    by-reach (PeerPosts rank) is posts m after made memory there = unworked posts m after made memory there (rw is refl) (rw is refl)
-    by-reach (Group id) is posts m after made memory there = unworked posts m after made memory there (rw is refl) (rw is refl)
-    by-reach (GroupAndMemory id) is posts m after made memory there =
+    by-footprint (PeerPosts rank) is posts m after made memory there = unworked posts m after made memory there (rw is refl) (rw is refl)
+    by-footprint (Group id) is posts m after made memory there = unworked posts m after made memory there (rw is refl) (rw is refl)
+    by-footprint (GroupAndMemory id) is posts m after made memory there =
         let here : slice_get s.memories c.rank ≡ Some memory = rw is at there in
         worked posts m after made memory there (rw (is, here) refl) (rw is refl)
 
 -- The memory that an event of some reach works on is there.
-pub on_memory-there : (s : State) (me : ℕ) (touch : DeclaredFootprint) → HasMemories s → me < s.limits.ranks → is_off_memory (footprint_of s.limits.ranks me touch) ≡ false
-    → slice_get s.memories (memory_place (footprint_of s.limits.ranks me touch) me) ≡ Some (memory_at (footprint_of s.limits.ranks me touch) me s.memories)
-on_memory-there s me touch has less worked =
-    let place = place-within s.limits.ranks me touch less in
-    let there = there-within s.memories (memory_place (footprint_of s.limits.ranks me touch) me) (let memories = has.memories in omega arith) in
-    go (footprint_of s.limits.ranks me touch) worked there.0 there.1
+pub on_memory-there : (s : State) (me : ℕ) (declaration : DeclaredFootprint) → HasMemories s → me < s.limits.ranks → is_off_memory (footprint_of s.limits.ranks me declaration) ≡ false
+    → slice_get s.memories (memory_place (footprint_of s.limits.ranks me declaration) me) ≡ Some (memory_at (footprint_of s.limits.ranks me declaration) me s.memories)
+on_memory-there s me declaration has less worked =
+    let place = place-within s.limits.ranks me declaration less in
+    let there = there-within s.memories (memory_place (footprint_of s.limits.ranks me declaration) me) (let memories = has.memories in omega arith) in
+    go (footprint_of s.limits.ranks me declaration) worked there.0 there.1
   where
     go : (r : Footprint) → is_off_memory r ≡ false → (m : Memory) → slice_get s.memories (memory_place r me) ≡ Some m → slice_get s.memories (memory_place r me) ≡ Some (memory_at r me s.memories)
     go Alone works m at = absurd (let none : ⊥ = cc in none)
@@ -289,8 +289,8 @@ take-memory s origin target (Write own to) has mine theirs =
     (memory_at OwnMemory origin s.memories, on_memory-there s origin touches.OwnMemory has mine refl, refl, refl)
 take-memory s origin target (Read own to) has mine theirs =
     let worked = rank-on_memory s.limits.ranks target origin theirs in
-    let reach = footprint_of s.limits.ranks origin (touches.MemoryOf target) in
-    (memory_at reach origin s.memories, ap (slice_get s.memories) (sym worked.1) ∙ on_memory-there s origin (touches.MemoryOf target) has mine worked.0, refl, refl)
+    let footprint = footprint_of s.limits.ranks origin (touches.MemoryOf target) in
+    (memory_at footprint origin s.memories, ap (slice_get s.memories) (sym worked.1) ∙ on_memory-there s origin (touches.MemoryOf target) has mine worked.0, refl, refl)
 take-memory s origin target (Notify to value) has mine theirs = (memory_at OwnMemory origin s.memories, on_memory-there s origin touches.OwnMemory has mine refl, refl, refl)
 take-memory s origin target (ReadNote own) has mine theirs = (memory_at OwnMemory origin s.memories, on_memory-there s origin touches.OwnMemory has mine refl, refl, refl)
 

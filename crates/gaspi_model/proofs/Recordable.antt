@@ -136,15 +136,15 @@ ended-called s c call posts plain hp there ended room =
     let memory = call_memory s c.rank posts call in
     let brought = call_message s c.rank call in
     let reply : answers.Reply = Refused CallerEnded in
-    let reach = footprint_of s.limits.ranks c.rank (row_of call).footprint in
-    let parts = parts_of s posts (part_numbers c.rank reach) in
-    let leave = λ (after : PostsAndMemory). (let left : Parts = record (with_accessed_memory reach parts after.memory) { posts = after.posts; peer_posts = option_map (peer_after c.rank posts call reply) parts.peer_posts } in left) in
+    let footprint = footprint_of s.limits.ranks c.rank (row_of call).footprint in
+    let parts = parts_of s posts (part_numbers c.rank footprint) in
+    let leave = λ (after : PostsAndMemory). (let left : Parts = record (with_accessed_memory footprint parts after.memory) { posts = after.posts; peer_posts = option_map (peer_after c.rank posts call reply) parts.peer_posts } in left) in
     let finds : answer s.limits c.rank posts memory c.thread call ≡ Reply (Refused CallerEnded) = rw ended refl in
     let same : same_reply reply (recorded_reply (answer s.limits c.rank posts memory c.thread call)) ≡ true = ap (λ (r : Ready). same_reply (Refused CallerEnded) (recorded_reply r)) finds in
     let one = ended-charge (thread_at posts c.thread) call ended in
     let fits = le-leb (posts.events + owed posts + charge (thread_at posts c.thread) call reply) s.limits.events (omega arith) in
     let recorded : IsOk (called s.limits c.rank posts brought memory c.thread call reply) = rw (there, same, fits) refl in
-    rw (hp, plain) (ok-then (called s.limits c.rank posts brought memory c.thread call reply >>= λ after. Ok (leave after)) (with_parts s c.rank (part_numbers c.rank reach))
+    rw (hp, plain) (ok-then (called s.limits c.rank posts brought memory c.thread call reply >>= λ after. Ok (leave after)) (with_parts s c.rank (part_numbers c.rank footprint))
     (ok-then (called s.limits c.rank posts brought memory c.thread call reply) leave recorded))
 
 -- a collective of one
@@ -152,14 +152,14 @@ ended-completed : (s : State) (c : CallerId) (id : ℕ) (call : Call) (posts : P
     → is_running (thread_at posts c.thread) ≡ false → posts.events + owed posts + 1 ≤ s.limits.events → IsOk (step s (Called c call (Refused CallerEnded)))
 ended-completed s c id call posts named hp there ended room =
     let reply : answers.Reply = Refused CallerEnded in
-    let reach = footprint_of s.limits.ranks c.rank (row_of call).footprint in
-    let parts = parts_of s posts (part_numbers c.rank reach) in
+    let footprint = footprint_of s.limits.ranks c.rank (row_of call).footprint in
+    let parts = parts_of s posts (part_numbers c.rank footprint) in
     let finds : collective_answer posts (group_or_none parts.group) c.rank c.thread id call ≡ Reply (Refused CallerEnded) = rw ended refl in
     let answered : is_reply_of (collective_answer posts (group_or_none parts.group) c.rank c.thread id call) reply ≡ true = ap (λ (r : Ready). is_reply_of r (Refused CallerEnded)) finds in
     let fits = le-leb (posts.events + owed posts + 1) s.limits.events room in
     let done : IsOk (completed s.limits c.rank posts (group_or_none parts.group) c.thread id call reply) = rw (there, answered, fits) refl in
     let leave = λ (after : PostsAndGroup). (let left : Parts = record parts { posts = after.posts; group = Some after.group } in left) in
-    rw (hp, named) (ok-then (completed s.limits c.rank posts (group_or_none parts.group) c.thread id call reply >>= λ after. Ok (leave after)) (with_parts s c.rank (part_numbers c.rank reach))
+    rw (hp, named) (ok-then (completed s.limits c.rank posts (group_or_none parts.group) c.thread id call reply >>= λ after. Ok (leave after)) (with_parts s c.rank (part_numbers c.rank footprint))
     (ok-then (completed s.limits c.rank posts (group_or_none parts.group) c.thread id call reply) leave done))
 
 -- with the reply that it has, the call is a step where there is room for it

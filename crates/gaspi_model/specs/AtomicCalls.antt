@@ -28,9 +28,9 @@ word_result limits me posts memory seg offset rank = do
   Ok (Some (replies.Value (word_at (bytes_of memory seg) offset)))
 
 -- (atomic_fetch_add)
-abbrev pub fetch_add_leaves : Memory → fetch_add.FetchAdd → Memory
-fetch_add_leaves memory call = with_bytes memory call.seg (with_sum (bytes_of memory call.seg) call.offset call.value)
+abbrev pub fetch_add_effect : Memory → fetch_add.FetchAdd → Memory
+fetch_add_effect memory call = with_bytes memory call.seg (with_sum (bytes_of memory call.seg) call.offset call.value)
 
 -- (atomic_compare_swap)
-abbrev pub compare_swap_leaves : Memory → compare_swap.CompareSwap → Memory
-compare_swap_leaves memory call = with_bytes memory call.seg (with_swap (bytes_of memory call.seg) call.offset call.comparator call.new)
+abbrev pub compare_swap_effect : Memory → compare_swap.CompareSwap → Memory
+compare_swap_effect memory call = with_bytes memory call.seg (with_swap (bytes_of memory call.seg) call.offset call.comparator call.new)

@@ -21,13 +21,13 @@ use Rattle.gaspi_types.specs.declared.replies.Ready.TheVariants as ready
 use Rattle.gaspi_model.specs.State.{thread_at, is_running}
 use Rattle.gaspi_model.specs.Posting.{with_post, counted}
 use Rattle.gaspi_model.specs.SegmentCalls.{alloc_result, with_own, alloc_effect, register_result, with_known, delete_result, without_own, delete_effect}
-use Rattle.gaspi_model.specs.MemoryCalls.{store_result, store_leaves, load_result}
+use Rattle.gaspi_model.specs.MemoryCalls.{store_result, store_effect, load_result}
 use Rattle.gaspi_model.specs.PostCalls.{post_request_result}
 use Rattle.gaspi_model.specs.QueueCalls.{wait_result, purge_result, qsize_result, state_result, closed, purged}
-use Rattle.gaspi_model.specs.NotificationCalls.{waitsome_result, reset_result, reset_leaves}
-use Rattle.gaspi_model.specs.AtomicCalls.{word_result, fetch_add_leaves, compare_swap_leaves}
+use Rattle.gaspi_model.specs.NotificationCalls.{waitsome_result, reset_result, reset_effect}
+use Rattle.gaspi_model.specs.AtomicCalls.{word_result, fetch_add_effect, compare_swap_effect}
 use Rattle.gaspi_model.specs.PassiveCalls.{send_result, send_effect, receive_result, receive_effect}
-use Rattle.gaspi_model.specs.GroupCalls.{group_create_result, group_create_leaves, group_add_result, group_add_leaves, group_delete_result, group_delete_leaves}
+use Rattle.gaspi_model.specs.GroupCalls.{group_create_result, group_create_effect, group_add_result, group_add_effect, group_delete_result, group_delete_effect}
 use Rattle.gaspi_types.specs.declared.inboxes.Message.{Message}
 use Rattle.gaspi_model.specs.declared.states.ThreadState.{ThreadState}
 use Rattle.gaspi_model.specs.declared.states.ThreadState.TheVariants as threads
@@ -95,9 +95,9 @@ plain_effect posts thread (Alloc call) = with_own posts call.seg call.size
 plain_effect posts thread (Delete call) = without_own posts call.seg
 plain_effect posts thread (Wait call) = closed posts call.queue
 plain_effect posts thread (Purge call) = purged posts call.queue
-plain_effect posts thread GroupCreate = group_create_leaves posts
-plain_effect posts thread (GroupAdd call) = group_add_leaves posts call
-plain_effect posts thread (GroupDelete call) = group_delete_leaves posts call
+plain_effect posts thread GroupCreate = group_create_effect posts
+plain_effect posts thread (GroupAdd call) = group_add_effect posts call
+plain_effect posts thread (GroupDelete call) = group_delete_effect posts call
 plain_effect posts thread End = record posts { threads = slice_set posts.threads thread threads.Ended }
 plain_effect posts thread call = posts
 
@@ -113,12 +113,12 @@ posts_effect limits me posts thread call = done_by (row_of call).posting
 abbrev pub memory_effect : Limits → Posts → Option Message → Memory → Call → Memory
 memory_effect limits posts brought memory (Alloc call) = alloc_effect limits posts memory call
 memory_effect limits posts brought memory (Delete call) = delete_effect memory call
-memory_effect limits posts brought memory (Store call) = store_leaves memory call
-memory_effect limits posts brought memory (Reset call) = reset_leaves memory call
+memory_effect limits posts brought memory (Store call) = store_effect memory call
+memory_effect limits posts brought memory (Reset call) = reset_effect memory call
 memory_effect limits posts brought memory (PassiveSend call) = send_effect brought memory
 memory_effect limits posts brought memory (PassiveReceive call) = receive_effect memory call
-memory_effect limits posts brought memory (FetchAdd call) = fetch_add_leaves memory call
-memory_effect limits posts brought memory (CompareSwap call) = compare_swap_leaves memory call
+memory_effect limits posts brought memory (FetchAdd call) = fetch_add_effect memory call
+memory_effect limits posts brought memory (CompareSwap call) = compare_swap_effect memory call
 memory_effect limits posts brought memory call = memory
 
 -- in the posts of a peer that it reaches, where its own were so before it (segments: segment_register)

@@ -17,8 +17,8 @@ group_create_result posts = do
   id ← next_group posts.groups
   Ok (Some (replies.Id id))
 
-abbrev pub group_create_leaves : Posts → Posts
-group_create_leaves posts = record posts { groups = with_group posts.groups }
+abbrev pub group_create_effect : Posts → Posts
+group_create_effect posts = record posts { groups = with_group posts.groups }
 
 -- the group is built yet, and no collective of the rank is pending on it (group_add)
 abbrev pub group_add_result : Limits → Posts → group_add.GroupAdd → Result (Option Reply) Refusal
@@ -28,8 +28,8 @@ group_add_result limits posts call = do
   idle ← idle_checks posts.pending call.group
   Ok (Some replies.Done)
 
-abbrev pub group_add_leaves : Posts → group_add.GroupAdd → Posts
-group_add_leaves posts call = record posts { groups = with_added posts.groups call.group call.rank }
+abbrev pub group_add_effect : Posts → group_add.GroupAdd → Posts
+group_add_effect posts call = record posts { groups = with_added posts.groups call.group call.rank }
 
 -- the group is there and not group 0, and no collective of the rank is pending on it (group_delete)
 abbrev pub group_delete_result : Posts → group_delete.GroupDelete → Result (Option Reply) Refusal
@@ -38,5 +38,5 @@ group_delete_result posts call = do
   idle ← idle_checks posts.pending call.group
   Ok (Some replies.Done)
 
-abbrev pub group_delete_leaves : Posts → group_delete.GroupDelete → Posts
-group_delete_leaves posts call = record posts { groups = without_group posts.groups call.group }
+abbrev pub group_delete_effect : Posts → group_delete.GroupDelete → Posts
+group_delete_effect posts call = record posts { groups = without_group posts.groups call.group }

@@ -17,8 +17,8 @@ store_result posts call = do
   fits ← own_range_checks posts.segments.own call.seg call.offset (length call.bytes)
   Ok (Some replies.Done)
 
-abbrev pub store_leaves : Memory → store.Store → Memory
-store_leaves memory call = with_bytes memory call.seg (with_range (bytes_of memory call.seg) call.offset call.bytes)
+abbrev pub store_effect : Memory → store.Store → Memory
+store_effect memory call = with_bytes memory call.seg (with_range (bytes_of memory call.seg) call.offset call.bytes)
 
 abbrev pub load_result : Posts → Memory → load.Load → Result (Option Reply) Refusal
 load_result posts memory call = do

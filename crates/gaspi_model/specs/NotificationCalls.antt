@@ -29,5 +29,5 @@ reset_result limits posts memory call = do
   noted ← check (nat_lt call.note limits.notes) BadNote
   Ok (Some (replies.Value (slice_index (slots_of memory call.seg) call.note)))
 
-abbrev pub reset_leaves : Memory → reset.Reset → Memory
-reset_leaves memory call = with_slots memory call.seg (slice_set (slots_of memory call.seg) call.note 0)
+abbrev pub reset_effect : Memory → reset.Reset → Memory
+reset_effect memory call = with_slots memory call.seg (slice_set (slots_of memory call.seg) call.note 0)

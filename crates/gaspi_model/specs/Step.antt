@@ -102,8 +102,8 @@ join_footprint id (Create seg size) = touches.GroupAndMemory id
 join_footprint id (Commit mask) = touches.GroupOf id
 
 abbrev pub declared_entry_footprint : (Kind → DeclaredFootprint) → Option Entry → DeclaredFootprint
-declared_entry_footprint touch None = touches.Nothing
-declared_entry_footprint touch (Some e) = touch e.kind
+declared_entry_footprint declaration None = touches.Nothing
+declared_entry_footprint declaration (Some e) = declaration e.kind
 
 abbrev pub declared_footprint : Posts → Event → DeclaredFootprint
 declared_footprint posts (Called c call reply) = (row_of call).footprint
@@ -125,9 +125,9 @@ cause_without_owner (Put origin queue target number outcome) = whys.Put
 
 -- a call that is no collective
 abbrev pub called_on : Limits → Footprint → CallerId → Call → Reply → Parts → Result Parts Why
-called_on limits reach c call reply parts = do
-  after ← called limits c.rank parts.posts (sent_message c.rank (memory_or_none parts.memory) call) (accessed_memory reach parts) c.thread call reply
-  Ok (record (with_accessed_memory reach parts after.memory) {
+called_on limits footprint c call reply parts = do
+  after ← called limits c.rank parts.posts (sent_message c.rank (memory_or_none parts.memory) call) (accessed_memory footprint parts) c.thread call reply
+  Ok (record (with_accessed_memory footprint parts after.memory) {
     posts = after.posts;
     peer_posts = option_map (peer_after c.rank parts.posts call reply) parts.peer_posts;
   })
@@ -139,23 +139,23 @@ completed_on limits c id call reply parts = do
   Ok (record parts { posts = after.posts; group = Some after.group })
 
 abbrev pub answered_on : Limits → Footprint → CallerId → Call → Reply → Parts → Option ℕ → Result Parts Why
-answered_on limits reach c call reply parts None = called_on limits reach c call reply parts
-answered_on limits reach c call reply parts (Some id) = completed_on limits c id call reply parts
+answered_on limits footprint c call reply parts None = called_on limits footprint c call reply parts
+answered_on limits footprint c call reply parts (Some id) = completed_on limits c id call reply parts
 
 abbrev pub on_parts : Limits → Footprint → Event → Parts → Result Parts Why
-on_parts limits reach (Called c call reply) parts = answered_on limits reach c call reply parts (row_of call).group
-on_parts limits reach (Joined c id args) parts = do
+on_parts limits footprint (Called c call reply) parts = answered_on limits footprint c call reply parts (row_of call).group
+on_parts limits footprint (Joined c id args) parts = do
   after ← joined limits c.rank parts.posts (group_or_none parts.group) c.thread id args
-  Ok (record (with_accessed_memory reach parts (made_memory limits parts.posts (accessed_memory reach parts) args.coll)) {
+  Ok (record (with_accessed_memory footprint parts (made_memory limits parts.posts (accessed_memory footprint parts) args.coll)) {
     posts = after.posts;
     group = Some after.group;
   })
-on_parts limits reach (Take origin queue target number outcome) parts = do
-  after ← take limits parts.posts (accessed_memory reach parts) queue target number outcome
+on_parts limits footprint (Take origin queue target number outcome) parts = do
+  after ← take limits parts.posts (accessed_memory footprint parts) queue target number outcome
   Ok (record parts { posts = after })
-on_parts limits reach (Put origin queue target number outcome) parts = do
-  after ← put parts.posts (accessed_memory reach parts) queue target number outcome
-  Ok (record (with_accessed_memory reach parts after.memory) { posts = after.posts })
+on_parts limits footprint (Put origin queue target number outcome) parts = do
+  after ← put parts.posts (accessed_memory footprint parts) queue target number outcome
+  Ok (record (with_accessed_memory footprint parts after.memory) { posts = after.posts })
 
 abbrev pub local_step : Limits → Event → Parts → Result Parts Why
 local_step limits e parts = on_parts limits (event_footprint limits parts.posts e) e parts
@@ -197,7 +197,7 @@ abbrev pub call_memory : State → ℕ → Posts → Call → Memory
 call_memory s rank posts call = memory_at (footprint_of s.limits.ranks rank (row_of call).footprint)
   where
     memory_at : Footprint → Memory
-    memory_at reach = accessed_memory reach (parts_of s posts (part_numbers rank reach))
+    memory_at footprint = accessed_memory footprint (parts_of s posts (part_numbers rank footprint))
 
 -- the message that a call of a rank brings in a state: a send takes it from the own memory
 abbrev pub call_message : State → ℕ → Call → Option Message

@@ -10,7 +10,7 @@ use Rattle.gaspi_types.specs.declared.footprints.DeclaredFootprint.TheVariants.{
 
 -- a call that touches that, and does no more of what rows tell
 abbrev pub row_with_footprint : DeclaredFootprint → CallRow
-row_with_footprint touch = record { footprint = touch; posting = None; group = None; times_out = false; takes_memory = false; ends = false }
+row_with_footprint declaration = record { footprint = declaration; posting = None; group = None; times_out = false; takes_memory = false; ends = false }
 
 -- a call that appends so many entries to the lane of a rank and a queue
 abbrev pub row_posting : ℕ → ℕ → ℕ → CallRow
@@ -24,7 +24,7 @@ with_timeout row = record row { times_out = true }
 
 -- a collective on a group, which takes a timeout, and touches that
 abbrev pub row_joining : ℕ → DeclaredFootprint → CallRow
-row_joining group touch = record (with_timeout (row_with_footprint touch)) { group = Some group }
+row_joining group declaration = record (with_timeout (row_with_footprint declaration)) { group = Some group }
 
 -- How many entries a list post asks for: one for each of its items, and so many more. Own choice: one whose length is
 -- outside its limits asks for none.

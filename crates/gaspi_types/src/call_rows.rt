@@ -34,11 +34,11 @@ pub struct CallRow {
 
 impl CallRow {
     /// A call that touches that, and does no more of what rows tell.
-    fn touching(touch: DeclaredFootprint) -> CallRow
-        ensures { result ≡ row_with_footprint touch }
+    fn with_footprint(declaration: DeclaredFootprint) -> CallRow
+        ensures { result ≡ row_with_footprint declaration }
     {
         CallRow {
-            footprint: touch,
+            footprint: declaration,
             posting: None,
             group: None,
             times_out: false,
@@ -57,17 +57,17 @@ impl CallRow {
                 rank,
                 queue,
             }),
-            ..CallRow::touching(DeclaredFootprint::Nothing)
+            ..CallRow::with_footprint(DeclaredFootprint::Nothing)
         }
     }
 
     /// A collective on a group, which takes a timeout, and touches that.
-    fn collective(group: u64, touch: DeclaredFootprint) -> CallRow
-        ensures { result ≡ row_joining group touch }
+    fn collective(group: u64, declaration: DeclaredFootprint) -> CallRow
+        ensures { result ≡ row_joining group declaration }
     {
         CallRow {
             group: Some(group),
-            ..CallRow::touching(touch).with_timeout()
+            ..CallRow::with_footprint(declaration).with_timeout()
         }
     }
 
@@ -139,11 +139,11 @@ impl Call {
         ensures bound { entries_in result.posting ≤ 257 }
     {
         match self {
-            Call::Alloc(_) => CallRow::touching(DeclaredFootprint::OwnMemory).with_memory(),
-            Call::Register(call) => CallRow::touching(DeclaredFootprint::PostsOf(call.rank)),
-            Call::Delete(_) => CallRow::touching(DeclaredFootprint::OwnMemory),
-            Call::Store(_) => CallRow::touching(DeclaredFootprint::OwnMemory).with_memory(),
-            Call::Load(_) => CallRow::touching(DeclaredFootprint::OwnMemory).with_memory(),
+            Call::Alloc(_) => CallRow::with_footprint(DeclaredFootprint::OwnMemory).with_memory(),
+            Call::Register(call) => CallRow::with_footprint(DeclaredFootprint::PostsOf(call.rank)),
+            Call::Delete(_) => CallRow::with_footprint(DeclaredFootprint::OwnMemory),
+            Call::Store(_) => CallRow::with_footprint(DeclaredFootprint::OwnMemory).with_memory(),
+            Call::Load(_) => CallRow::with_footprint(DeclaredFootprint::OwnMemory).with_memory(),
             Call::Write(call) => CallRow::posting(1, call.rank, call.queue).with_memory(),
             Call::Read(call) => CallRow::posting(1, call.rank, call.queue).with_memory(),
             Call::Notify(call) => CallRow::posting(1, call.rank, call.queue),
@@ -165,22 +165,27 @@ impl Call {
                 let entries = list_entries(call.items.len(), 1);
                 CallRow::posting(entries, call.rank, call.queue).with_memory()
             }
-            Call::Wait(_) => CallRow::touching(DeclaredFootprint::Nothing).with_timeout(),
-            Call::Purge(_) => CallRow::touching(DeclaredFootprint::Nothing),
-            Call::Qsize(_) => CallRow::touching(DeclaredFootprint::Nothing),
-            Call::Waitsome(_) => CallRow::touching(DeclaredFootprint::OwnMemory).with_timeout(),
-            Call::Reset(_) => CallRow::touching(DeclaredFootprint::OwnMemory),
-            Call::PassiveSend(call) => CallRow::touching(DeclaredFootprint::BothMemories(call.rank))
-                .with_memory()
-                .with_timeout(),
-            Call::PassiveReceive(_) => CallRow::touching(
+            Call::Wait(_) => CallRow::with_footprint(DeclaredFootprint::Nothing).with_timeout(),
+            Call::Purge(_) => CallRow::with_footprint(DeclaredFootprint::Nothing),
+            Call::Qsize(_) => CallRow::with_footprint(DeclaredFootprint::Nothing),
+            Call::Waitsome(_) => CallRow::with_footprint(
                 DeclaredFootprint::OwnMemory,
             ).with_timeout(),
-            Call::FetchAdd(call) => CallRow::touching(DeclaredFootprint::MemoryOf(call.rank)),
-            Call::CompareSwap(call) => CallRow::touching(DeclaredFootprint::MemoryOf(call.rank)),
-            Call::GroupCreate => CallRow::touching(DeclaredFootprint::Nothing),
-            Call::GroupAdd(_) => CallRow::touching(DeclaredFootprint::Nothing),
-            Call::GroupDelete(_) => CallRow::touching(DeclaredFootprint::Nothing),
+            Call::Reset(_) => CallRow::with_footprint(DeclaredFootprint::OwnMemory),
+            Call::PassiveSend(call) => CallRow::with_footprint(DeclaredFootprint::BothMemories(
+                call.rank,
+            )).with_memory()
+                .with_timeout(),
+            Call::PassiveReceive(_) => CallRow::with_footprint(
+                DeclaredFootprint::OwnMemory,
+            ).with_timeout(),
+            Call::FetchAdd(call) => CallRow::with_footprint(DeclaredFootprint::MemoryOf(call.rank)),
+            Call::CompareSwap(call) => CallRow::with_footprint(DeclaredFootprint::MemoryOf(
+                call.rank,
+            )),
+            Call::GroupCreate => CallRow::with_footprint(DeclaredFootprint::Nothing),
+            Call::GroupAdd(_) => CallRow::with_footprint(DeclaredFootprint::Nothing),
+            Call::GroupDelete(_) => CallRow::with_footprint(DeclaredFootprint::Nothing),
             Call::Commit(call) => CallRow::collective(
                 call.group,
                 DeclaredFootprint::GroupOf(call.group),
@@ -201,10 +206,10 @@ impl Call {
                     DeclaredFootprint::GroupAndMemory(call.group),
                 ).with_memory()
             }
-            Call::State => CallRow::touching(DeclaredFootprint::Nothing),
+            Call::State => CallRow::with_footprint(DeclaredFootprint::Nothing),
             Call::End => CallRow {
                 ends: true,
-                ..CallRow::touching(DeclaredFootprint::Nothing)
+                ..CallRow::with_footprint(DeclaredFootprint::Nothing)
             },
         }
     }

@@ -1,4 +1,4 @@
-//! What an event touches beside the posts of its owner's rank.
+//! The footprint of an event beside the posts of its owner's rank.
 
 ghost use Rattle.std.specs.Prelude.{◌≡◌, ◌≤◌};
 ghost use Rattle.gaspi_types.specs.Footprints.{footprint_of, take_footprint, put_footprint};
@@ -39,7 +39,7 @@ pub enum Footprint {
 
 impl DeclaredFootprint {
     /// What is reached, in a world of so many ranks, by an event of a rank.
-    pub fn reach(self, ranks: u32, me: RankId) -> Footprint
+    pub fn footprint(self, ranks: u32, me: RankId) -> Footprint
         requires { ranks ≤ 16 }
         ensures { result ≡ footprint_of ranks me self }
     {
@@ -94,7 +94,7 @@ impl DeclaredFootprint {
 impl Kind {
     /// What the take of an entry of that kind touches: a write takes its bytes from its own segment, a read from its
     /// target's.
-    pub fn take_touch(&self, target: RankId) -> DeclaredFootprint
+    pub fn take_footprint(&self, target: RankId) -> DeclaredFootprint
         ensures { result ≡ take_footprint target self.now }
     {
         match self {
@@ -105,7 +105,7 @@ impl Kind {
     }
 
     /// What its put touches: the memory of its target, or, of a read and its notification, that of its origin.
-    pub fn put_touch(&self, target: RankId) -> DeclaredFootprint
+    pub fn put_footprint(&self, target: RankId) -> DeclaredFootprint
         ensures { result ≡ put_footprint target self.now }
     {
         match self {

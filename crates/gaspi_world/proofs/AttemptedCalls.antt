@@ -55,7 +55,7 @@ use Rattle.gaspi_world.specs.HeldShards.{Holds, IsCommitted, AgreesOn}
 use Rattle.gaspi_world.specs.HeldAttempts.{is_full_for, MayRecord, MayJoinAs, FoundFits}
 use Rattle.gaspi_world.specs.declared.holding.HeldShards.{HeldShards}
 use Rattle.gaspi_world.proofs.CommittedNodes.{agrees-self, own-at, lends-at, sound-at, shards-of, join-touches-own}
-use Rattle.gaspi_world.proofs.HeldNodes.{IsReach, footprint-is}
+use Rattle.gaspi_world.proofs.HeldNodes.{IsFootprint, footprint-is}
 use Rattle.gaspi_model.proofs.Sections.{reached-declared}
 use Rattle.gaspi_world.proofs.Working.{has-room, found-in, full-in}
 
@@ -89,11 +89,11 @@ module _ {S : Type 0} (w : ShapeValue) (world : IsShape w) (c : CallerId) (call 
   pub lends-call : (k : List Event) → is_legal w k ≡ true → AgreesOn w h v k → LendsFor (state_after w k) call h.nodes.own.value (peer_of h.nodes.other) (held_group h.nodes.other)
   lends-call k is agree =
       let s = state_after w k in
-      let touch = (row_of call).footprint in
-      let lends = lends-at w world h v holds k (footprint_of w.limits.ranks c.rank touch) is agree (subst (λ (n : ℕ). IsReach w.limits.ranks n (footprint_of w.limits.ranks c.rank touch)) (sym own) (footprint-is w.limits.ranks c.rank touch)) other in
-      subst (λ (n : ℕ). Lends s n (footprint_of s.limits.ranks n touch) h.nodes.own.value (peer_of h.nodes.other) (held_group h.nodes.other)) (sym (me-at k is agree))
-      (subst (λ (l : Limits). Lends s h.own (footprint_of l.ranks h.own touch) h.nodes.own.value (peer_of h.nodes.other) (held_group h.nodes.other)) (sym (limits-are w k is))
-      (subst (λ (n : ℕ). Lends s h.own (footprint_of w.limits.ranks n touch) h.nodes.own.value (peer_of h.nodes.other) (held_group h.nodes.other)) (sym own) lends))
+      let declaration = (row_of call).footprint in
+      let lends = lends-at w world h v holds k (footprint_of w.limits.ranks c.rank declaration) is agree (subst (λ (n : ℕ). IsFootprint w.limits.ranks n (footprint_of w.limits.ranks c.rank declaration)) (sym own) (footprint-is w.limits.ranks c.rank declaration)) other in
+      subst (λ (n : ℕ). Lends s n (footprint_of s.limits.ranks n declaration) h.nodes.own.value (peer_of h.nodes.other) (held_group h.nodes.other)) (sym (me-at k is agree))
+      (subst (λ (l : Limits). Lends s h.own (footprint_of l.ranks h.own declaration) h.nodes.own.value (peer_of h.nodes.other) (held_group h.nodes.other)) (sym (limits-are w k is))
+      (subst (λ (n : ℕ). Lends s h.own (footprint_of w.limits.ranks n declaration) h.nodes.own.value (peer_of h.nodes.other) (held_group h.nodes.other)) (sym own) lends))
 
   pub lent-call : AreLentFor call h.nodes.own.value (peer_of h.nodes.other) (held_group h.nodes.other)
   lent-call = record {

@@ -41,7 +41,7 @@ use Rattle.gaspi_world.specs.WorldMachine.{world_machine}
 use Rattle.gaspi_world.specs.declared.holding.HeldShards.{HeldShards}
 use Rattle.gaspi_world.specs.declared.shards.WorldShard.{WorldShard}
 use Rattle.gaspi_world.specs.declared.shards.WorldShard.TheVariants as shards
-use Rattle.gaspi_world.proofs.HeldNodes.{IsReach, footprint-is, own-node, other-node, have-stepped}
+use Rattle.gaspi_world.proofs.HeldNodes.{IsFootprint, footprint-is, own-node, other-node, have-stepped}
 
 -- The shards that are held are the owner's and the other one.
 other-there : (j : ℕ) (o : OtherNode) → IsOther (Some j) o → (x : WorldShard) × (value_at (other_value (Some j) o) j ≡ Some x)
@@ -107,12 +107,12 @@ module _ {S : Type 0} (w : ShapeValue) (world : IsShape w) (h : HeldShards) (v :
       (own-node w (state_after w k) (sound-at k is) (limits-are w k is) h.own h.nodes (λ rank. journal_of rank k) holds.own (parts-at k agree h.own (shards.Rank h.nodes.own) (here (other_value h.other h.nodes.other) h.own h.own (shards.Rank h.nodes.own) refl))).0
 
   -- the nodes are lent for an event that reaches the other shard
-  pub lends-at : (k : List Event) (reach : Footprint) → is_legal w k ≡ true → AgreesOn w h v k → IsReach w.limits.ranks h.own reach → h.other ≡ rank_other w.limits.ranks reach
-      → Lends (state_after w k) h.own reach h.nodes.own.value (peer_of h.nodes.other) (group_of h.nodes.other)
-  lends-at k reach is agree reached other =
-      let parts : (j : ℕ) (x : WorldShard) → value_at (other_value (rank_other w.limits.ranks reach) h.nodes.other) j ≡ Some x → HasParts (by_ranks w) w (node_meaning w) j x (state_after w k) (λ rank. journal_of rank k) =
+  pub lends-at : (k : List Event) (footprint : Footprint) → is_legal w k ≡ true → AgreesOn w h v k → IsFootprint w.limits.ranks h.own footprint → h.other ≡ rank_other w.limits.ranks footprint
+      → Lends (state_after w k) h.own footprint h.nodes.own.value (peer_of h.nodes.other) (group_of h.nodes.other)
+  lends-at k footprint is agree reached other =
+      let parts : (j : ℕ) (x : WorldShard) → value_at (other_value (rank_other w.limits.ranks footprint) h.nodes.other) j ≡ Some x → HasParts (by_ranks w) w (node_meaning w) j x (state_after w k) (λ rank. journal_of rank k) =
       λ j x at. parts-at k agree j x (behind j x (subst (λ (o : Option ℕ). value_at (other_value o h.nodes.other) j ≡ Some x) (sym other) at)) in
-      let rest = other-node w (state_after w k) (sound-at k is) (limits-are w k is) h.own reach h.nodes.other (λ rank. journal_of rank k) reached (subst (λ (o : Option ℕ). IsOther o h.nodes.other) other holds.fits) parts in
+      let rest = other-node w (state_after w k) (sound-at k is) (limits-are w k is) h.own footprint h.nodes.other (λ rank. journal_of rank k) reached (subst (λ (o : Option ℕ). IsOther o h.nodes.other) other holds.fits) parts in
       record { own_node = own-at k is agree; peer_node = rest.0; group_node = rest.1 }
     where
       apart-at : (o : Option ℕ) (x : WorldShard) → ((j : ℕ) → o ≡ Some j → j ≡ h.own → ⊥) → value_at (other_value o h.nodes.other) h.own ≡ Some x → ⊥
@@ -152,29 +152,29 @@ module _ {S : Type 0} (w : ShapeValue) (world : IsShape w) (h : HeldShards) (v :
       }
 
   -- An event that may follow what was seen is a step on the nodes.
-  pub step-on : (e : Event) → h.own ≡ owner_of e → IsReach w.limits.ranks h.own (event_footprint w.limits h.nodes.own.value.posts.posts e) → h.other ≡ rank_other w.limits.ranks (event_footprint w.limits h.nodes.own.value.posts.posts e)
+  pub step-on : (e : Event) → h.own ≡ owner_of e → IsFootprint w.limits.ranks h.own (event_footprint w.limits h.nodes.own.value.posts.posts e) → h.other ≡ rank_other w.limits.ranks (event_footprint w.limits h.nodes.own.value.posts.posts e)
       → is_legal w (v.seen ++ e ∷ []) ≡ true → IsStepOn (state_after w v.seen) (state_after w (v.seen ++ e ∷ [])) e h.nodes.own.value (peer_of h.nodes.other) (group_of h.nodes.other)
   step-on e own reached other may =
-      let reach = event_footprint w.limits h.nodes.own.value.posts.posts e in
-      let lends = lends-at v.seen reach legal agrees-self reached other in
+      let footprint = event_footprint w.limits h.nodes.own.value.posts.posts e in
+      let lends = lends-at v.seen footprint legal agrees-self reached other in
       record {
         sound = sound-at v.seen legal;
         lends = subst (λ (l : Limits). Lends (state_after w v.seen) (owner_of e) (event_footprint l h.nodes.own.value.posts.posts e) h.nodes.own.value (peer_of h.nodes.other) (group_of h.nodes.other)) (sym (limits-are w v.seen legal))
-            (subst (λ (n : ℕ). Lends (state_after w v.seen) n reach h.nodes.own.value (peer_of h.nodes.other) (group_of h.nodes.other)) own lends);
+            (subst (λ (n : ℕ). Lends (state_after w v.seen) n footprint h.nodes.own.value (peer_of h.nodes.other) (group_of h.nodes.other)) own lends);
         is_step = last-step w v.seen e may;
       }
 
   -- After the commit and its step the nodes are held.
-  pub committed-holds : (e : Event) (place : ℕ) (k : List Event) (u : PassView S Event) (new : HeldNodes) → h.own ≡ owner_of e → IsReach w.limits.ranks h.own (event_footprint w.limits h.nodes.own.value.posts.posts e)
+  pub committed-holds : (e : Event) (place : ℕ) (k : List Event) (u : PassView S Event) (new : HeldNodes) → h.own ≡ owner_of e → IsFootprint w.limits.ranks h.own (event_footprint w.limits h.nodes.own.value.posts.posts e)
       → h.other ≡ rank_other w.limits.ranks (event_footprint w.limits h.nodes.own.value.posts.posts e) → IsSameKind new.other h.nodes.other
       → ((s t : State) → IsStepOn s t e h.nodes.own.value (peer_of h.nodes.other) (group_of h.nodes.other) → IsLeft s t e place h.nodes.own.value new.own.value (peer_of h.nodes.other) (peer_of new.other) (group_of new.other))
       → Committed (world_machine w) v e place k u → Holds w (record { own = h.own; other = h.other; nodes = new }) u
   committed-holds e place k u new own reached other kind left c =
-      let reach = event_footprint w.limits h.nodes.own.value.posts.posts e in
+      let footprint = event_footprint w.limits h.nodes.own.value.posts.posts e in
       let below : owner_of e < w.limits.ranks = subst (λ (n : ℕ). n < w.limits.ranks) own holds.own in
-      let reached_by = subst (λ (n : ℕ). IsReach w.limits.ranks n reach) own reached in
+      let reached_by = subst (λ (n : ℕ). IsFootprint w.limits.ranks n footprint) own reached in
       let fits = subst (λ (o : Option ℕ). IsOther o h.nodes.other) other holds.fits in
-      let stepped = have-stepped w e place h.nodes new reach refl reached_by fits kind below left in
+      let stepped = have-stepped w e place h.nodes new footprint refl reached_by fits kind below left in
       let there = subst (λ (o : Option ℕ). HaveStepped (by_ranks w) w (node_meaning w) e place ((owner_of e, shards.Rank h.nodes.own) ∷ other_value o h.nodes.other) ((owner_of e, shards.Rank new.own) ∷ other_value o new.other)) (sym other) stepped in
       let steps : HaveStepped (by_ranks w) w (node_meaning w) e place (values_of h) (values_of (record { own = h.own; other = h.other; nodes = new })) =
       subst (λ (n : ℕ). HaveStepped (by_ranks w) w (node_meaning w) e place ((n, shards.Rank h.nodes.own) ∷ other_value h.other h.nodes.other) ((n, shards.Rank new.own) ∷ other_value h.other new.other)) (sym own) there in
@@ -206,11 +206,11 @@ own-party w c v pass p is =
     pass.1 ∙ (sym mine ∙ is)
 
 -- what a call reaches, and what a join reaches
-pub call-footprint : (w : ShapeValue) (own : ℕ) (c : CallerId) (call : Call) (reply : Reply) (posts : Posts) → own ≡ c.rank → IsReach w.limits.ranks own (event_footprint w.limits posts (Called c call reply))
-call-footprint w own c call reply posts is = subst (λ (n : ℕ). IsReach w.limits.ranks n (event_footprint w.limits posts (Called c call reply))) (sym is) (footprint-is w.limits.ranks c.rank (row_of call).footprint)
+pub call-footprint : (w : ShapeValue) (own : ℕ) (c : CallerId) (call : Call) (reply : Reply) (posts : Posts) → own ≡ c.rank → IsFootprint w.limits.ranks own (event_footprint w.limits posts (Called c call reply))
+call-footprint w own c call reply posts is = subst (λ (n : ℕ). IsFootprint w.limits.ranks n (event_footprint w.limits posts (Called c call reply))) (sym is) (footprint-is w.limits.ranks c.rank (row_of call).footprint)
 
-pub join-footprint : (w : ShapeValue) (own : ℕ) (c : CallerId) (id : ℕ) (args : Args) (posts : Posts) → own ≡ c.rank → IsReach w.limits.ranks own (event_footprint w.limits posts (Joined c id args))
-join-footprint w own c id args posts is = subst (λ (n : ℕ). IsReach w.limits.ranks n (event_footprint w.limits posts (Joined c id args))) (sym is) (footprint-is w.limits.ranks c.rank (join_footprint id args.coll))
+pub join-footprint : (w : ShapeValue) (own : ℕ) (c : CallerId) (id : ℕ) (args : Args) (posts : Posts) → own ≡ c.rank → IsFootprint w.limits.ranks own (event_footprint w.limits posts (Joined c id args))
+join-footprint w own c id args posts is = subst (λ (n : ℕ). IsFootprint w.limits.ranks n (event_footprint w.limits posts (Joined c id args))) (sym is) (footprint-is w.limits.ranks c.rank (join_footprint id args.coll))
 
 -- a join has its call's shards
 pub join-touches-own : (w : ShapeValue) (c : CallerId) (id : ℕ) (args : Args) (posts : Posts) (o : Option ℕ) → o ≡ call_other w c (joining_call id args) → o ≡ rank_other w.limits.ranks (event_footprint w.limits posts (Joined c id args))

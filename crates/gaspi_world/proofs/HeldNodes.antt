@@ -40,44 +40,44 @@ use Rattle.gaspi_world.specs.declared.shards.WorldShard.{WorldShard}
 use Rattle.gaspi_world.specs.declared.shards.WorldShard.TheVariants as shards
 
 -- What an event reaches is apart from its owner's rank, and is there.
-abbrev pub IsReach : ℕ → ℕ → Footprint → Type 0
-IsReach ranks me Alone = Unit {0}
-IsReach ranks me OwnMemory = Unit {0}
-IsReach ranks me (PeerMemory rank) = ((rank == me) ≡ false) × (rank < ranks)
-IsReach ranks me (BothMemories rank) = ((rank == me) ≡ false) × (rank < ranks)
-IsReach ranks me (PeerPosts rank) = ((rank == me) ≡ false) × (rank < ranks)
-IsReach ranks me (Group id) = id < 8
-IsReach ranks me (GroupAndMemory id) = id < 8
+abbrev pub IsFootprint : ℕ → ℕ → Footprint → Type 0
+IsFootprint ranks me Alone = Unit {0}
+IsFootprint ranks me OwnMemory = Unit {0}
+IsFootprint ranks me (PeerMemory rank) = ((rank == me) ≡ false) × (rank < ranks)
+IsFootprint ranks me (BothMemories rank) = ((rank == me) ≡ false) × (rank < ranks)
+IsFootprint ranks me (PeerPosts rank) = ((rank == me) ≡ false) × (rank < ranks)
+IsFootprint ranks me (Group id) = id < 8
+IsFootprint ranks me (GroupAndMemory id) = id < 8
 
-pub footprint-is : (ranks me : ℕ) (touch : DeclaredFootprint) → IsReach ranks me (footprint_of ranks me touch)
+pub footprint-is : (ranks me : ℕ) (declaration : DeclaredFootprint) → IsFootprint ranks me (footprint_of ranks me declaration)
 footprint-is ranks me touches.Nothing = tt
 footprint-is ranks me touches.OwnMemory = tt
 footprint-is ranks me (touches.MemoryOf rank) = go (rank == me) (nat_lt rank ranks) refl refl
   where
-    go : (a b : Bool) → (rank == me) ≡ a → nat_lt rank ranks ≡ b → IsReach ranks me (if a then OwnMemory else (if b then PeerMemory rank else Alone))
+    go : (a b : Bool) → (rank == me) ≡ a → nat_lt rank ranks ≡ b → IsFootprint ranks me (if a then OwnMemory else (if b then PeerMemory rank else Alone))
     go true b same is = tt
     go false true same is = (same, ltb-true rank ranks is)
     go false false same is = tt
 footprint-is ranks me (touches.BothMemories rank) = go (rank == me) (nat_lt rank ranks) refl refl
   where
-    go : (a b : Bool) → (rank == me) ≡ a → nat_lt rank ranks ≡ b → IsReach ranks me (if a then OwnMemory else (if b then BothMemories rank else Alone))
+    go : (a b : Bool) → (rank == me) ≡ a → nat_lt rank ranks ≡ b → IsFootprint ranks me (if a then OwnMemory else (if b then BothMemories rank else Alone))
     go true b same is = tt
     go false true same is = (same, ltb-true rank ranks is)
     go false false same is = tt
 footprint-is ranks me (touches.PostsOf rank) = go (rank == me) (nat_lt rank ranks) refl refl
   where
-    go : (a b : Bool) → (rank == me) ≡ a → nat_lt rank ranks ≡ b → IsReach ranks me (if a then Alone else (if b then PeerPosts rank else Alone))
+    go : (a b : Bool) → (rank == me) ≡ a → nat_lt rank ranks ≡ b → IsFootprint ranks me (if a then Alone else (if b then PeerPosts rank else Alone))
     go true b same is = tt
     go false true same is = (same, ltb-true rank ranks is)
     go false false same is = tt
 footprint-is ranks me (touches.GroupOf id) = go (nat_lt id 8) refl
   where
-    go : (b : Bool) → nat_lt id 8 ≡ b → IsReach ranks me (if b then Group id else Alone)
+    go : (b : Bool) → nat_lt id 8 ≡ b → IsFootprint ranks me (if b then Group id else Alone)
     go true is = ltb-true id 8 is
     go false is = tt
 footprint-is ranks me (touches.GroupAndMemory id) = go (nat_lt id 8) refl
   where
-    go : (b : Bool) → nat_lt id 8 ≡ b → IsReach ranks me (if b then GroupAndMemory id else Alone)
+    go : (b : Bool) → nat_lt id 8 ≡ b → IsFootprint ranks me (if b then GroupAndMemory id else Alone)
     go true is = ltb-true id 8 is
     go false is = tt
 
@@ -179,7 +179,7 @@ module _ (w : ShapeValue) (s : State) (sound : IsSound s) (limits : s.limits ≡
 
   -- The other node, of a rank or of a group: it is the one that is reached, and stands for its part.
   abbrev pub HasOther : ℕ → Footprint → OtherNode → Type 0
-  HasOther me reach other = IsPeer s me (footprint_peer reach) (peer_of other) × IsGroupAt s (footprint_group reach) (group_of other)
+  HasOther me footprint other = IsPeer s me (footprint_peer footprint) (peer_of other) × IsGroupAt s (footprint_group footprint) (group_of other)
 
   abbrev pub OthersHave : Option ℕ → OtherNode → (ℕ → List PlacedEvent) → Type 0
   OthersHave number other journal = (j : ℕ) (x : WorldShard) → value_at (other_value number other) j ≡ Some x → HasParts (by_ranks w) w (node_meaning w) j x s journal
@@ -219,8 +219,8 @@ module _ (w : ShapeValue) (s : State) (sound : IsSound s) (limits : s.limits ≡
   no-group : (other : OtherNode) → group_of other ≡ None → IsGroupAt s None (group_of other)
   no-group other is = subst (λ o. IsGroupAt s None o) (sym is) tt
 
-  pub other-node : (me : ℕ) (reach : Footprint) (other : OtherNode) (journal : ℕ → List PlacedEvent) → IsReach w.limits.ranks me reach → IsOther (rank_other w.limits.ranks reach) other
-      → OthersHave (rank_other w.limits.ranks reach) other journal → HasOther me reach other
+  pub other-node : (me : ℕ) (footprint : Footprint) (other : OtherNode) (journal : ℕ → List PlacedEvent) → IsFootprint w.limits.ranks me footprint → IsOther (rank_other w.limits.ranks footprint) other
+      → OthersHave (rank_other w.limits.ranks footprint) other journal → HasOther me footprint other
   other-node me Alone other journal reached is has = let none = nothing-else other is in (no-peer me other none.0, no-group other none.1)
   other-node me OwnMemory other journal reached is has = let none = nothing-else other is in (no-peer me other none.0, no-group other none.1)
   other-node me (PeerMemory rank) other journal reached is has = let made = peer-node me rank other journal reached is has in (made.0, no-group other made.2)
@@ -264,8 +264,8 @@ module _ (w : ShapeValue) (s : State) (sound : IsSound s) (limits : s.limits ≡
   none-parts other journal j x at = absurd (let no : ⊥ = cc in no)
 
   -- Where the other node is the one that is reached, its value has its parts; the rank journal of a peer is as before.
-  pub other-parts : (me : ℕ) (reach : Footprint) (old other : OtherNode) (journal : ℕ → List PlacedEvent) → HasOther me reach other → ((rank : ℕ) → footprint_peer reach ≡ Some rank → journal_at (peer_of other) ≡ Some (journal rank))
-      → OthersHave (rank_other w.limits.ranks reach) other journal
+  pub other-parts : (me : ℕ) (footprint : Footprint) (old other : OtherNode) (journal : ℕ → List PlacedEvent) → HasOther me footprint other → ((rank : ℕ) → footprint_peer footprint ≡ Some rank → journal_at (peer_of other) ≡ Some (journal rank))
+      → OthersHave (rank_other w.limits.ranks footprint) other journal
   other-parts me Alone old other journal is noted = none-parts other journal
   other-parts me OwnMemory old other journal is noted = none-parts other journal
   other-parts me (PeerMemory rank) old other journal is noted = peer-parts me rank other journal is.0 (noted rank refl)
@@ -329,13 +329,13 @@ split own y rest P first later i z at = go (eqb i own) refl at
     go true same there = let e : y ≡ z = cc in subst (λ (k : ℕ). P k z) (sym (eqb-true i own same)) (subst (λ (v : WorldShard). P own v) e first)
     go false same there = later i z there
 
-module _ (w : ShapeValue) (e : Event) (place : ℕ) (old new : HeldNodes) (reach : Footprint) (reaches : reach ≡ event_footprint w.limits old.own.value.posts.posts e)
-    (reached : IsReach w.limits.ranks (owner_of e) reach) (fits : IsOther (rank_other w.limits.ranks reach) old.other) (same : IsSameKind new.other old.other) (below : owner_of e < w.limits.ranks)
+module _ (w : ShapeValue) (e : Event) (place : ℕ) (old new : HeldNodes) (footprint : Footprint) (reaches : footprint ≡ event_footprint w.limits old.own.value.posts.posts e)
+    (reached : IsFootprint w.limits.ranks (owner_of e) footprint) (fits : IsOther (rank_other w.limits.ranks footprint) old.other) (same : IsSameKind new.other old.other) (below : owner_of e < w.limits.ranks)
     (left : (s t : State) → IsStepOn s t e old.own.value (peer_of old.other) (group_of old.other) → IsLeft s t e place old.own.value new.own.value (peer_of old.other) (peer_of new.other) (group_of new.other)) where
   abbrev other : Option ℕ
-  other = rank_other w.limits.ranks reach
+  other = rank_other w.limits.ranks footprint
 
-  footprint-at : (s : State) → s.limits ≡ w.limits → event_footprint s.limits old.own.value.posts.posts e ≡ reach
+  footprint-at : (s : State) → s.limits ≡ w.limits → event_footprint s.limits old.own.value.posts.posts e ≡ footprint
   footprint-at s limits = ap (λ (l : Limits). event_footprint l old.own.value.posts.posts e) limits ∙ sym reaches
 
   -- the other value stands behind the own one
@@ -344,7 +344,7 @@ module _ (w : ShapeValue) (e : Event) (place : ℕ) (old new : HeldNodes) (reach
     where
       go : (b : Bool) → eqb j (owner_of e) ≡ b → cond b (Some (shards.Rank old.own)) (value_at (other_value other old.other) j) ≡ Some x
       go false apart = at
-      go true here_is = absurd (apart-from reach reached old.other (subst (λ (k : ℕ). value_at (other_value other old.other) k ≡ Some x) (eqb-true j (owner_of e) here_is) at))
+      go true here_is = absurd (apart-from footprint reached old.other (subst (λ (k : ℕ). value_at (other_value other old.other) k ≡ Some x) (eqb-true j (owner_of e) here_is) at))
         where
           none-at : (k : ℕ) (o : OtherNode) → (k ≡ owner_of e → ⊥) → value_at (other_value (Some k) o) (owner_of e) ≡ Some x → ⊥
           none-at k others.Nothing ne is = let no : ⊥ = cc in no
@@ -354,7 +354,7 @@ module _ (w : ShapeValue) (e : Event) (place : ℕ) (old new : HeldNodes) (reach
           apart-rank : (rank : ℕ) → (rank == owner_of e) ≡ false → rank ≡ owner_of e → ⊥
           apart-rank rank apart is = eqb-false rank (owner_of e) apart is
 
-          apart-from : (r : Footprint) → IsReach w.limits.ranks (owner_of e) r → (o : OtherNode) → value_at (other_value (rank_other w.limits.ranks r) o) (owner_of e) ≡ Some x → ⊥
+          apart-from : (r : Footprint) → IsFootprint w.limits.ranks (owner_of e) r → (o : OtherNode) → value_at (other_value (rank_other w.limits.ranks r) o) (owner_of e) ≡ Some x → ⊥
           apart-from Alone is o at = let no : ⊥ = cc in no
           apart-from OwnMemory is o at = let no : ⊥ = cc in no
           apart-from (PeerMemory rank) is o at = none-at rank o (apart-rank rank is.0) at
@@ -369,7 +369,7 @@ module _ (w : ShapeValue) (e : Event) (place : ℕ) (old new : HeldNodes) (reach
       → IsStepOn s t e old.own.value (peer_of old.other) (group_of old.other) × (old.own.value.posts.journal ≡ journal (owner_of e))
   lent s t journal sound limits is has =
       let own = own-node w s sound limits (owner_of e) old journal below (has (owner_of e) (shards.Rank old.own) (here (other_value other old.other) (owner_of e) (owner_of e) (shards.Rank old.own) refl)) in
-      let rest = other-node w s sound limits (owner_of e) reach old.other journal reached fits (λ j x at. has j x (behind j x at)) in (
+      let rest = other-node w s sound limits (owner_of e) footprint old.other journal reached fits (λ j x at. has j x (behind j x at)) in (
         record {
           sound = sound;
           lends = subst (λ (r : Footprint). Lends s (owner_of e) r old.own.value (peer_of old.other) (group_of old.other)) (sym (footprint-at s limits)) (record { own_node = own.0; peer_node = rest.0; group_node = rest.1 });
@@ -393,20 +393,20 @@ module _ (w : ShapeValue) (e : Event) (place : ℕ) (old new : HeldNodes) (reach
         let own_journal : new.own.value.posts.journal ≡ noted (owner_of e) = l.journal ∙ (ap (λ (j : List PlacedEvent). j ++ placed_at place e ∷ []) on.1 ∙ ap (λ (j : List PlacedEvent). journal (owner_of e) ++ j) (sym (own-noted (owner_of e) place e refl))) in
         split (owner_of e) (shards.Rank new.own) (other_value other new.other) (λ i z. HasParts (by_ranks w) w (node_meaning w) i z t noted)
         (own-parts w t after still (owner_of e) new noted below lends.own_node own_journal)
-        (other-parts w t after still (owner_of e) reach old.other new.other noted (lends.peer_node, lends.group_node) (λ rank is_peer. peer-journal s t journal sound limits is has rank is_peer l.peer_journal));
+        (other-parts w t after still (owner_of e) footprint old.other new.other noted (lends.peer_node, lends.group_node) (λ rank is_peer. peer-journal s t journal sound limits is has rank is_peer l.peer_journal));
   }
     where
       peer-journal : (s t : State) (journal : ℕ → List PlacedEvent) → IsSound s → s.limits ≡ w.limits → step s e ≡ Ok t
           → ((j : ℕ) (x : WorldShard) → value_at ((owner_of e, shards.Rank old.own) ∷ other_value other old.other) j ≡ Some x → HasParts (by_ranks w) w (node_meaning w) j x s journal)
-          → (rank : ℕ) → footprint_peer reach ≡ Some rank → journal_at (peer_of new.other) ≡ journal_at (peer_of old.other) → journal_at (peer_of new.other) ≡ Some (journal rank ++ noted_by rank place e)
+          → (rank : ℕ) → footprint_peer footprint ≡ Some rank → journal_at (peer_of new.other) ≡ journal_at (peer_of old.other) → journal_at (peer_of new.other) ≡ Some (journal rank ++ noted_by rank place e)
       peer-journal s t journal sound limits is has rank is_peer kept =
           let on = lent s t journal sound limits is has in
           kept ∙ (was rank is_peer ∙ ap (λ (l : List PlacedEvent). Some l) (sym (ap (λ (l : List PlacedEvent). journal rank ++ l) (none-noted rank place e (apart rank is_peer)) ∙ append-nil (journal rank))))
         where
-          apart : (rank : ℕ) → footprint_peer reach ≡ Some rank → rank ≡ owner_of e → ⊥
-          apart rank is_peer = go reach reached is_peer
+          apart : (rank : ℕ) → footprint_peer footprint ≡ Some rank → rank ≡ owner_of e → ⊥
+          apart rank is_peer = go footprint reached is_peer
             where
-              go : (r : Footprint) → IsReach w.limits.ranks (owner_of e) r → footprint_peer r ≡ Some rank → rank ≡ owner_of e → ⊥
+              go : (r : Footprint) → IsFootprint w.limits.ranks (owner_of e) r → footprint_peer r ≡ Some rank → rank ≡ owner_of e → ⊥
               go Alone is there = absurd (let no : ⊥ = cc in no)
               go OwnMemory is there = absurd (let no : ⊥ = cc in no)
               go (PeerMemory k) is there = let k_is : k ≡ rank = cc in λ same. eqb-false k (owner_of e) is.0 (k_is ∙ same)
@@ -415,15 +415,15 @@ module _ (w : ShapeValue) (e : Event) (place : ℕ) (old new : HeldNodes) (reach
               go (Group id) is there = absurd (let no : ⊥ = cc in no)
               go (GroupAndMemory id) is there = absurd (let no : ⊥ = cc in no)
 
-          was : (rank : ℕ) → footprint_peer reach ≡ Some rank → journal_at (peer_of old.other) ≡ Some (journal rank)
-          was rank is_peer = go reach reached fits (λ j x at. has j x (behind j x at)) is_peer
+          was : (rank : ℕ) → footprint_peer footprint ≡ Some rank → journal_at (peer_of old.other) ≡ Some (journal rank)
+          was rank is_peer = go footprint reached fits (λ j x at. has j x (behind j x at)) is_peer
             where
               told : (k : ℕ) → ((k == owner_of e) ≡ false) × (k < w.limits.ranks) → IsOther (Some k) old.other → OthersHave w s sound limits (Some k) old.other journal → ◌≡◌ {A = Option ℕ} (Some k) (Some rank) → journal_at (peer_of old.other) ≡ Some (journal rank)
               told k is fit have there =
                   let same_rank : k ≡ rank = cc in
                   subst (λ (n : ℕ). journal_at (peer_of old.other) ≡ Some (journal n)) same_rank (other-journal w s sound limits (owner_of e) k old.other journal is fit have)
 
-              go : (r : Footprint) → IsReach w.limits.ranks (owner_of e) r → IsOther (rank_other w.limits.ranks r) old.other → OthersHave w s sound limits (rank_other w.limits.ranks r) old.other journal → footprint_peer r ≡ Some rank
+              go : (r : Footprint) → IsFootprint w.limits.ranks (owner_of e) r → IsOther (rank_other w.limits.ranks r) old.other → OthersHave w s sound limits (rank_other w.limits.ranks r) old.other journal → footprint_peer r ≡ Some rank
                   → journal_at (peer_of old.other) ≡ Some (journal rank)
               go Alone is fit have there = absurd (let no : ⊥ = cc in no)
               go OwnMemory is fit have there = absurd (let no : ⊥ = cc in no)
@@ -434,7 +434,7 @@ module _ (w : ShapeValue) (e : Event) (place : ℕ) (old new : HeldNodes) (reach
               go (GroupAndMemory id) is fit have there = absurd (let no : ⊥ = cc in no)
 
 -- the other shard of what an event of a rank reaches
-pub other-shard : (w : ShapeValue) (me : ℕ) (reach : Footprint) → me < w.limits.ranks → IsReach w.limits.ranks me reach → IsOtherShard w me (rank_other w.limits.ranks reach)
+pub other-shard : (w : ShapeValue) (me : ℕ) (footprint : Footprint) → me < w.limits.ranks → IsFootprint w.limits.ranks me footprint → IsOtherShard w me (rank_other w.limits.ranks footprint)
 other-shard w me Alone lt is = tt
 other-shard w me OwnMemory lt is = tt
 other-shard w me (PeerMemory rank) lt is = ((let less = is.1 in omega arith), λ same. eqb-false rank me is.0 same)

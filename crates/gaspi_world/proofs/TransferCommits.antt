@@ -34,7 +34,7 @@ use Rattle.gaspi_world.specs.WorldMachine.{world_machine}
 use Rattle.gaspi_world.specs.declared.holding.HeldShards.{HeldShards}
 use Rattle.gaspi_world.specs.declared.moving.Moving.TheVariants as moves
 use Rattle.gaspi_world.proofs.CommittedNodes.{agrees-self, own-at, lends-at, shards-of, step-on, committed-holds}
-use Rattle.gaspi_world.proofs.HeldNodes.{IsReach, footprint-is}
+use Rattle.gaspi_world.proofs.HeldNodes.{IsFootprint, footprint-is}
 use Rattle.gaspi_world.proofs.Transferring.{FrontLaws, ok-state, owner-origin, front-footprint, event-put, event-take}
 
 -- a transfer has no party, and is one of its origin
@@ -62,9 +62,9 @@ module _ {S : Type 0} (w : ShapeValue) (world : IsShape w) (laws : FrontLaws) (h
   own-is : (outcome : Outcome) → h.own ≡ owner_of (event_of t outcome)
   own-is outcome = front.own ∙ sym (owner-origin t outcome)
 
-  reached : (outcome : Outcome) → IsReach w.limits.ranks h.own (event_footprint w.limits h.nodes.own.value.posts.posts (event_of t outcome))
+  reached : (outcome : Outcome) → IsFootprint w.limits.ranks h.own (event_footprint w.limits h.nodes.own.value.posts.posts (event_of t outcome))
   reached outcome =
-      subst (λ (n : ℕ). IsReach w.limits.ranks n (event_footprint w.limits h.nodes.own.value.posts.posts (event_of t outcome))) (sym (own-is outcome))
+      subst (λ (n : ℕ). IsFootprint w.limits.ranks n (event_footprint w.limits h.nodes.own.value.posts.posts (event_of t outcome))) (sym (own-is outcome))
       (footprint-is w.limits.ranks (owner_of (event_of t outcome)) (declared_footprint h.nodes.own.value.posts.posts (event_of t outcome)))
 
   other-is : (outcome : Outcome) → h.other ≡ rank_other w.limits.ranks (event_footprint w.limits h.nodes.own.value.posts.posts (event_of t outcome))

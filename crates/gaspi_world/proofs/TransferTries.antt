@@ -86,13 +86,13 @@ same-rank a b e = cc
 -- the front of a lane of the node that is held
 pub front-held : (w : ShapeValue) (t : Transfer) (e : Entry) (h : HeldShards) (node : Box Node Global) (own : ℕ) (other : Option ℕ) (rest : List (ℕ × WorldShard)) → IsFront node.value.posts t → front_entry node.value.posts t ≡ Some e
     → other ≡ rank_other w.limits.ranks (transfer_footprint w.limits.ranks t e.kind) → values_of h ≡ (own, shards.Rank node) ∷ rest → h.own ≡ own → h.other ≡ other → t.origin ≡ own → IsFrontHeld w t h
-front-held w t e h node own other rest front next reach values own_is other_is origin =
+front-held w t e h node own other rest front next footprint values own_is other_is origin =
     let same : node ≡ h.nodes.own = sym (same-rank h.nodes.own node (ap (λ (l : List (ℕ × WorldShard)). first-value l (shards.Rank node)) values)) in
     record {
       front = subst (λ (n : Box Node Global). IsFront n.value.posts t) same front;
       own = own_is ∙ sym origin;
       other = λ d at.
-          other_is ∙ (reach ∙ ap (λ (k : Entry). rank_other w.limits.ranks (transfer_footprint w.limits.ranks t k.kind)) (one e d (sym (subst (λ (n : Box Node Global). front_entry n.value.posts t ≡ Some e) same next) ∙ at)));
+          other_is ∙ (footprint ∙ ap (λ (k : Entry). rank_other w.limits.ranks (transfer_footprint w.limits.ranks t k.kind)) (one e d (sym (subst (λ (n : Box Node Global). front_entry n.value.posts t ≡ Some e) same next) ∙ at)));
     }
   where
     one : (a b : Entry) → ◌≡◌ {A = Option Entry} (Some a) (Some b) → a ≡ b

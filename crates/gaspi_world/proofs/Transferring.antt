@@ -31,7 +31,7 @@ use Rattle.gaspi_world.specs.ShardLaws.{arrives, limits-are, state-is}
 use Rattle.gaspi_world.specs.ShardMachine.{state_after}
 use Rattle.gaspi_world.specs.HeldShards.{IsOtherShard}
 use Rattle.gaspi_world.specs.Transfers.{HasNoEnabledTransfer, HasActive, HaveEnded}
-use Rattle.gaspi_world.proofs.HeldNodes.{other-shard, IsReach, footprint-is}
+use Rattle.gaspi_world.proofs.HeldNodes.{other-shard, IsFootprint, footprint-is}
 
 -- What is known of fronts: they are steps, and their entry tells what they reach.
 pub record FrontLaws : Type 0 where
@@ -84,8 +84,8 @@ listed-at s t ok = go t.put ok
 
 pub front-other : (w : ShapeValue) (me : ℕ) (t : Transfer) (e : Entry) → me < w.limits.ranks → t.origin ≡ me → IsOtherShard w me (rank_other w.limits.ranks (transfer_footprint w.limits.ranks t e.kind))
 front-other w me t e lt mine =
-    let reach = transfer_footprint w.limits.ranks t e.kind in
-    other-shard w me reach lt (subst (λ (n : ℕ). IsReach w.limits.ranks n reach) mine (footprint-is w.limits.ranks t.origin (if t.put then put_footprint t.target e.kind else take_footprint t.target e.kind)))
+    let footprint = transfer_footprint w.limits.ranks t e.kind in
+    other-shard w me footprint lt (subst (λ (n : ℕ). IsFootprint w.limits.ranks n footprint) mine (footprint-is w.limits.ranks t.origin (if t.put then put_footprint t.target e.kind else take_footprint t.target e.kind)))
 
 module _ (w : ShapeValue) (world : IsShape w) (laws : FrontLaws) (h : List Event) (legal : is_legal w h ≡ true) (p : PostsValue) (t : Transfer) (front : IsFront p t) where
   sound : IsSound (state_after w h)
@@ -108,9 +108,9 @@ module _ (w : ShapeValue) (world : IsShape w) (laws : FrontLaws) (h : List Event
       let o = event.0 in
       let owner : owner_of (event_of t o) ≡ rank = owner-origin t o ∙ (front.mine ∙ is.me) in
       let there : slice_get (state_after w h).posts (owner_of (event_of t o)) ≡ Some p.posts = ap (λ (r : ℕ). slice_get (state_after w h).posts r) owner ∙ is.posts in
-      let reach : rank_other w.limits.ranks (event_footprint w.limits p.posts (event_of t o)) ≡ Some j = ap (rank_other w.limits.ranks) (front-footprint rank e o is next) ∙ other in
+      let footprint : rank_other w.limits.ranks (event_footprint w.limits p.posts (event_of t o)) ≡ Some j = ap (rank_other w.limits.ranks) (front-footprint rank e o is next) ∙ other in
       let either : IsEither (owner_of (event_of t o)) (rank_other w.limits.ranks (event_footprint w.limits p.posts (event_of t o))) j =
-      subst (λ (x : Option ℕ). IsEither (owner_of (event_of t o)) x j) (sym reach) (inr refl) in
+      subst (λ (x : Option ℕ). IsEither (owner_of (event_of t o)) x j) (sym footprint) (inr refl) in
       subst (λ (y : Event). list_any (eqb j) (numbers_of (by_ranks w).number (state_after w h) y) ≡ true) event.1 (either-event w h (event_of t o) p.posts j legal there either)
 
 -- Threads of a rank that have not ended.

@@ -32,33 +32,33 @@ AreParts ranks (part ∷ list) = IsPart ranks part × AreParts ranks list
 abbrev pub Numbers : ℕ → Numbering → Type 0
 Numbers ranks n = (part : Shard) → IsPart ranks part → n.number part < n.shards
 
-reach-parts : (ranks me : ℕ) (touch : DeclaredFootprint) → me < ranks → AreParts ranks (footprint_shards me (footprint_of ranks me touch))
-reach-parts ranks me touches.Nothing lt = (lt, tt)
-reach-parts ranks me touches.OwnMemory lt = (lt, (lt, tt))
-reach-parts ranks me (touches.MemoryOf rank) lt = go (rank == me) (nat_lt rank ranks) refl
+footprint-parts : (ranks me : ℕ) (declaration : DeclaredFootprint) → me < ranks → AreParts ranks (footprint_shards me (footprint_of ranks me declaration))
+footprint-parts ranks me touches.Nothing lt = (lt, tt)
+footprint-parts ranks me touches.OwnMemory lt = (lt, (lt, tt))
+footprint-parts ranks me (touches.MemoryOf rank) lt = go (rank == me) (nat_lt rank ranks) refl
   where
     go : (a b : Bool) → nat_lt rank ranks ≡ b → AreParts ranks (footprint_shards me (if a then OwnMemory else (if b then PeerMemory rank else Alone)))
     go true b is = (lt, (lt, tt))
     go false true is = (lt, (ltb-true rank ranks is, tt))
     go false false is = (lt, tt)
-reach-parts ranks me (touches.BothMemories rank) lt = go (rank == me) (nat_lt rank ranks) refl
+footprint-parts ranks me (touches.BothMemories rank) lt = go (rank == me) (nat_lt rank ranks) refl
   where
     go : (a b : Bool) → nat_lt rank ranks ≡ b → AreParts ranks (footprint_shards me (if a then OwnMemory else (if b then BothMemories rank else Alone)))
     go true b is = (lt, (lt, tt))
     go false true is = (lt, (lt, (ltb-true rank ranks is, tt)))
     go false false is = (lt, tt)
-reach-parts ranks me (touches.PostsOf rank) lt = go (rank == me) (nat_lt rank ranks) refl
+footprint-parts ranks me (touches.PostsOf rank) lt = go (rank == me) (nat_lt rank ranks) refl
   where
     go : (a b : Bool) → nat_lt rank ranks ≡ b → AreParts ranks (footprint_shards me (if a then Alone else (if b then PeerPosts rank else Alone)))
     go true b is = (lt, tt)
     go false true is = (lt, (ltb-true rank ranks is, tt))
     go false false is = (lt, tt)
-reach-parts ranks me (touches.GroupOf id) lt = go (nat_lt id 8) refl
+footprint-parts ranks me (touches.GroupOf id) lt = go (nat_lt id 8) refl
   where
     go : (b : Bool) → nat_lt id 8 ≡ b → AreParts ranks (footprint_shards me (if b then Group id else Alone))
     go true is = (lt, (ltb-true id 8 is, tt))
     go false is = (lt, tt)
-reach-parts ranks me (touches.GroupAndMemory id) lt = go (nat_lt id 8) refl
+footprint-parts ranks me (touches.GroupAndMemory id) lt = go (nat_lt id 8) refl
   where
     go : (b : Bool) → nat_lt id 8 ≡ b → AreParts ranks (footprint_shards me (if b then GroupAndMemory id else Alone))
     go true is = (lt, (lt, (ltb-true id 8 is, tt)))
@@ -69,7 +69,7 @@ footprint-parts s e lt = go (slice_get s.posts (owner_of e)) refl
   where
     go : (o : Option Posts) → slice_get s.posts (owner_of e) ≡ o → AreParts s.limits.ranks (event_shards s e)
     go None at = rw at (lt, tt)
-    go (Some posts) at = rw at (reach-parts s.limits.ranks (owner_of e) (declared_footprint posts e) lt)
+    go (Some posts) at = rw at (footprint-parts s.limits.ranks (owner_of e) (declared_footprint posts e) lt)
 
 module _ (ranks : ℕ) (n : Numbering) (numbers : Numbers ranks n) where
   below : (list : List Shard) (i : ℕ) → AreParts ranks list → list_any (eqb i) (without_repeats (map n.number list)) ≡ true → i < n.shards

@@ -99,14 +99,14 @@ own-twice me i h = go (two-of me me i h)
     go (inl is) = is
     go (inr is) = is
 
-reach-either : (ranks me i : ℕ) (reach : Footprint) → list_any (eqb i) (map (rank_number ranks) (footprint_shards me reach)) ≡ true → IsEither me (rank_other ranks reach) i
-reach-either ranks me i Alone h = one-of me i h
-reach-either ranks me i OwnMemory h = own-twice me i h
-reach-either ranks me i (PeerMemory rank) h = two-of me rank i h
-reach-either ranks me i (BothMemories rank) h = own-again me rank i h
-reach-either ranks me i (PeerPosts rank) h = two-of me rank i h
-reach-either ranks me i (Group id) h = two-of me (ranks + id) i h
-reach-either ranks me i (GroupAndMemory id) h = own-again me (ranks + id) i h
+footprint-either : (ranks me i : ℕ) (footprint : Footprint) → list_any (eqb i) (map (rank_number ranks) (footprint_shards me footprint)) ≡ true → IsEither me (rank_other ranks footprint) i
+footprint-either ranks me i Alone h = one-of me i h
+footprint-either ranks me i OwnMemory h = own-twice me i h
+footprint-either ranks me i (PeerMemory rank) h = two-of me rank i h
+footprint-either ranks me i (BothMemories rank) h = own-again me rank i h
+footprint-either ranks me i (PeerPosts rank) h = two-of me rank i h
+footprint-either ranks me i (Group id) h = two-of me (ranks + id) i h
+footprint-either ranks me i (GroupAndMemory id) h = own-again me (ranks + id) i h
 
 -- The shards of an event are its owner's and the other one.
 pub event-either : (w : ShapeValue) (h : List Event) (e : Event) (posts : Posts) (i : ℕ) → is_legal w h ≡ true → slice_get (state_after w h).posts (owner_of e) ≡ Some posts
@@ -116,7 +116,7 @@ event-either w h e posts i legal at among =
     let plain : list_any (eqb i) (map number (event_shards (state_after w h) e)) ≡ true = drop-repeats (map number (event_shards (state_after w h) e)) i among in
     let there : list_any (eqb i) (map number (footprint_shards (owner_of e) (event_footprint (state_after w h).limits posts e))) ≡ true = rw at at plain in
     let limits = limits-are w h legal in
-    reach-either w.limits.ranks (owner_of e) i (event_footprint w.limits posts e) (subst (λ (l : _). list_any (eqb i) (map number (footprint_shards (owner_of e) (event_footprint l posts e))) ≡ true) limits there)
+    footprint-either w.limits.ranks (owner_of e) i (event_footprint w.limits posts e) (subst (λ (l : _). list_any (eqb i) (map number (footprint_shards (owner_of e) (event_footprint l posts e))) ≡ true) limits there)
 
 -- Those of a call are told before anything is taken.
 pub call-either : (w : ShapeValue) (h : List Event) (c : CallerId) (call : Call) (reply : Reply) (posts : Posts) (i : ℕ) → is_legal w h ≡ true → slice_get (state_after w h).posts c.rank ≡ Some posts
@@ -138,14 +138,14 @@ either-of : (me other i : ℕ) (rest : List ℕ) → list_any (eqb other) rest �
 either-of me other i rest there (inl is) = first-is me i rest is
 either-of me other i rest there (inr is) = later-is me i rest (ap (λ (k : ℕ). list_any (eqb k) rest) is ∙ there)
 
-either-reach : (ranks me i : ℕ) (reach : Footprint) → IsEither me (rank_other ranks reach) i → list_any (eqb i) (map (rank_number ranks) (footprint_shards me reach)) ≡ true
-either-reach ranks me i Alone is = first-is me i [] is
-either-reach ranks me i OwnMemory is = first-is me i (me ∷ []) is
-either-reach ranks me i (PeerMemory rank) is = either-of me rank i (rank ∷ []) (first-is rank rank [] refl) is
-either-reach ranks me i (BothMemories rank) is = either-of me rank i (me ∷ rank ∷ []) (later-is me rank (rank ∷ []) (first-is rank rank [] refl)) is
-either-reach ranks me i (PeerPosts rank) is = either-of me rank i (rank ∷ []) (first-is rank rank [] refl) is
-either-reach ranks me i (Group id) is = either-of me (ranks + id) i ((ranks + id) ∷ []) (first-is (ranks + id) (ranks + id) [] refl) is
-either-reach ranks me i (GroupAndMemory id) is = either-of me (ranks + id) i (me ∷ (ranks + id) ∷ []) (later-is me (ranks + id) ((ranks + id) ∷ []) (first-is (ranks + id) (ranks + id) [] refl)) is
+either-footprint : (ranks me i : ℕ) (footprint : Footprint) → IsEither me (rank_other ranks footprint) i → list_any (eqb i) (map (rank_number ranks) (footprint_shards me footprint)) ≡ true
+either-footprint ranks me i Alone is = first-is me i [] is
+either-footprint ranks me i OwnMemory is = first-is me i (me ∷ []) is
+either-footprint ranks me i (PeerMemory rank) is = either-of me rank i (rank ∷ []) (first-is rank rank [] refl) is
+either-footprint ranks me i (BothMemories rank) is = either-of me rank i (me ∷ rank ∷ []) (later-is me rank (rank ∷ []) (first-is rank rank [] refl)) is
+either-footprint ranks me i (PeerPosts rank) is = either-of me rank i (rank ∷ []) (first-is rank rank [] refl) is
+either-footprint ranks me i (Group id) is = either-of me (ranks + id) i ((ranks + id) ∷ []) (first-is (ranks + id) (ranks + id) [] refl) is
+either-footprint ranks me i (GroupAndMemory id) is = either-of me (ranks + id) i (me ∷ (ranks + id) ∷ []) (later-is me (ranks + id) ((ranks + id) ∷ []) (first-is (ranks + id) (ranks + id) [] refl)) is
 
 pub either-event : (w : ShapeValue) (h : List Event) (e : Event) (posts : Posts) (i : ℕ) → is_legal w h ≡ true → slice_get (state_after w h).posts (owner_of e) ≡ Some posts
     → IsEither (owner_of e) (rank_other w.limits.ranks (event_footprint w.limits posts e)) i → list_any (eqb i) (numbers_of (by_ranks w).number (state_after w h) e) ≡ true
@@ -153,7 +153,7 @@ either-event w h e posts i legal at is =
     let number = rank_number w.limits.ranks in
     let limits = limits-are w h legal in
     let there : list_any (eqb i) (map number (footprint_shards (owner_of e) (event_footprint (state_after w h).limits posts e))) ≡ true =
-    subst (λ (l : _). list_any (eqb i) (map number (footprint_shards (owner_of e) (event_footprint l posts e))) ≡ true) (sym limits) (either-reach w.limits.ranks (owner_of e) i (event_footprint w.limits posts e) is) in
+    subst (λ (l : _). list_any (eqb i) (map number (footprint_shards (owner_of e) (event_footprint l posts e))) ≡ true) (sym limits) (either-footprint w.limits.ranks (owner_of e) i (event_footprint w.limits posts e) is) in
     let plain : list_any (eqb i) (map number (event_shards (state_after w h) e)) ≡ true = rw at there in
     no-repeats (map number (event_shards (state_after w h) e)) i ∙ plain
 

@@ -16,7 +16,7 @@ ghost use Rattle.gaspi_world.specs.HeldAttempts.{waits_for_later_look, is_full_f
 ghost use Rattle.gaspi_world.specs.declared.attempts.Halt.TheVariants as halts;
 
 use crate::committing::{commit_call, commit_join};
-use crate::holding::{HeldShards, give_back, reached_shard, take_and_look};
+use crate::holding::{HeldShards, footprint_shard, give_back, take_and_look};
 use crate::starts::Start;
 use crate::worlds::Pass;
 use commit_table::CommitTable;
@@ -268,7 +268,7 @@ pub fn attempt(
 {
     let ranks = table.start().shape.ranks();
     let own = invocation.caller.rank;
-    let other = reached_shard(ranks, invocation.row.footprint.reach(ranks, own));
+    let other = footprint_shard(ranks, invocation.row.footprint.footprint(ranks, own));
     let Some(mut held) = take_and_look(table, pass, own.number(), other) else {
         return Err(Halt::Busy);
     };

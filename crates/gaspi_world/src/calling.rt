@@ -10,7 +10,7 @@ ghost use Rattle.gaspi_world.specs.Calling.{Calls};
 ghost use Rattle.gaspi_world.specs.declared.calling.Stop.TheVariants.{NoMemory};
 
 use crate::attempts::{Halt, attempt};
-use crate::holding::reached_shard;
+use crate::holding::footprint_shard;
 use crate::starts::Start;
 use crate::worlds::Pass;
 use commit_table::{BackOff, Change, CommitTable};
@@ -51,7 +51,7 @@ pub fn call<R: Wait>(
     let start = table.start();
     let ranks = start.shape.ranks();
     let own = invocation.caller.rank;
-    let other = reached_shard(ranks, invocation.row.footprint.reach(ranks, own));
+    let other = footprint_shard(ranks, invocation.row.footprint.footprint(ranks, own));
     let mut pauses = BackOff::new();
     let mut budget = Budget::new(timeout);
     let mut look = budget.next();

@@ -30,11 +30,11 @@ pub struct HeldShards {
 }
 
 /// The shard that an event has beside its owner's, by what it reaches.
-pub fn reached_shard(ranks: u32, reach: Footprint) -> Option<u32>
+pub fn footprint_shard(ranks: u32, footprint: Footprint) -> Option<u32>
     requires { ranks ≤ 16 }
-    ensures { result ≡ rank_other ranks reach }
+    ensures { result ≡ rank_other ranks footprint }
 {
-    match reach {
+    match footprint {
         Footprint::Alone | Footprint::OwnMemory => None,
         Footprint::PeerMemory(rank) | Footprint::BothMemories(rank) | Footprint::PeerPosts(rank) =>
             { Some(rank.number()) }

@@ -16,7 +16,7 @@ ghost use Rattle.gaspi_world.specs.HeldShards.{Holds};
 ghost use Rattle.gaspi_world.specs.Transfers.{Transfers, MovesOn, HasMoved, HasMovedOne, Tries, IsMovedBehind, IsFrontHeld};
 
 use crate::holding::{
-    HeldShards, both_held, give_back, into_rank, leave_other, one_held, open_other, reached_shard,
+    HeldShards, both_held, footprint_shard, give_back, into_rank, leave_other, one_held, open_other,
 };
 use crate::moving::Moving;
 use crate::shards::WorldShard;
@@ -50,12 +50,12 @@ fn front_shard(node: &Node, ranks: u32, t: &Transfer) -> Option<u32>
     ensures { (e : Entry) → front_entry node.now.posts t.now ≡ Some e → result ≡ rank_other ranks (transfer_footprint ranks t.now e.kind) }
 {
     let kind = node.kind(t);
-    let touch = if t.put {
-        kind.put_touch(t.target)
+    let declaration = if t.put {
+        kind.put_footprint(t.target)
     } else {
-        kind.take_touch(t.target)
+        kind.take_footprint(t.target)
     };
-    reached_shard(ranks, touch.reach(ranks, t.origin))
+    footprint_shard(ranks, declaration.footprint(ranks, t.origin))
 }
 
 /// The event of a transfer that ends so.

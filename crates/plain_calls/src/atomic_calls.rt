@@ -3,7 +3,7 @@
 
 ghost use Rattle.std.specs.Prelude.{◌≡◌};
 ghost use Rattle.gaspi_types.specs.declared.shapes.Limits.{Limits};
-ghost use Rattle.gaspi_model.specs.AtomicCalls.{word_result, fetch_add_leaves, compare_swap_leaves};
+ghost use Rattle.gaspi_model.specs.AtomicCalls.{word_result, fetch_add_effect, compare_swap_effect};
 ghost use Rattle.gaspi_model.specs.declared.states.Memory.{Memory};
 ghost use Rattle.gaspi_model.specs.declared.states.Posts.{Posts};
 
@@ -16,7 +16,7 @@ use segment_store::{
 
 /// Looks at an atomic of a rank, in a world of so many ranks: it answers the word that stands there. These are the table of the
 /// caller's rank, and the segments of the rank that the call names. (GASPI: atomic_fetch_add, atomic_compare_swap)
-pub fn word_finds(
+pub fn word_result(
     ranks: u32,
     me: RankId,
     table: &SegmentTable,
@@ -40,14 +40,14 @@ pub fn word_finds(
 
 /// Adds to the word. (GASPI: atomic_fetch_add)
 pub fn fetch_add_effect(memory: &mut Memory, call: &FetchAdd)
-    ensures { memory.new ≡ fetch_add_leaves memory.old call.now }
+    ensures { memory.new ≡ fetch_add_effect memory.old call.now }
 {
     add_to_segment(&mut memory.segments, call.seg, call.offset, call.value);
 }
 
 /// Writes over the word, where it is the comparator. (GASPI: atomic_compare_swap)
 pub fn compare_swap_effect(memory: &mut Memory, call: &CompareSwap)
-    ensures { memory.new ≡ compare_swap_leaves memory.old call.now }
+    ensures { memory.new ≡ compare_swap_effect memory.old call.now }
 {
     swap_in_segment(
         &mut memory.segments,

@@ -13,24 +13,24 @@ ghost use Rattle.plain_calls.specs.Memory.{is_load, is_send, fills_memory, looks
 ghost use Rattle.plain_calls.specs.NumberBounds.{PlainCallIsBounded, CallIsBounded};
 ghost use Rattle.plain_calls.specs.Registrations.{with_registration};
 
-use crate::atomic_calls::{compare_swap_effect, fetch_add_effect, word_finds};
+use crate::atomic_calls::{compare_swap_effect, fetch_add_effect, word_result};
 use crate::group_calls::{
-    group_add_finds, group_add_leaves, group_create_finds, group_create_leaves, group_delete_finds,
-    group_delete_leaves, pending_on,
+    group_add_effect, group_add_result, group_create_effect, group_create_result,
+    group_delete_effect, group_delete_result, pending_on,
 };
 use crate::looks::Evaluation;
 use crate::memories::slots_of;
-use crate::memory_calls::{load_finds, store_effect, store_finds};
-use crate::notification_calls::{reset_effect, reset_finds, waitsome_finds};
+use crate::memory_calls::{load_result, store_effect, store_result};
+use crate::notification_calls::{reset_effect, reset_result, waitsome_result};
 use crate::passive_calls::{
-    front_of, message_of, receive_finds, receive_leaves, send_finds, send_leaves,
+    front_of, message_of, receive_effect, receive_result, send_effect, send_result,
 };
 use crate::post_calls::posting_result;
 use crate::posting::post;
-use crate::queue_calls::{closed, purge_finds, purged, qsize_finds, state_finds, wait_finds};
+use crate::queue_calls::{closed, purge_result, purged, qsize_result, state_result, wait_result};
 use crate::replies::{is_idle_ready, ready_of};
 use crate::segment_calls::{
-    Registration, alloc_leaves, alloc_result, delete_leaves, delete_result, register_result,
+    Registration, alloc_effect, alloc_result, delete_effect, delete_result, register_result,
     registration_of, set_known_extent,
 };
 use crate::threads::{end_thread, is_running, thread_at};
@@ -43,7 +43,7 @@ use segment_store::EntryKinds;
 use std::alloc::Global;
 
 /// What a call finds that posts nothing. Only a load takes memory.
-fn plain_finds(
+fn plain_result(
     alloc: Global,
     limits: &Limits,
     me: RankId,
@@ -61,26 +61,26 @@ fn plain_finds(
         Call::Alloc(call) => alloc_result(&posts.segments.own, call),
         Call::Register(call) => register_result(limits.ranks, &posts.segments.own, call),
         Call::Delete(call) => delete_result(posts, call),
-        Call::Store(call) => store_finds(&posts.segments.own, call),
-        Call::Load(call) => load_finds(alloc, &posts.segments.own, &memory.segments, call)?,
-        Call::Wait(call) => wait_finds(posts, call),
-        Call::Purge(call) => purge_finds(posts, call),
-        Call::Qsize(call) => qsize_finds(posts, call),
+        Call::Store(call) => store_result(&posts.segments.own, call),
+        Call::Load(call) => load_result(alloc, &posts.segments.own, &memory.segments, call)?,
+        Call::Wait(call) => wait_result(posts, call),
+        Call::Purge(call) => purge_result(posts, call),
+        Call::Qsize(call) => qsize_result(posts, call),
         Call::Waitsome(call) => {
             let slots = slots_of(memory, call.seg);
-            waitsome_finds(limits.notes, &posts.segments.own, slots, call)
+            waitsome_result(limits.notes, &posts.segments.own, slots, call)
         }
         Call::Reset(call) => {
             let slots = slots_of(memory, call.seg);
-            reset_finds(limits.notes, &posts.segments.own, slots, call)
+            reset_result(limits.notes, &posts.segments.own, slots, call)
         }
         Call::PassiveSend(call) => {
             let room = memory.inbox.len() < limits.inbox as usize;
-            send_finds(limits.ranks, &posts.segments.own, room, call)
+            send_result(limits.ranks, &posts.segments.own, room, call)
         }
         Call::PassiveReceive(call) => {
             let front = front_of(&memory.inbox);
-            receive_finds(&posts.segments.own, front, call)
+            receive_result(&posts.segments.own, front, call)
         }
         Call::FetchAdd(
             FetchAdd {
@@ -99,7 +99,7 @@ fn plain_finds(
             },
         ) => {
             let segments = &memory.segments;
-            word_finds(
+            word_result(
                 limits.ranks,
                 me,
                 &posts.segments,
@@ -109,16 +109,16 @@ fn plain_finds(
                 *rank,
             )
         }
-        Call::GroupCreate => group_create_finds(&posts.groups),
+        Call::GroupCreate => group_create_result(&posts.groups),
         Call::GroupAdd(call) => {
             let pending = pending_on(&posts.pending, call.group);
-            group_add_finds(limits.ranks, &posts.groups, pending, call)
+            group_add_result(limits.ranks, &posts.groups, pending, call)
         }
         Call::GroupDelete(call) => {
             let pending = pending_on(&posts.pending, call.group);
-            group_delete_finds(&posts.groups, pending, call)
+            group_delete_result(&posts.groups, pending, call)
         }
-        Call::State => state_finds(posts.corrupt.as_slice()),
+        Call::State => state_result(posts.corrupt.as_slice()),
         _ => Ok(Some(Reply::Done)),
     })
 }
@@ -189,7 +189,7 @@ pub fn look(
             Ok(post_evaluation(finds))
         }
         None => {
-            let finds = plain_finds(alloc, limits, me, posts, memory, call)?;
+            let finds = plain_result(alloc, limits, me, posts, memory, call)?;
             let ready = ready_of(finds);
             let message = brought(alloc, me, own, call, &ready)?;
             Ok(Evaluation {
@@ -219,19 +219,19 @@ fn plain_done(
     ensures ample { fills_memory call.now ≡ false → IsOk result }
 {
     match call {
-        Call::Alloc(call) => return alloc_leaves(alloc, limits, posts, memory, call),
-        Call::Delete(call) => delete_leaves(posts, memory, call),
+        Call::Alloc(call) => return alloc_effect(alloc, limits, posts, memory, call),
+        Call::Delete(call) => delete_effect(posts, memory, call),
         Call::Store(call) => store_effect(memory, call),
         Call::Wait(call) => closed(posts, call.queue),
         Call::Purge(call) => purged(posts, call.queue),
         Call::Reset(call) => reset_effect(memory, call),
-        Call::PassiveSend(_) => return send_leaves(memory, message),
-        Call::PassiveReceive(call) => receive_leaves(memory, call),
+        Call::PassiveSend(_) => return send_effect(memory, message),
+        Call::PassiveReceive(call) => receive_effect(memory, call),
         Call::FetchAdd(call) => fetch_add_effect(memory, call),
         Call::CompareSwap(call) => compare_swap_effect(memory, call),
-        Call::GroupCreate => group_create_leaves(posts),
-        Call::GroupAdd(call) => group_add_leaves(posts, call),
-        Call::GroupDelete(call) => group_delete_leaves(posts, call),
+        Call::GroupCreate => group_create_effect(posts),
+        Call::GroupAdd(call) => group_add_effect(posts, call),
+        Call::GroupDelete(call) => group_delete_effect(posts, call),
         Call::End => end_thread(posts, thread),
         _ => {}
     }

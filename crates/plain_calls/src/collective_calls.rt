@@ -161,7 +161,7 @@ fn check_agreement(group: &Group, me: RankId, coll: Coll) -> Result<(), Refusal>
 }
 
 /// Looks at a collective of which none is pending: whether it may join, with its arguments.
-fn fresh_finds(
+fn fresh_result(
     posts: &Posts,
     group: &Group,
     me: RankId,
@@ -193,7 +193,7 @@ fn full_reply(alloc: Global, group: &Group, me: RankId, call: &Call) -> Result<R
 }
 
 /// Looks at a collective that is pending for its caller: ready where its round is full.
-fn resumed_finds(alloc: Global, group: &Group, me: RankId, call: &Call) -> Result<Ready, NoMemory>
+fn resumed_answer(alloc: Global, group: &Group, me: RankId, call: &Call) -> Result<Ready, NoMemory>
     requires reducible { IsReducible group.now me call.now }
     ensures finds { IfOk result (λ ready. ready ≡ resumed_answer group.now me call.now) }
     ensures ample { is_allreduce call.now ≡ false → IsOk result }
@@ -240,8 +240,8 @@ pub fn collective_look(
     };
     let args = args_of(alloc, handle.members, call)?;
     match resume(pending_on(&posts.pending, id), thread, args.as_ref()) {
-        Ok(Resume::Fresh) => Ok(collective_ready(fresh_finds(posts, group, me, args, call))),
-        Ok(Resume::Same) => resumed_finds(alloc, group, me, call),
+        Ok(Resume::Fresh) => Ok(collective_ready(fresh_result(posts, group, me, args, call))),
+        Ok(Resume::Same) => resumed_answer(alloc, group, me, call),
         Err(refusal) => Ok(collective_ready(Err(refusal))),
     }
 }

@@ -5,7 +5,7 @@ ghost use Rattle.std.specs.Option.{option_copied};
 ghost use Rattle.gaspi_types.specs.Groups.{idle_check};
 ghost use Rattle.gaspi_types.specs.Tables.{item_at};
 ghost use Rattle.gaspi_types.specs.declared.shapes.Limits.{Limits};
-ghost use Rattle.gaspi_model.specs.GroupCalls.{group_create_result, group_create_leaves, group_add_result, group_add_leaves, group_delete_result, group_delete_leaves};
+ghost use Rattle.gaspi_model.specs.GroupCalls.{group_create_result, group_create_effect, group_add_result, group_add_effect, group_delete_result, group_delete_effect};
 ghost use Rattle.gaspi_model.specs.declared.states.Posts.{Posts};
 
 use gaspi_model::Posts;
@@ -40,7 +40,7 @@ fn check_idle(pending: Option<&PendingCollective>) -> Result<(), Refusal>
 }
 
 /// Looks at the making of a group: it answers the next number. (GASPI: group_create)
-pub fn group_create_finds(groups: &Handles) -> Result<Option<Reply>, Refusal>
+pub fn group_create_result(groups: &Handles) -> Result<Option<Reply>, Refusal>
     ensures { (posts : Posts) → posts.groups ≡ groups.now → result ≡ group_create_result posts }
 {
     let made = groups.last_id;
@@ -51,9 +51,9 @@ pub fn group_create_finds(groups: &Handles) -> Result<Option<Reply>, Refusal>
 }
 
 /// Makes a group, with no rank in it. (GASPI: group_create)
-pub fn group_create_leaves(posts: &mut Posts)
+pub fn group_create_effect(posts: &mut Posts)
     requires { posts.old.groups.last_id + 1 < 2 ^ 32 }
-    ensures { posts.new ≡ group_create_leaves posts.old }
+    ensures { posts.new ≡ group_create_effect posts.old }
 {
     let id = posts.groups.last_id + 1;
     let new = Handle {
@@ -66,7 +66,7 @@ pub fn group_create_leaves(posts: &mut Posts)
 
 /// Looks at the adding of a rank to a group, in a world of so many ranks: these are the groups of the caller's rank, and what is
 /// pending on that group. (GASPI: group_add)
-pub fn group_add_finds(
+pub fn group_add_result(
     ranks: u32,
     groups: &Handles,
     pending: Option<&PendingCollective>,
@@ -84,9 +84,9 @@ pub fn group_add_finds(
 }
 
 /// Adds a rank to a group. One that is there changes nothing. (GASPI: group_add)
-pub fn group_add_leaves(posts: &mut Posts, call: &GroupAdd)
+pub fn group_add_effect(posts: &mut Posts, call: &GroupAdd)
     requires { call.now.rank < 16 }
-    ensures { posts.new ≡ group_add_leaves posts.old call.now }
+    ensures { posts.new ≡ group_add_effect posts.old call.now }
 {
     let rank = RankId::of(call.rank as u32);
     let changed = posts.groups.handle(call.group).map(|handle| Handle {
@@ -98,7 +98,7 @@ pub fn group_add_leaves(posts: &mut Posts, call: &GroupAdd)
 
 /// Looks at the dropping of a group, which is not group 0: these are the groups of the caller's rank, and what is pending on that
 /// group. (GASPI: group_delete)
-pub fn group_delete_finds(
+pub fn group_delete_result(
     groups: &Handles,
     pending: Option<&PendingCollective>,
     call: &GroupDelete,
@@ -116,8 +116,8 @@ pub fn group_delete_finds(
 }
 
 /// Drops a group. (GASPI: group_delete)
-pub fn group_delete_leaves(posts: &mut Posts, call: &GroupDelete)
-    ensures { posts.new ≡ group_delete_leaves posts.old call.now }
+pub fn group_delete_effect(posts: &mut Posts, call: &GroupDelete)
+    ensures { posts.new ≡ group_delete_effect posts.old call.now }
 {
     posts.groups.set(call.group, None);
 }

@@ -23,21 +23,21 @@ mod replies;
 mod segment_calls;
 mod threads;
 
-pub use atomic_calls::word_finds;
+pub use atomic_calls::word_result;
 pub use calls::{look, register_at_peer, registration};
 pub use collective_calls::{
     Joining, args_of, called_on, check_fixed, collective_look, collective_ready, may_join,
 };
 pub use collective_steps::{complete, join};
-pub use group_calls::{group_add_finds, group_create_finds, group_delete_finds, pending_on};
+pub use group_calls::{group_add_result, group_create_result, group_delete_result, pending_on};
 pub use lanes::{is_carried, is_posted, is_read, is_write, may_put, may_take, place_of};
 pub use looks::Evaluation;
 pub use memories::{bytes_of, new_slots, segment_at, set_slot};
-pub use memory_calls::{load_finds, store_finds};
-pub use notification_calls::{reset_finds, waitsome_finds};
+pub use memory_calls::{load_result, store_result};
+pub use notification_calls::{reset_result, waitsome_result};
 pub use openings::opening_segments;
-pub use passive_calls::{message_of, receive_finds, send_finds};
-pub use queue_calls::{purged_queue, state_finds};
+pub use passive_calls::{message_of, receive_result, send_result};
+pub use queue_calls::{purged_queue, state_result};
 pub use recording::{Recorded, charge, record};
 pub use replies::{is_refused_or_timeout, ready_of, recorded_reply};
 pub use segment_calls::{Registration, alloc_result, register_result, registration_of};

@@ -1,7 +1,7 @@
 //! The calls of a rank on the bytes of its own segments: what they find, and what they leave. (own choice)
 
 ghost use Rattle.std.specs.Prelude.{◌≡◌, IfOk};
-ghost use Rattle.gaspi_model.specs.MemoryCalls.{store_result, store_leaves, load_result};
+ghost use Rattle.gaspi_model.specs.MemoryCalls.{store_result, store_effect, load_result};
 ghost use Rattle.gaspi_model.specs.declared.states.Memory.{Memory};
 ghost use Rattle.gaspi_model.specs.declared.states.Posts.{Posts};
 ghost use Rattle.plain_calls.specs.Memory.{Loads};
@@ -12,7 +12,7 @@ use segment_store::{bytes_of, check_own_range, range_of, store_bytes};
 use std::alloc::Global;
 
 /// Checks a store: this is the table of the caller's own segments.
-pub fn store_finds(own: &Extents, call: &Store) -> Result<Option<Reply>, Refusal>
+pub fn store_result(own: &Extents, call: &Store) -> Result<Option<Reply>, Refusal>
     ensures { (posts : Posts) → posts.segments.own ≡ own.now → result ≡ store_result posts call.now }
 {
     check_own_range(own, call.seg, call.offset, call.bytes.len() as u64)?;
@@ -21,7 +21,7 @@ pub fn store_finds(own: &Extents, call: &Store) -> Result<Option<Reply>, Refusal
 
 /// Writes the bytes of a store.
 pub fn store_effect(memory: &mut Memory, call: &Store)
-    ensures { memory.new ≡ store_leaves memory.old call.now }
+    ensures { memory.new ≡ store_effect memory.old call.now }
 {
     store_bytes(
         &mut memory.segments,
@@ -44,7 +44,7 @@ fn loaded<'a>(own: &Extents, segments: &'a OwnSegments, call: &Load) -> Result<&
 }
 
 /// Checks a load, and copies the bytes that it reads: these are the table of the caller's own segments, and their bytes.
-pub fn load_finds(
+pub fn load_result(
     alloc: Global,
     own: &Extents,
     segments: &OwnSegments,

@@ -3,7 +3,7 @@
 ghost use Rattle.std.specs.Prelude.{◌≡◌};
 ghost use Rattle.gaspi_types.specs.declared.shapes.Limits.{Limits};
 ghost use Rattle.gaspi_model.specs.Memories.{slots_of};
-ghost use Rattle.gaspi_model.specs.NotificationCalls.{waitsome_result, reset_result, reset_leaves};
+ghost use Rattle.gaspi_model.specs.NotificationCalls.{waitsome_result, reset_result, reset_effect};
 ghost use Rattle.gaspi_model.specs.declared.states.Memory.{Memory};
 ghost use Rattle.gaspi_model.specs.declared.states.Posts.{Posts};
 
@@ -14,7 +14,7 @@ use segment_store::extent_in;
 
 /// Looks at a wait for a notification: ready where a slot of its range is set. So many slots has a segment, and these are the table of
 /// the caller's own segments and the slots of the one that the call names. (GASPI: notify_waitsome)
-pub fn waitsome_finds(
+pub fn waitsome_result(
     notes: u32,
     own: &Extents,
     slots: &[u32],
@@ -31,7 +31,7 @@ pub fn waitsome_finds(
 
 /// Looks at a reset: it answers the slot's value. So many slots has a segment, and these are the table of the caller's own segments
 /// and the slots of the one that the call names. (GASPI: notify_reset)
-pub fn reset_finds(
+pub fn reset_result(
     notes: u32,
     own: &Extents,
     slots: &[u32],
@@ -49,7 +49,7 @@ pub fn reset_finds(
 
 /// Clears a slot. (GASPI: notify_reset)
 pub fn reset_effect(memory: &mut Memory, call: &Reset)
-    ensures { memory.new ≡ reset_leaves memory.old call.now }
+    ensures { memory.new ≡ reset_effect memory.old call.now }
 {
     set_slot(memory, call.seg, call.note, 0);
 }

@@ -18,7 +18,7 @@ use std::alloc::Global;
 
 /// Looks at a send, in a world of so many ranks: ready where the inbox of the rank that it names has room, as is said. This is the
 /// table of the caller's own segments. (GASPI: passive_send)
-pub fn send_finds(
+pub fn send_result(
     ranks: u32,
     own: &Extents,
     inbox_has_room: bool,
@@ -58,7 +58,7 @@ pub fn message_of(
 }
 
 /// Puts a message into the inbox, as the last one. Without memory nothing changes but that the message is dropped.
-pub fn send_leaves(memory: &mut Memory, message: Option<Message>) -> Result<(), NoMemory>
+pub fn send_effect(memory: &mut Memory, message: Option<Message>) -> Result<(), NoMemory>
     ensures ok { OnOk result (memory.new ≡ send_effect message memory.old) }
     ensures err { OnErr result (memory.new ≡ memory.old) }
 {
@@ -81,7 +81,7 @@ pub fn front_of(inbox: &Messages) -> Option<(u32, u32)>
 
 /// Looks at a receive: ready where a message is there; the first one has to be short enough. These are the table of the caller's own
 /// segments, and the sender and the size of the first message of its inbox. (GASPI: passive_receive)
-pub fn receive_finds(
+pub fn receive_result(
     own: &Extents,
     front: Option<(u32, u32)>,
     call: &PassiveReceive,
@@ -99,7 +99,7 @@ pub fn receive_finds(
 }
 
 /// Takes the first message, and puts its bytes where the receive says. (GASPI: passive_receive)
-pub fn receive_leaves(memory: &mut Memory, call: &PassiveReceive)
+pub fn receive_effect(memory: &mut Memory, call: &PassiveReceive)
     ensures { memory.new ≡ receive_effect memory.old call.now }
 {
     if memory.inbox.is_empty() {

@@ -22,7 +22,7 @@ fn has_awaited_entry(q: &Queue) -> bool
 
 /// Looks at a wait: ready where no entry of its queue is posted, and no read and no notification of a read stands in it.
 /// (GASPI: wait)
-pub fn wait_finds(posts: &Posts, call: &Wait) -> Result<Option<Reply>, Refusal>
+pub fn wait_result(posts: &Posts, call: &Wait) -> Result<Option<Reply>, Refusal>
     ensures { result ≡ wait_result posts.now call.now }
 {
     let q = posts
@@ -42,7 +42,7 @@ pub fn wait_finds(posts: &Posts, call: &Wait) -> Result<Option<Reply>, Refusal>
 }
 
 /// Looks at a purge: its queue is there, broken or not. (GASPI: queue_purge)
-pub fn purge_finds(posts: &Posts, call: &Purge) -> Result<Option<Reply>, Refusal>
+pub fn purge_result(posts: &Posts, call: &Purge) -> Result<Option<Reply>, Refusal>
     ensures { result ≡ purge_result posts.now call.now }
 {
     posts
@@ -53,7 +53,7 @@ pub fn purge_finds(posts: &Posts, call: &Purge) -> Result<Option<Reply>, Refusal
 }
 
 /// Looks at the size of a queue: its open count. (GASPI: queue_size)
-pub fn qsize_finds(posts: &Posts, call: &Qsize) -> Result<Option<Reply>, Refusal>
+pub fn qsize_result(posts: &Posts, call: &Qsize) -> Result<Option<Reply>, Refusal>
     ensures { result ≡ qsize_result posts.now call.now }
 {
     let q = posts
@@ -64,7 +64,7 @@ pub fn qsize_finds(posts: &Posts, call: &Qsize) -> Result<Option<Reply>, Refusal
 }
 
 /// Looks at the state vector: these ranks are corrupt. (GASPI: state_vec_get)
-pub fn state_finds(corrupt: &[bool]) -> Result<Option<Reply>, Refusal>
+pub fn state_result(corrupt: &[bool]) -> Result<Option<Reply>, Refusal>
     requires { length corrupt.now ≤ 32 }
     ensures { (posts : Posts) → posts.corrupt ≡ corrupt.now → result ≡ state_result posts }
 {

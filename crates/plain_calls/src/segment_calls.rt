@@ -67,7 +67,7 @@ pub fn place_segment(posts: &mut Posts, memory: &mut Memory, call: &Alloc, made:
 }
 
 /// Makes an own segment of the next generation of its number. Without memory nothing changes. (GASPI: segment_alloc)
-pub fn alloc_leaves(
+pub fn alloc_effect(
     alloc: Global,
     limits: &Limits,
     posts: &mut Posts,
@@ -158,7 +158,7 @@ pub fn delete_result(posts: &Posts, call: &Delete) -> Result<Option<Reply>, Refu
 }
 
 /// Drops an own segment. (GASPI: segment_delete)
-pub fn delete_leaves(posts: &mut Posts, memory: &mut Memory, call: &Delete)
+pub fn delete_effect(posts: &mut Posts, memory: &mut Memory, call: &Delete)
     ensures posts { posts.new ≡ without_own posts.old call.now.seg }
     ensures memory { memory.new ≡ delete_effect memory.old call.now }
 {

@@ -37,7 +37,7 @@ pub record IsPeer (ranks me rank : ℕ) : Type 0 where
   pub within : rank < ranks
 
 -- a peer whose memory is reached
-pub memory_peer : (ranks me rank : ℕ) (touch : DeclaredFootprint) → footprint_of ranks me touch ≡ PeerMemory rank → IsPeer ranks me rank
+pub memory_peer : (ranks me rank : ℕ) (declaration : DeclaredFootprint) → footprint_of ranks me declaration ≡ PeerMemory rank → IsPeer ranks me rank
 memory_peer ranks me rank touches.Nothing is = absurd (let no : ⊥ = cc in no)
 memory_peer ranks me rank touches.OwnMemory is = absurd (let no : ⊥ = cc in no)
 memory_peer ranks me rank (touches.MemoryOf named) is = by_tests (named == me) (nat_lt named ranks) refl refl is
@@ -70,11 +70,11 @@ memory_peer ranks me rank (touches.GroupAndMemory id) is = by_test (nat_lt id 8)
     by_test false is = absurd (let no : ⊥ = cc in no)
 
 -- a peer whose memory is reached beside the own one
-pub both_peer : (ranks me rank : ℕ) (touch : DeclaredFootprint) → footprint_of ranks me touch ≡ BothMemories rank → IsPeer ranks me rank
-both_peer ranks me rank touch is = let touched = both-touched ranks me rank touch is in record { apart = touched.1; within = ltb-true rank ranks touched.2 }
+pub both_peer : (ranks me rank : ℕ) (declaration : DeclaredFootprint) → footprint_of ranks me declaration ≡ BothMemories rank → IsPeer ranks me rank
+both_peer ranks me rank declaration is = let touched = both-touched ranks me rank declaration is in record { apart = touched.1; within = ltb-true rank ranks touched.2 }
 
 -- a peer whose posts are reached
-pub posts_peer : (ranks me rank : ℕ) (touch : DeclaredFootprint) → footprint_of ranks me touch ≡ PeerPosts rank → IsPeer ranks me rank
+pub posts_peer : (ranks me rank : ℕ) (declaration : DeclaredFootprint) → footprint_of ranks me declaration ≡ PeerPosts rank → IsPeer ranks me rank
 posts_peer ranks me rank touches.Nothing is = absurd (let no : ⊥ = cc in no)
 posts_peer ranks me rank touches.OwnMemory is = absurd (let no : ⊥ = cc in no)
 posts_peer ranks me rank (touches.MemoryOf named) is = by_tests (named == me) (nat_lt named ranks) is
@@ -107,7 +107,7 @@ posts_peer ranks me rank (touches.GroupAndMemory id) is = by_test (nat_lt id 8) 
     by_test false is = absurd (let no : ⊥ = cc in no)
 
 -- the memory that is worked on, among all
-pub memory_as : (s : State) (me : ℕ) (posts : Posts) (reach : Footprint) → accessed_memory reach (parts_of s posts (part_numbers me reach)) ≡ memory_at s.memories me reach
+pub memory_as : (s : State) (me : ℕ) (posts : Posts) (footprint : Footprint) → accessed_memory footprint (parts_of s posts (part_numbers me footprint)) ≡ memory_at s.memories me footprint
 memory_as s me posts Alone = refl
 memory_as s me posts OwnMemory = refl
 memory_as s me posts (PeerMemory rank) = refl
@@ -143,114 +143,114 @@ peer_kept all me rank posts apart =
     ap (with_part (slice_set all me posts) (Some rank)) (sym (peer_there all me rank posts apart)) ∙ written_back (slice_set all me posts) (Some rank)
 
 -- A call that is no collective in the whole state: on its rank's posts and the memory that it works on, and then its peer is told.
-pub called_as : (s : State) (c : CallerId) (call : Call) (reply : Reply) (p : Posts) (reach : Footprint) → (row_of call).group ≡ None → slice_get s.posts c.rank ≡ Some p → call_footprint s.limits c.rank call ≡ reach
+pub called_as : (s : State) (c : CallerId) (call : Call) (reply : Reply) (p : Posts) (footprint : Footprint) → (row_of call).group ≡ None → slice_get s.posts c.rank ≡ Some p → call_footprint s.limits c.rank call ≡ footprint
     → step s (Called c call reply)
-    ≡ (call_lent s.limits s.posts (call_message s c.rank call) (memory_at s.memories c.rank reach) c call reply
-    >>= (λ w. Ok (record s { posts = with_peer_at reach (peer_after c.rank p call reply) w.posts; memories = with_memory_at s.memories c.rank reach w.memory })))
-called_as s c call reply p reach plain there is = by_reach reach is (called s.limits c.rank p (call_message s c.rank call) (memory_at s.memories c.rank reach) c.thread call reply) refl
+    ≡ (call_lent s.limits s.posts (call_message s c.rank call) (memory_at s.memories c.rank footprint) c call reply
+    >>= (λ w. Ok (record s { posts = with_peer_at footprint (peer_after c.rank p call reply) w.posts; memories = with_memory_at s.memories c.rank footprint w.memory })))
+called_as s c call reply p footprint plain there is = by_footprint footprint is (called s.limits c.rank p (call_message s c.rank call) (memory_at s.memories c.rank footprint) c.thread call reply) refl
   where
-    by_reach : (reach : Footprint) → call_footprint s.limits c.rank call ≡ reach → (r : Result PostsAndMemory Why) → called s.limits c.rank p (call_message s c.rank call) (memory_at s.memories c.rank reach) c.thread call reply ≡ r
+    by_footprint : (footprint : Footprint) → call_footprint s.limits c.rank call ≡ footprint → (r : Result PostsAndMemory Why) → called s.limits c.rank p (call_message s c.rank call) (memory_at s.memories c.rank footprint) c.thread call reply ≡ r
         → step s (Called c call reply)
-        ≡ (call_lent s.limits s.posts (call_message s c.rank call) (memory_at s.memories c.rank reach) c call reply
-        >>= (λ w. Ok (record s { posts = with_peer_at reach (peer_after c.rank p call reply) w.posts; memories = with_memory_at s.memories c.rank reach w.memory })))
-    by_reach Alone is (Ok w) steps = rw (there, is, plain) rw (rw is at steps) refl
-    by_reach Alone is (Err why) steps = rw (there, is, plain) rw (rw is at steps) refl
-    by_reach OwnMemory is (Ok w) steps = rw (there, is, plain) rw (rw is at steps) refl
-    by_reach OwnMemory is (Err why) steps = rw (there, is, plain) rw (rw is at steps) refl
-    by_reach (PeerMemory rank) is (Ok w) steps = rw (there, is, plain) rw (rw is at steps) refl
-    by_reach (PeerMemory rank) is (Err why) steps = rw (there, is, plain) rw (rw is at steps) refl
-    by_reach (BothMemories rank) is (Ok w) steps =
+        ≡ (call_lent s.limits s.posts (call_message s c.rank call) (memory_at s.memories c.rank footprint) c call reply
+        >>= (λ w. Ok (record s { posts = with_peer_at footprint (peer_after c.rank p call reply) w.posts; memories = with_memory_at s.memories c.rank footprint w.memory })))
+    by_footprint Alone is (Ok w) steps = rw (there, is, plain) rw (rw is at steps) refl
+    by_footprint Alone is (Err why) steps = rw (there, is, plain) rw (rw is at steps) refl
+    by_footprint OwnMemory is (Ok w) steps = rw (there, is, plain) rw (rw is at steps) refl
+    by_footprint OwnMemory is (Err why) steps = rw (there, is, plain) rw (rw is at steps) refl
+    by_footprint (PeerMemory rank) is (Ok w) steps = rw (there, is, plain) rw (rw is at steps) refl
+    by_footprint (PeerMemory rank) is (Err why) steps = rw (there, is, plain) rw (rw is at steps) refl
+    by_footprint (BothMemories rank) is (Ok w) steps =
         rw (there, is, plain) rw (rw is at steps)
         (ap (λ (ms : List Memory). Ok (record s { posts = slice_set s.posts c.rank w.posts; memories = slice_set ms rank w.memory })) (written_back s.memories (Some c.rank)))
-    by_reach (BothMemories rank) is (Err why) steps = rw (there, is, plain) rw (rw is at steps) refl
-    by_reach (PeerPosts rank) is (Ok w) steps =
+    by_footprint (BothMemories rank) is (Err why) steps = rw (there, is, plain) rw (rw is at steps) refl
+    by_footprint (PeerPosts rank) is (Ok w) steps =
         let peer = posts_peer s.limits.ranks c.rank rank (row_of call).footprint is in
         rw (there, is, plain) rw (rw is at steps)
         (ap (λ (ps : List Posts). Ok (record s { posts = ps })) (peer_changed s.posts c.rank rank w.posts (peer_after c.rank p call reply) peer.apart))
-    by_reach (PeerPosts rank) is (Err why) steps = rw (there, is, plain) rw (rw is at steps) refl
-    by_reach (Group id) is (Ok w) steps =
+    by_footprint (PeerPosts rank) is (Err why) steps = rw (there, is, plain) rw (rw is at steps) refl
+    by_footprint (Group id) is (Ok w) steps =
         rw (there, is, plain) rw (rw is at steps) (ap (λ (gs : List groups.Group). Ok (record s { posts = slice_set s.posts c.rank w.posts; groups = gs })) (written_back s.groups (Some id)))
-    by_reach (Group id) is (Err why) steps = rw (there, is, plain) rw (rw is at steps) refl
-    by_reach (GroupAndMemory id) is (Ok w) steps =
+    by_footprint (Group id) is (Err why) steps = rw (there, is, plain) rw (rw is at steps) refl
+    by_footprint (GroupAndMemory id) is (Ok w) steps =
         rw (there, is, plain) rw (rw is at steps)
         (ap (λ (gs : List groups.Group). Ok (record s { posts = slice_set s.posts c.rank w.posts; memories = slice_set s.memories c.rank w.memory; groups = gs })) (written_back s.groups (Some id)))
-    by_reach (GroupAndMemory id) is (Err why) steps = rw (there, is, plain) rw (rw is at steps) refl
+    by_footprint (GroupAndMemory id) is (Err why) steps = rw (there, is, plain) rw (rw is at steps) refl
 
 -- A take in the whole state: it reads the memory that it works on.
-pub take_as : (s : State) (origin queue target number : ℕ) (outcome : Outcome) (p : Posts) (reach : Footprint) → slice_get s.posts origin ≡ Some p
-    → entry_footprint s.limits origin (take_footprint target) p queue target number ≡ reach
+pub take_as : (s : State) (origin queue target number : ℕ) (outcome : Outcome) (p : Posts) (footprint : Footprint) → slice_get s.posts origin ≡ Some p
+    → entry_footprint s.limits origin (take_footprint target) p queue target number ≡ footprint
     → step s (Take origin queue target number outcome)
-    ≡ (take s.limits p (memory_at s.memories origin reach) queue target number outcome >>= (λ after. Ok (record s { posts = slice_set s.posts origin after })))
-take_as s origin queue target number outcome p reach there is = by_reach reach is (take s.limits p (memory_at s.memories origin reach) queue target number outcome) refl
+    ≡ (take s.limits p (memory_at s.memories origin footprint) queue target number outcome >>= (λ after. Ok (record s { posts = slice_set s.posts origin after })))
+take_as s origin queue target number outcome p footprint there is = by_footprint footprint is (take s.limits p (memory_at s.memories origin footprint) queue target number outcome) refl
   where
-    by_reach : (reach : Footprint) → entry_footprint s.limits origin (take_footprint target) p queue target number ≡ reach
-        → (r : Result Posts Why) → take s.limits p (memory_at s.memories origin reach) queue target number outcome ≡ r
+    by_footprint : (footprint : Footprint) → entry_footprint s.limits origin (take_footprint target) p queue target number ≡ footprint
+        → (r : Result Posts Why) → take s.limits p (memory_at s.memories origin footprint) queue target number outcome ≡ r
         → step s (Take origin queue target number outcome)
-        ≡ (take s.limits p (memory_at s.memories origin reach) queue target number outcome >>= (λ after. Ok (record s { posts = slice_set s.posts origin after })))
-    by_reach Alone is (Ok after) steps = rw (there, is) rw steps refl
-    by_reach Alone is (Err why) steps = rw (there, is) rw steps refl
-    by_reach OwnMemory is (Ok after) steps =
+        ≡ (take s.limits p (memory_at s.memories origin footprint) queue target number outcome >>= (λ after. Ok (record s { posts = slice_set s.posts origin after })))
+    by_footprint Alone is (Ok after) steps = rw (there, is) rw steps refl
+    by_footprint Alone is (Err why) steps = rw (there, is) rw steps refl
+    by_footprint OwnMemory is (Ok after) steps =
         rw (there, is) rw steps
         (ap (λ (ms : List Memory). Ok (record s { posts = slice_set s.posts origin after; memories = ms })) (written_back s.memories (Some origin)))
-    by_reach OwnMemory is (Err why) steps = rw (there, is) rw steps refl
-    by_reach (PeerMemory rank) is (Ok after) steps =
+    by_footprint OwnMemory is (Err why) steps = rw (there, is) rw steps refl
+    by_footprint (PeerMemory rank) is (Ok after) steps =
         rw (there, is) rw steps
         (ap (λ (ms : List Memory). Ok (record s { posts = slice_set s.posts origin after; memories = ms })) (written_back s.memories (Some rank)))
-    by_reach (PeerMemory rank) is (Err why) steps = rw (there, is) rw steps refl
-    by_reach (BothMemories rank) is (Ok after) steps =
+    by_footprint (PeerMemory rank) is (Err why) steps = rw (there, is) rw steps refl
+    by_footprint (BothMemories rank) is (Ok after) steps =
         rw (there, is) rw steps
         (ap (λ (ms : List Memory). Ok (record s { posts = slice_set s.posts origin after; memories = with_part ms (Some rank) (slice_get s.memories rank) })) (written_back s.memories (Some origin))
         ∙ ap (λ (ms : List Memory). Ok (record s { posts = slice_set s.posts origin after; memories = ms })) (written_back s.memories (Some rank)))
-    by_reach (BothMemories rank) is (Err why) steps = rw (there, is) rw steps refl
-    by_reach (PeerPosts rank) is (Ok after) steps =
+    by_footprint (BothMemories rank) is (Err why) steps = rw (there, is) rw steps refl
+    by_footprint (PeerPosts rank) is (Ok after) steps =
         let peer = posts_peer s.limits.ranks origin rank (declared_entry_footprint (take_footprint target) (entry_in p queue target number)) is in
         rw (there, is) rw steps (ap (λ (ps : List Posts). Ok (record s { posts = ps })) (peer_kept s.posts origin rank after peer.apart))
-    by_reach (PeerPosts rank) is (Err why) steps = rw (there, is) rw steps refl
-    by_reach (Group id) is (Ok after) steps =
+    by_footprint (PeerPosts rank) is (Err why) steps = rw (there, is) rw steps refl
+    by_footprint (Group id) is (Ok after) steps =
         rw (there, is) rw steps (ap (λ (gs : List groups.Group). Ok (record s { posts = slice_set s.posts origin after; groups = gs })) (written_back s.groups (Some id)))
-    by_reach (Group id) is (Err why) steps = rw (there, is) rw steps refl
-    by_reach (GroupAndMemory id) is (Ok after) steps =
+    by_footprint (Group id) is (Err why) steps = rw (there, is) rw steps refl
+    by_footprint (GroupAndMemory id) is (Ok after) steps =
         rw (there, is) rw steps
         (ap (λ (ms : List Memory). Ok (record s { posts = slice_set s.posts origin after; memories = ms; groups = with_part s.groups (Some id) (slice_get s.groups id) })) (written_back s.memories (Some origin))
         ∙ ap (λ (gs : List groups.Group). Ok (record s { posts = slice_set s.posts origin after; groups = gs })) (written_back s.groups (Some id)))
-    by_reach (GroupAndMemory id) is (Err why) steps = rw (there, is) rw steps refl
+    by_footprint (GroupAndMemory id) is (Err why) steps = rw (there, is) rw steps refl
 
 -- A put in the whole state: it changes the memory that it works on.
-pub put_as : (s : State) (origin queue target number : ℕ) (outcome : Outcome) (p : Posts) (reach : Footprint) → slice_get s.posts origin ≡ Some p
-    → entry_footprint s.limits origin (put_footprint target) p queue target number ≡ reach
+pub put_as : (s : State) (origin queue target number : ℕ) (outcome : Outcome) (p : Posts) (footprint : Footprint) → slice_get s.posts origin ≡ Some p
+    → entry_footprint s.limits origin (put_footprint target) p queue target number ≡ footprint
     → step s (Put origin queue target number outcome)
-    ≡ (put p (memory_at s.memories origin reach) queue target number outcome
-    >>= (λ after. Ok (record s { posts = slice_set s.posts origin after.posts; memories = with_memory_at s.memories origin reach after.memory })))
-put_as s origin queue target number outcome p reach there is = by_reach reach is (put p (memory_at s.memories origin reach) queue target number outcome) refl
+    ≡ (put p (memory_at s.memories origin footprint) queue target number outcome
+    >>= (λ after. Ok (record s { posts = slice_set s.posts origin after.posts; memories = with_memory_at s.memories origin footprint after.memory })))
+put_as s origin queue target number outcome p footprint there is = by_footprint footprint is (put p (memory_at s.memories origin footprint) queue target number outcome) refl
   where
-    by_reach : (reach : Footprint) → entry_footprint s.limits origin (put_footprint target) p queue target number ≡ reach
-        → (r : Result PostsAndMemory Why) → put p (memory_at s.memories origin reach) queue target number outcome ≡ r
+    by_footprint : (footprint : Footprint) → entry_footprint s.limits origin (put_footprint target) p queue target number ≡ footprint
+        → (r : Result PostsAndMemory Why) → put p (memory_at s.memories origin footprint) queue target number outcome ≡ r
         → step s (Put origin queue target number outcome)
-        ≡ (put p (memory_at s.memories origin reach) queue target number outcome
-        >>= (λ after. Ok (record s { posts = slice_set s.posts origin after.posts; memories = with_memory_at s.memories origin reach after.memory })))
-    by_reach Alone is (Ok w) steps = rw (there, is) rw steps refl
-    by_reach Alone is (Err why) steps = rw (there, is) rw steps refl
-    by_reach OwnMemory is (Ok w) steps = rw (there, is) rw steps refl
-    by_reach OwnMemory is (Err why) steps = rw (there, is) rw steps refl
-    by_reach (PeerMemory rank) is (Ok w) steps = rw (there, is) rw steps refl
-    by_reach (PeerMemory rank) is (Err why) steps = rw (there, is) rw steps refl
-    by_reach (BothMemories rank) is (Ok w) steps =
+        ≡ (put p (memory_at s.memories origin footprint) queue target number outcome
+        >>= (λ after. Ok (record s { posts = slice_set s.posts origin after.posts; memories = with_memory_at s.memories origin footprint after.memory })))
+    by_footprint Alone is (Ok w) steps = rw (there, is) rw steps refl
+    by_footprint Alone is (Err why) steps = rw (there, is) rw steps refl
+    by_footprint OwnMemory is (Ok w) steps = rw (there, is) rw steps refl
+    by_footprint OwnMemory is (Err why) steps = rw (there, is) rw steps refl
+    by_footprint (PeerMemory rank) is (Ok w) steps = rw (there, is) rw steps refl
+    by_footprint (PeerMemory rank) is (Err why) steps = rw (there, is) rw steps refl
+    by_footprint (BothMemories rank) is (Ok w) steps =
         rw (there, is) rw steps
         (ap (λ (ms : List Memory). Ok (record s { posts = slice_set s.posts origin w.posts; memories = slice_set ms rank w.memory })) (written_back s.memories (Some origin)))
-    by_reach (BothMemories rank) is (Err why) steps = rw (there, is) rw steps refl
-    by_reach (PeerPosts rank) is (Ok w) steps =
+    by_footprint (BothMemories rank) is (Err why) steps = rw (there, is) rw steps refl
+    by_footprint (PeerPosts rank) is (Ok w) steps =
         let peer = posts_peer s.limits.ranks origin rank (declared_entry_footprint (put_footprint target) (entry_in p queue target number)) is in
         rw (there, is) rw steps (ap (λ (ps : List Posts). Ok (record s { posts = ps })) (peer_kept s.posts origin rank w.posts peer.apart))
-    by_reach (PeerPosts rank) is (Err why) steps = rw (there, is) rw steps refl
-    by_reach (Group id) is (Ok w) steps =
+    by_footprint (PeerPosts rank) is (Err why) steps = rw (there, is) rw steps refl
+    by_footprint (Group id) is (Ok w) steps =
         rw (there, is) rw steps (ap (λ (gs : List groups.Group). Ok (record s { posts = slice_set s.posts origin w.posts; groups = gs })) (written_back s.groups (Some id)))
-    by_reach (Group id) is (Err why) steps = rw (there, is) rw steps refl
-    by_reach (GroupAndMemory id) is (Ok w) steps =
+    by_footprint (Group id) is (Err why) steps = rw (there, is) rw steps refl
+    by_footprint (GroupAndMemory id) is (Ok w) steps =
         rw (there, is) rw steps
         (ap (λ (gs : List groups.Group). Ok (record s { posts = slice_set s.posts origin w.posts; memories = slice_set s.memories origin w.memory; groups = gs })) (written_back s.groups (Some id)))
-    by_reach (GroupAndMemory id) is (Err why) steps = rw (there, is) rw steps refl
+    by_footprint (GroupAndMemory id) is (Err why) steps = rw (there, is) rw steps refl
 
-length-with : (memories : List Memory) (me : ℕ) (reach : Footprint) (memory : Memory) → length (with_memory_at memories me reach memory) ≡ length memories
+length-with : (memories : List Memory) (me : ℕ) (footprint : Footprint) (memory : Memory) → length (with_memory_at memories me footprint memory) ≡ length memories
 length-with memories me Alone memory = refl
 length-with memories me OwnMemory memory = length-set memories me memory
 length-with memories me (PeerMemory rank) memory = length-set memories rank memory
@@ -274,30 +274,30 @@ pub called_back : (s t : State) (c : CallerId) (call : Call) (reply : Reply) →
 called_back s t c call reply plain is =
     bind_then (ok_or (slice_get s.posts c.rank) whys.Caller) _ _ is (λ p p_there more. by_posts p (found_there _ _ _ p_there))
   where
-    reach : Footprint
-    reach = call_footprint s.limits c.rank call
+    footprint : Footprint
+    footprint = call_footprint s.limits c.rank call
 
     same : (p : Posts) (after : PostsAndMemory) (w : PostsAndLentMemory) → ◌≡◌ {A = Result PostsAndLentMemory Why} (Ok (record { posts = slice_set s.posts c.rank after.posts; memory = after.memory })) (Ok w)
-        → ◌≡◌ {A = Result State Why} (Ok (record s { posts = with_peer_at reach (peer_after c.rank p call reply) w.posts; memories = with_memory_at s.memories c.rank reach w.memory })) (Ok t)
-        → slice_get s.posts c.rank ≡ Some p → called s.limits c.rank p (call_message s c.rank call) (memory_at s.memories c.rank reach) c.thread call reply ≡ Ok after → IsCalled s t c call reply
+        → ◌≡◌ {A = Result State Why} (Ok (record s { posts = with_peer_at footprint (peer_after c.rank p call reply) w.posts; memories = with_memory_at s.memories c.rank footprint w.memory })) (Ok t)
+        → slice_get s.posts c.rank ≡ Some p → called s.limits c.rank p (call_message s c.rank call) (memory_at s.memories c.rank footprint) c.thread call reply ≡ Ok after → IsCalled s t c call reply
     same p after w lent is there steps =
         let a : record { posts = slice_set s.posts c.rank after.posts; memory = after.memory } ≡ w = cc in
-        let b : record s { posts = with_peer_at reach (peer_after c.rank p call reply) w.posts; memories = with_memory_at s.memories c.rank reach w.memory } ≡ t = cc in
+        let b : record s { posts = with_peer_at footprint (peer_after c.rank p call reply) w.posts; memories = with_memory_at s.memories c.rank footprint w.memory } ≡ t = cc in
         record {
           p = p;
           there = there;
-          memory = memory_at s.memories c.rank reach;
+          memory = memory_at s.memories c.rank footprint;
           after = after;
           steps = steps;
-          posts = ap (λ (x : PostsAndLentMemory). with_peer_at reach (peer_after c.rank p call reply) x.posts) a ∙ ap (λ (x : State). x.posts) b;
-          memories = ap (λ (x : State). length x.memories) (sym b) ∙ length-with s.memories c.rank reach w.memory;
+          posts = ap (λ (x : PostsAndLentMemory). with_peer_at footprint (peer_after c.rank p call reply) x.posts) a ∙ ap (λ (x : State). x.posts) b;
+          memories = ap (λ (x : State). length x.memories) (sym b) ∙ length-with s.memories c.rank footprint w.memory;
         }
 
     by_posts : (p : Posts) → slice_get s.posts c.rank ≡ Some p → IsCalled s t c call reply
     by_posts p there =
-        bind_then (called s.limits c.rank p (call_message s c.rank call) (memory_at s.memories c.rank reach) c.thread call reply >>= (λ after. Ok (record { posts = slice_set s.posts c.rank after.posts; memory = after.memory }))) _ _
-        (rw there at (sym (called_as s c call reply p reach plain there refl) ∙ is)) (λ w lent more.
-        bind_then (called s.limits c.rank p (call_message s c.rank call) (memory_at s.memories c.rank reach) c.thread call reply) _ _ lent (λ after steps done.
+        bind_then (called s.limits c.rank p (call_message s c.rank call) (memory_at s.memories c.rank footprint) c.thread call reply >>= (λ after. Ok (record { posts = slice_set s.posts c.rank after.posts; memory = after.memory }))) _ _
+        (rw there at (sym (called_as s c call reply p footprint plain there refl) ∙ is)) (λ w lent more.
+        bind_then (called s.limits c.rank p (call_message s c.rank call) (memory_at s.memories c.rank footprint) c.thread call reply) _ _ lent (λ after steps done.
         same p after w done more there steps))
 
 pub record IsTaken (s t : State) (origin queue target number : ℕ) (outcome : Outcome) : Type 0 where
@@ -320,10 +320,10 @@ used_back s t origin queue target number outcome is =
 
     by_posts : (p : Posts) → slice_get s.posts origin ≡ Some p → IsTaken s t origin queue target number outcome
     by_posts p there =
-        let reach = entry_footprint s.limits origin (take_footprint target) p queue target number in
-        bind_then (take s.limits p (memory_at s.memories origin reach) queue target number outcome) _ _
-        (sym (take_as s origin queue target number outcome p reach there refl) ∙ is) (λ after steps more.
-        same p after (memory_at s.memories origin reach) more there steps)
+        let footprint = entry_footprint s.limits origin (take_footprint target) p queue target number in
+        bind_then (take s.limits p (memory_at s.memories origin footprint) queue target number outcome) _ _
+        (sym (take_as s origin queue target number outcome p footprint there refl) ∙ is) (λ after steps more.
+        same p after (memory_at s.memories origin footprint) more there steps)
 
 pub record IsPut (s t : State) (origin queue target number : ℕ) (outcome : Outcome) : Type 0 where
   pub p : Posts
@@ -338,32 +338,32 @@ pub put_back : (s t : State) (origin queue target number : ℕ) (outcome : Outco
 put_back s t origin queue target number outcome is =
     bind_then (ok_or (slice_get s.posts origin) _) _ _ is (λ p p_there more. by_posts p (found_there _ _ _ p_there))
   where
-    same : (p : Posts) (reach : Footprint) (after : PostsAndMemory)
-        → ◌≡◌ {A = Result State Why} (Ok (record s { posts = slice_set s.posts origin after.posts; memories = with_memory_at s.memories origin reach after.memory })) (Ok t)
-        → slice_get s.posts origin ≡ Some p → put p (memory_at s.memories origin reach) queue target number outcome ≡ Ok after → IsPut s t origin queue target number outcome
-    same p reach after is there steps =
-        let a : record s { posts = slice_set s.posts origin after.posts; memories = with_memory_at s.memories origin reach after.memory } ≡ t = cc in
+    same : (p : Posts) (footprint : Footprint) (after : PostsAndMemory)
+        → ◌≡◌ {A = Result State Why} (Ok (record s { posts = slice_set s.posts origin after.posts; memories = with_memory_at s.memories origin footprint after.memory })) (Ok t)
+        → slice_get s.posts origin ≡ Some p → put p (memory_at s.memories origin footprint) queue target number outcome ≡ Ok after → IsPut s t origin queue target number outcome
+    same p footprint after is there steps =
+        let a : record s { posts = slice_set s.posts origin after.posts; memories = with_memory_at s.memories origin footprint after.memory } ≡ t = cc in
         record {
           p = p;
           there = there;
-          memory = memory_at s.memories origin reach;
+          memory = memory_at s.memories origin footprint;
           after = after;
           steps = steps;
           posts = ap (λ (x : State). x.posts) a;
-          memories = ap (λ (x : State). length x.memories) (sym a) ∙ length-with s.memories origin reach after.memory;
+          memories = ap (λ (x : State). length x.memories) (sym a) ∙ length-with s.memories origin footprint after.memory;
         }
 
     by_posts : (p : Posts) → slice_get s.posts origin ≡ Some p → IsPut s t origin queue target number outcome
     by_posts p there =
-        let reach = entry_footprint s.limits origin (put_footprint target) p queue target number in
-        bind_then (put p (memory_at s.memories origin reach) queue target number outcome) _ _
-        (sym (put_as s origin queue target number outcome p reach there refl) ∙ is) (λ after steps more.
-        same p reach after more there steps)
+        let footprint = entry_footprint s.limits origin (put_footprint target) p queue target number in
+        bind_then (put p (memory_at s.memories origin footprint) queue target number outcome) _ _
+        (sym (put_as s origin queue target number outcome p footprint there refl) ∙ is) (λ after steps more.
+        same p footprint after more there steps)
 
 -- what holds of the posts of all ranks, and with a peer's so changed that its queues stay, holds where a call has told its peer
-pub registered_by : (P : List Posts → Type 0) (reach : Footprint) (me : ℕ) (p : Posts) (call : Call) (reply : Reply) (all : List Posts) → P all
+pub registered_by : (P : List Posts → Type 0) (footprint : Footprint) (me : ℕ) (p : Posts) (call : Call) (reply : Reply) (all : List Posts) → P all
     → ((rank : ℕ) (change : Posts → Posts) → ((peer : Posts) → (change peer).queues ≡ peer.queues) → P (changed_at all rank change))
-    → P (with_peer_at reach (peer_after me p call reply) all)
+    → P (with_peer_at footprint (peer_after me p call reply) all)
 registered_by P Alone me p call reply all kept changed = kept
 registered_by P OwnMemory me p call reply all kept changed = kept
 registered_by P (PeerMemory rank) me p call reply all kept changed = kept

@@ -127,8 +127,8 @@ few_marks s sound rank p there =
     grind (arith, nat_tests, marks, limited)
 
 -- the messages of the memory that is worked on are no longer than messages may be
-pub short_at : (s : State) (me : ℕ) (reach : Footprint) → IsSound s → AreShort (memory_at s.memories me reach).inbox
-short_at s me reach sound = by_reach reach
+pub short_at : (s : State) (me : ℕ) (footprint : Footprint) → IsSound s → AreShort (memory_at s.memories me footprint).inbox
+short_at s me footprint sound = by_footprint footprint
   where
     short : (rank : ℕ) (o : Option Memory) → slice_get s.memories rank ≡ o → AreShort (memory_or_none o).inbox
     short rank None there place m at = absurd (let no : ⊥ = cc in no)
@@ -136,14 +136,14 @@ short_at s me reach sound = by_reach reach
         let sized = (sound.inboxes rank memory there).sizes place m at in
         grind (arith, nat_tests, sized)
 
-    by_reach : (r : Footprint) → AreShort (memory_at s.memories me r).inbox
-    by_reach Alone place m at = absurd (let no : ⊥ = cc in no)
-    by_reach OwnMemory place m at = short me (slice_get s.memories me) refl place m at
-    by_reach (PeerMemory rank) place m at = short rank (slice_get s.memories rank) refl place m at
-    by_reach (BothMemories rank) place m at = short rank (slice_get s.memories rank) refl place m at
-    by_reach (PeerPosts rank) place m at = absurd (let no : ⊥ = cc in no)
-    by_reach (Group id) place m at = absurd (let no : ⊥ = cc in no)
-    by_reach (GroupAndMemory id) place m at = short me (slice_get s.memories me) refl place m at
+    by_footprint : (r : Footprint) → AreShort (memory_at s.memories me r).inbox
+    by_footprint Alone place m at = absurd (let no : ⊥ = cc in no)
+    by_footprint OwnMemory place m at = short me (slice_get s.memories me) refl place m at
+    by_footprint (PeerMemory rank) place m at = short rank (slice_get s.memories rank) refl place m at
+    by_footprint (BothMemories rank) place m at = short rank (slice_get s.memories rank) refl place m at
+    by_footprint (PeerPosts rank) place m at = absurd (let no : ⊥ = cc in no)
+    by_footprint (Group id) place m at = absurd (let no : ⊥ = cc in no)
+    by_footprint (GroupAndMemory id) place m at = short me (slice_get s.memories me) refl place m at
 
 -- the same posts
 fitting_at : (s t : State) (posts : List Posts) → posts ≡ t.posts → HasBoundedNumbers (record s { posts = posts; memories = t.memories }) → HasBoundedNumbers t

@@ -55,21 +55,21 @@ lent_steps (Err faults.NoMemory) all me p p' m m' why local there steps =
     rw (same_posts, same_memory) rw (set-there all me p there) refl
 
 -- a call on the memory that it works on, where it tells no peer
-pub called_steps : (s : State) (c : CallerId) (call : Call) (reply : Reply) (reach : Footprint) (result : Result (Unit {0}) StepFault) (m : Memory) (posts' : List Posts) (m' : Memory)
-    → (row_of call).group ≡ None → c.rank < length s.posts → call_footprint s.limits c.rank call ≡ reach → memory_at s.memories c.rank reach ≡ m → with_memory_at s.memories c.rank reach m ≡ s.memories
-    → ((change : Posts → Posts) (all : List Posts) → with_peer_at reach change all ≡ all)
+pub called_steps : (s : State) (c : CallerId) (call : Call) (reply : Reply) (footprint : Footprint) (result : Result (Unit {0}) StepFault) (m : Memory) (posts' : List Posts) (m' : Memory)
+    → (row_of call).group ≡ None → c.rank < length s.posts → call_footprint s.limits c.rank call ≡ footprint → memory_at s.memories c.rank footprint ≡ m → with_memory_at s.memories c.rank footprint m ≡ s.memories
+    → ((change : Posts → Posts) (all : List Posts) → with_peer_at footprint change all ≡ all)
     → Steps {S = PostsAndLentMemory} result (record { posts = s.posts; memory = m }) (record { posts = posts'; memory = m' }) (call_lent s.limits s.posts (call_message s c.rank call) m c call reply)
-    → Steps result s (record s { posts = posts'; memories = with_memory_at s.memories c.rank reach m' }) (step s (Called c call reply))
-called_steps s c call reply reach result m posts' m' plain within is memory kept silent steps =
+    → Steps result s (record s { posts = posts'; memories = with_memory_at s.memories c.rank footprint m' }) (step s (Called c call reply))
+called_steps s c call reply footprint result m posts' m' plain within is memory kept silent steps =
     let item = there-within s.posts c.rank within in
-    let whole : PostsAndLentMemory → State = λ w. record s { posts = with_peer_at reach (peer_after c.rank item.0 call reply) w.posts; memories = with_memory_at s.memories c.rank reach w.memory } in
-    let is_step : step s (Called c call reply) ≡ (call_lent s.limits s.posts (call_message s c.rank call) m c call reply >>= (λ w. Ok (whole w))) = rw memory at (called_as s c call reply item.0 reach plain item.1 is) in
+    let whole : PostsAndLentMemory → State = λ w. record s { posts = with_peer_at footprint (peer_after c.rank item.0 call reply) w.posts; memories = with_memory_at s.memories c.rank footprint w.memory } in
+    let is_step : step s (Called c call reply) ≡ (call_lent s.limits s.posts (call_message s c.rank call) m c call reply >>= (λ w. Ok (whole w))) = rw memory at (called_as s c call reply item.0 footprint plain item.1 is) in
     let old : whole (record { posts = s.posts; memory = m }) ≡ s =
-    ap (λ (ps : List Posts). record s { posts = ps; memories = with_memory_at s.memories c.rank reach m }) (silent (peer_after c.rank item.0 call reply) s.posts)
+    ap (λ (ps : List Posts). record s { posts = ps; memories = with_memory_at s.memories c.rank footprint m }) (silent (peer_after c.rank item.0 call reply) s.posts)
     ∙ ap (λ (ms : List Memory). record s { memories = ms }) kept in
-    let new : whole (record { posts = posts'; memory = m' }) ≡ record s { posts = posts'; memories = with_memory_at s.memories c.rank reach m' } =
-    ap (λ (ps : List Posts). record s { posts = ps; memories = with_memory_at s.memories c.rank reach m' }) (silent (peer_after c.rank item.0 call reply) posts') in
-    subst (λ (o : Result State Why). Steps result s (record s { posts = posts'; memories = with_memory_at s.memories c.rank reach m' }) o) (sym is_step)
+    let new : whole (record { posts = posts'; memory = m' }) ≡ record s { posts = posts'; memories = with_memory_at s.memories c.rank footprint m' } =
+    ap (λ (ps : List Posts). record s { posts = ps; memories = with_memory_at s.memories c.rank footprint m' }) (silent (peer_after c.rank item.0 call reply) posts') in
+    subst (λ (o : Result State Why). Steps result s (record s { posts = posts'; memories = with_memory_at s.memories c.rank footprint m' }) o) (sym is_step)
     (subst (λ (t : State). Steps result s t (call_lent s.limits s.posts (call_message s c.rank call) m c call reply >>= (λ w. Ok (whole w)))) new
     (lift_steps result (record { posts = s.posts; memory = m }) (record { posts = posts'; memory = m' }) (call_lent s.limits s.posts (call_message s c.rank call) m c call reply) s whole old steps))
 

@@ -30,7 +30,7 @@ use Rattle.gaspi_model.specs.declared.states.StepFault.{StepFault}
 use Rattle.gaspi_model.specs.declared.states.StepFault.TheVariants as faults
 use Rattle.gaspi_model.specs.declared.states.Why.{Why}
 use Rattle.gaspi_model.specs.declared.states.Why.TheVariants as whys
-use Rattle.plain_machine.specs.Entries.{reached_outcome, memories_after_put, take_result_outcome, IsTakeResult, posts_after_take_result, released_by_take}
+use Rattle.plain_machine.specs.Entries.{outcome_in_memories, memories_after_put, take_result_outcome, IsTakeResult, posts_after_take_result, released_by_take}
 use Rattle.plain_machine.specs.declared.transfers.TakeResult.{TakeResult}
 use Rattle.plain_machine.specs.declared.transfers.TakeResult.TheVariants.{Bytes}
 use Rattle.plain_machine.specs.declared.transfers.TakeResult.TheVariants as taken_is
@@ -56,9 +56,9 @@ found_for posts queue target number why why' at is =
     rw (found_there (position_of lane number) why place at_place)
     rw (found_there (slice_get lane place) why entry in_lane) more))))
 
-reached : (limits : Limits) (origin : ℕ) (touch : Kind → DeclaredFootprint) (posts : Posts) (queue target number : ℕ) (why : Why) (at : EntryPosition) → find_entry posts queue target number why ≡ Ok at
-    → entry_footprint limits origin touch posts queue target number ≡ footprint_of limits.ranks origin (touch at.entry.kind)
-reached limits origin touch posts queue target number why at is = rw (found_for posts queue target number why whys.Put at is) refl
+reached : (limits : Limits) (origin : ℕ) (declaration : Kind → DeclaredFootprint) (posts : Posts) (queue target number : ℕ) (why : Why) (at : EntryPosition) → find_entry posts queue target number why ≡ Ok at
+    → entry_footprint limits origin declaration posts queue target number ≡ footprint_of limits.ranks origin (declaration at.entry.kind)
+reached limits origin declaration posts queue target number why at is = rw (found_for posts queue target number why whys.Put at is) refl
 
 -- a change of what is given, and a change of that
 two_changes : {A B C : Type 0} (given : Result A Why) (f : A → B) (g : B → C) → ((given >>= (λ x. Ok (f x))) >>= (λ y. Ok (g y))) ≡ (given >>= (λ x. Ok (g (f x))))
@@ -75,17 +75,17 @@ take_found s origin queue target number outcome p at m there is memory =
     ∙ rw is (two_changes (take_result s.limits (memory_at s.memories origin (footprint_of s.limits.ranks origin (take_footprint target at.entry.kind))) at outcome)
     (λ bytes. posts_after_take p queue target at.position bytes outcome) (λ after. record s { posts = slice_set s.posts origin after })))
 
-put_found : (s : State) (origin queue target number : ℕ) (outcome : Outcome) (p : Posts) (at : EntryPosition) (reach : Footprint) → slice_get s.posts origin ≡ Some p
-    → find_entry p queue target number whys.Put ≡ Ok at → reach ≡ footprint_of s.limits.ranks origin (put_footprint target at.entry.kind)
+put_found : (s : State) (origin queue target number : ℕ) (outcome : Outcome) (p : Posts) (at : EntryPosition) (footprint : Footprint) → slice_get s.posts origin ≡ Some p
+    → find_entry p queue target number whys.Put ≡ Ok at → footprint ≡ footprint_of s.limits.ranks origin (put_footprint target at.entry.kind)
     → step s (Put origin queue target number outcome)
-    ≡ (memories_after_put s.memories origin reach at outcome >>= (λ memories. Ok (record s { posts = slice_set s.posts origin (posts_after_put p queue target at.position outcome); memories = memories })))
-put_found s origin queue target number outcome p at reach there is reached_it =
-    let given : Result Memory Why = memory_after_put (memory_at s.memories origin reach) at outcome in
+    ≡ (memories_after_put s.memories origin footprint at outcome >>= (λ memories. Ok (record s { posts = slice_set s.posts origin (posts_after_put p queue target at.position outcome); memories = memories })))
+put_found s origin queue target number outcome p at footprint there is reached_it =
+    let given : Result Memory Why = memory_after_put (memory_at s.memories origin footprint) at outcome in
     let after : Posts = posts_after_put p queue target at.position outcome in
-    put_as s origin queue target number outcome p reach there (reached s.limits origin (put_footprint target) p queue target number whys.Put at is ∙ sym reached_it)
+    put_as s origin queue target number outcome p footprint there (reached s.limits origin (put_footprint target) p queue target number whys.Put at is ∙ sym reached_it)
     ∙ rw is (two_changes {B = PostsAndMemory} given (λ memory. record { posts = after; memory = memory })
-    (λ w. record s { posts = slice_set s.posts origin w.posts; memories = with_memory_at s.memories origin reach w.memory })
-    ∙ sym (two_changes given (λ memory. with_memory_at s.memories origin reach memory) (λ memories. record s { posts = slice_set s.posts origin after; memories = memories })))
+    (λ w. record s { posts = slice_set s.posts origin w.posts; memories = with_memory_at s.memories origin footprint w.memory })
+    ∙ sym (two_changes given (λ memory. with_memory_at s.memories origin footprint memory) (λ memories. record s { posts = slice_set s.posts origin after; memories = memories })))
 
 -- in a state with a memory for each rank, a put reaches the memory of its target
 memory_named : (memories : List Memory) (ranks me target : ℕ) → length memories ≡ ranks → memory_at memories me (footprint_of ranks me (touches.MemoryOf target)) ≡ memory_or_none (slice_get memories target)
@@ -124,28 +124,28 @@ take_event_found s id number None p at m all there is reached_it =
     rw (there, found_for p id.queue id.target number whys.Take whys.Put at is)
     (ap (Take id.origin id.queue id.target number) (sym (ap (λ (x : Memory). take_outcome x at.entry.kind) reached_it ∙ take_outcome_named s.memories s.limits.ranks id.origin id.target at.entry.kind all)))
 
-pub event_found : (s : State) (id : LaneId) (number : ℕ) (given : Option Outcome) (p : Posts) (at : EntryPosition) (reach : Footprint) → length s.memories ≡ s.limits.ranks → slice_get s.posts id.origin ≡ Some p
-    → find_entry p id.queue id.target number whys.Put ≡ Ok at → reach ≡ footprint_of s.limits.ranks id.origin (put_footprint id.target at.entry.kind)
-    → put_event s id number given ≡ Put id.origin id.queue id.target number (reached_outcome given s.memories id.origin reach at)
-event_found s id number (Some outcome) p at reach all there is reached_it = refl
-event_found s id number None p at reach all there is reached_it =
+pub event_found : (s : State) (id : LaneId) (number : ℕ) (given : Option Outcome) (p : Posts) (at : EntryPosition) (footprint : Footprint) → length s.memories ≡ s.limits.ranks → slice_get s.posts id.origin ≡ Some p
+    → find_entry p id.queue id.target number whys.Put ≡ Ok at → footprint ≡ footprint_of s.limits.ranks id.origin (put_footprint id.target at.entry.kind)
+    → put_event s id number given ≡ Put id.origin id.queue id.target number (outcome_in_memories given s.memories id.origin footprint at)
+event_found s id number (Some outcome) p at footprint all there is reached_it = refl
+event_found s id number None p at footprint all there is reached_it =
     rw (there, is)
     (ap (Put id.origin id.queue id.target number)
     (sym (ap (λ (r : Footprint). put_outcome (memory_at s.memories id.origin r) at.entry.kind) reached_it ∙ put_outcome_named s.memories s.limits.ranks id.origin id.target at.entry.kind all)))
 
 -- the put into the memory that is reached, among all memories
-pub put_has_footprint : (memories : List Memory) (me : ℕ) (reach : Footprint) (at : EntryPosition) (given : Option Outcome) (result : Result (Unit {0}) StepFault) (m m' : Memory)
-    → memory_at memories me reach ≡ m → with_memory_at memories me reach m ≡ memories → Steps {S = Memory} result m m' (memory_after_put m at (unwrap_or given (put_outcome m at.entry.kind)))
-    → Steps {S = List Memory} result memories (with_memory_at memories me reach m') (memories_after_put memories me reach at (reached_outcome given memories me reach at))
-put_has_footprint memories me reach at given result m m' memory kept steps =
-    rw memory (lift_steps {S = Memory} {T = List Memory} result m m' (memory_after_put m at (unwrap_or given (put_outcome m at.entry.kind))) memories (λ w. with_memory_at memories me reach w) kept steps)
+pub put_has_footprint : (memories : List Memory) (me : ℕ) (footprint : Footprint) (at : EntryPosition) (given : Option Outcome) (result : Result (Unit {0}) StepFault) (m m' : Memory)
+    → memory_at memories me footprint ≡ m → with_memory_at memories me footprint m ≡ memories → Steps {S = Memory} result m m' (memory_after_put m at (unwrap_or given (put_outcome m at.entry.kind)))
+    → Steps {S = List Memory} result memories (with_memory_at memories me footprint m') (memories_after_put memories me footprint at (outcome_in_memories given memories me footprint at))
+put_has_footprint memories me footprint at given result m m' memory kept steps =
+    rw memory (lift_steps {S = Memory} {T = List Memory} result m m' (memory_after_put m at (unwrap_or given (put_outcome m at.entry.kind))) memories (λ w. with_memory_at memories me footprint w) kept steps)
 
-pub outcome_has_footprint : (memories : List Memory) (me : ℕ) (reach : Footprint) (at : EntryPosition) (given : Option Outcome) (result : Result Outcome StepFault) (m : Memory)
-    → memory_at memories me reach ≡ m → IfOk result (λ outcome. outcome ≡ unwrap_or given (put_outcome m at.entry.kind)) → IfOk result (λ outcome. outcome ≡ reached_outcome given memories me reach at)
-outcome_has_footprint memories me reach at given result m memory is = rw memory is
+pub outcome_has_footprint : (memories : List Memory) (me : ℕ) (footprint : Footprint) (at : EntryPosition) (given : Option Outcome) (result : Result Outcome StepFault) (m : Memory)
+    → memory_at memories me footprint ≡ m → IfOk result (λ outcome. outcome ≡ unwrap_or given (put_outcome m at.entry.kind)) → IfOk result (λ outcome. outcome ≡ outcome_in_memories given memories me footprint at)
+outcome_has_footprint memories me footprint at given result m memory is = rw memory is
 
-pub peer_within : (ranks me : ℕ) (touch : DeclaredFootprint) (n rank : ℕ) → ranks ≡ n → footprint_of ranks me touch ≡ PeerMemory rank → rank < n
-peer_within ranks me touch n rank same is = subst (λ (k : ℕ). rank < k) same (memory_peer ranks me rank touch is).within
+pub peer_within : (ranks me : ℕ) (declaration : DeclaredFootprint) (n rank : ℕ) → ranks ≡ n → footprint_of ranks me declaration ≡ PeerMemory rank → rank < n
+peer_within ranks me declaration n rank same is = subst (λ (k : ℕ). rank < k) same (memory_peer ranks me rank declaration is).within
 
 -- a step that is not made where what is given is none
 pub steps_fault : {A : Type 0} (fault : StepFault) (old new : A) (s : State) (whole : A → State) (given : Result A Why) (f : A → Result State Why) (outcome : Result State Why) → outcome ≡ (given >>= f)
@@ -210,24 +210,24 @@ take_fault s id number given p at m (faults.Illegal why) all there is memory giv
 )
 take_fault s id number given p at m faults.NoMemory all there is memory gives = refl
 
-pub put_done : (s : State) (id : LaneId) (number : ℕ) (given : Option Outcome) (outcome : Outcome) (p p' : Posts) (at : EntryPosition) (reach : Footprint) (memories' : List Memory) → length s.memories ≡ s.limits.ranks
-    → slice_get s.posts id.origin ≡ Some p → find_entry p id.queue id.target number whys.Put ≡ Ok at → reach ≡ footprint_of s.limits.ranks id.origin (put_footprint id.target at.entry.kind)
-    → outcome ≡ reached_outcome given s.memories id.origin reach at → memories_after_put s.memories id.origin reach at (reached_outcome given s.memories id.origin reach at) ≡ Ok memories'
+pub put_done : (s : State) (id : LaneId) (number : ℕ) (given : Option Outcome) (outcome : Outcome) (p p' : Posts) (at : EntryPosition) (footprint : Footprint) (memories' : List Memory) → length s.memories ≡ s.limits.ranks
+    → slice_get s.posts id.origin ≡ Some p → find_entry p id.queue id.target number whys.Put ≡ Ok at → footprint ≡ footprint_of s.limits.ranks id.origin (put_footprint id.target at.entry.kind)
+    → outcome ≡ outcome_in_memories given s.memories id.origin footprint at → memories_after_put s.memories id.origin footprint at (outcome_in_memories given s.memories id.origin footprint at) ≡ Ok memories'
     → p' ≡ posts_after_put p id.queue id.target at.position outcome → step s (put_event s id number given) ≡ Ok (record s { posts = slice_set s.posts id.origin p'; memories = memories' })
-put_done s id number given outcome p p' at reach memories' all there is reached_it made left after =
-    ap (step s) (event_found s id number given p at reach all there is reached_it ∙ ap (Put id.origin id.queue id.target number) (sym made))
-    ∙ (put_found s id.origin id.queue id.target number outcome p at reach there is reached_it
+put_done s id number given outcome p p' at footprint memories' all there is reached_it made left after =
+    ap (step s) (event_found s id number given p at footprint all there is reached_it ∙ ap (Put id.origin id.queue id.target number) (sym made))
+    ∙ (put_found s id.origin id.queue id.target number outcome p at footprint there is reached_it
     ∙ (ap (λ (r : Result (List Memory) Why). r >>= (λ memories. Ok (record s { posts = slice_set s.posts id.origin (posts_after_put p id.queue id.target at.position outcome); memories = memories })))
-    (ap (memories_after_put s.memories id.origin reach at) made ∙ left)
+    (ap (memories_after_put s.memories id.origin footprint at) made ∙ left)
     ∙ ap (λ (q : Posts). Ok (record s { posts = slice_set s.posts id.origin q; memories = memories' })) (sym after)))
 
 -- one whose put is none changes nothing
-pub put_fault : (s : State) (id : LaneId) (number : ℕ) (given : Option Outcome) (p : Posts) (at : EntryPosition) (reach : Footprint) (memories' : List Memory) (fault : StepFault) → length s.memories ≡ s.limits.ranks
-    → slice_get s.posts id.origin ≡ Some p → find_entry p id.queue id.target number whys.Put ≡ Ok at → reach ≡ footprint_of s.limits.ranks id.origin (put_footprint id.target at.entry.kind)
-    → Steps {S = List Memory} (Err fault) s.memories memories' (memories_after_put s.memories id.origin reach at (reached_outcome given s.memories id.origin reach at))
+pub put_fault : (s : State) (id : LaneId) (number : ℕ) (given : Option Outcome) (p : Posts) (at : EntryPosition) (footprint : Footprint) (memories' : List Memory) (fault : StepFault) → length s.memories ≡ s.limits.ranks
+    → slice_get s.posts id.origin ≡ Some p → find_entry p id.queue id.target number whys.Put ≡ Ok at → footprint ≡ footprint_of s.limits.ranks id.origin (put_footprint id.target at.entry.kind)
+    → Steps {S = List Memory} (Err fault) s.memories memories' (memories_after_put s.memories id.origin footprint at (outcome_in_memories given s.memories id.origin footprint at))
     → Steps (Err fault) s (record s { memories = memories' }) (step s (put_event s id number given))
-put_fault s id number given p at reach memories' fault all there is reached_it steps =
-    let outcome : Outcome = reached_outcome given s.memories id.origin reach at in
-    steps_fault {A = List Memory} fault s.memories memories' s (λ ms. record s { memories = ms }) (memories_after_put s.memories id.origin reach at outcome)
+put_fault s id number given p at footprint memories' fault all there is reached_it steps =
+    let outcome : Outcome = outcome_in_memories given s.memories id.origin footprint at in
+    steps_fault {A = List Memory} fault s.memories memories' s (λ ms. record s { memories = ms }) (memories_after_put s.memories id.origin footprint at outcome)
     (λ memories. Ok (record s { posts = slice_set s.posts id.origin (posts_after_put p id.queue id.target at.position outcome); memories = memories })) (step s (put_event s id number given))
-    (ap (step s) (event_found s id number given p at reach all there is reached_it) ∙ put_found s id.origin id.queue id.target number outcome p at reach there is reached_it) refl steps
+    (ap (step s) (event_found s id number given p at footprint all there is reached_it) ∙ put_found s id.origin id.queue id.target number outcome p at footprint there is reached_it) refl steps

@@ -92,11 +92,11 @@ pub completed_as : (s : State) (c : CallerId) (call : Call) (reply : Reply) (id 
     ≡ (completed s.limits c.rank p (group_in s id) c.thread id call reply >>= (λ w. Ok (record s { posts = slice_set s.posts c.rank w.posts; groups = with_group_at s.groups id w.group })))
 completed_as s c call reply id p there named =
     first
-    ∙ ap (λ (g : groups.Group). (completed s.limits c.rank p g c.thread id call reply >>= (λ after. Ok (left after))) >>= (λ x. Ok (with_parts s c.rank touched x))) (group-on_memory s p c.rank id touch on)
+    ∙ ap (λ (g : groups.Group). (completed s.limits c.rank p g c.thread id call reply >>= (λ after. Ok (left after))) >>= (λ x. Ok (with_parts s c.rank touched x))) (group-on_memory s p c.rank id declaration on)
     ∙ by_result (completed s.limits c.rank p (group_in s id) c.thread id call reply)
   where
-    touch : DeclaredFootprint
-    touch = (row_of call).footprint
+    declaration : DeclaredFootprint
+    declaration = (row_of call).footprint
 
     on : IsOnGroup (row_of call).footprint id
     on = collective-footprint call id named
@@ -113,7 +113,7 @@ completed_as s c call reply id p there named =
 
     by_result : (r : Result PostsAndGroup Why) → ((r >>= (λ after. Ok (left after))) >>= (λ x. Ok (with_parts s c.rank touched x)))
         ≡ (r >>= (λ w. Ok (record s { posts = slice_set s.posts c.rank w.posts; groups = with_group_at s.groups id w.group })))
-    by_result (Ok w) = ap (λ (x : State). Ok x) (lifted-unwritten s c.rank id touch p w.posts w.group on)
+    by_result (Ok w) = ap (λ (x : State). Ok x) (lifted-unwritten s c.rank id declaration p w.posts w.group on)
     by_result (Err why) = refl
 
 -- one that is no step on its rank's posts and its group is none
@@ -152,7 +152,7 @@ completed_memories s t c id call reply named is = ap (λ (x : State). length x.m
 
 -- A join in the whole state: on its rank's posts, its memory and its group.
 
-length-memories_at : (reach : Footprint) (me : ℕ) (memory : Memory) (memories : List Memory) → length (memories_at reach me memory memories) ≡ length memories
+length-memories_at : (footprint : Footprint) (me : ℕ) (memory : Memory) (memories : List Memory) → length (memories_at footprint me memory memories) ≡ length memories
 length-memories_at Alone me memory memories = refl
 length-memories_at OwnMemory me memory memories = length-set memories me memory
 length-memories_at (PeerMemory rank) me memory memories = length-set memories rank memory
@@ -175,27 +175,27 @@ pub joined_as : (s : State) (c : CallerId) (id : ℕ) (args : Args) (p : Posts) 
     })))
 joined_as s c id args p there =
     first
-    ∙ ap (λ (g : groups.Group). (joined s.limits c.rank p g c.thread id args >>= (λ after. Ok (left after))) >>= (λ x. Ok (with_parts s c.rank (part_numbers c.rank reach) x))) (group-on_memory s p c.rank id (join_footprint id args.coll) on)
+    ∙ ap (λ (g : groups.Group). (joined s.limits c.rank p g c.thread id args >>= (λ after. Ok (left after))) >>= (λ x. Ok (with_parts s c.rank (part_numbers c.rank footprint) x))) (group-on_memory s p c.rank id (join_footprint id args.coll) on)
     ∙ by_result (joined s.limits c.rank p (group_in s id) c.thread id args)
   where
-    reach : Footprint
-    reach = footprint_of s.limits.ranks c.rank (join_footprint id args.coll)
+    footprint : Footprint
+    footprint = footprint_of s.limits.ranks c.rank (join_footprint id args.coll)
 
     on : IsOnGroup (join_footprint id args.coll) id
     on = join-footprint id args.coll
 
     made : Memory
-    made = made_memory s.limits p (accessed_memory reach (parts_of s p (part_numbers c.rank reach))) args.coll
+    made = made_memory s.limits p (accessed_memory footprint (parts_of s p (part_numbers c.rank footprint))) args.coll
 
     left : PostsAndGroup → Parts
-    left after = record (with_accessed_memory reach (parts_of s p (part_numbers c.rank reach)) made) { posts = after.posts; group = Some after.group }
+    left after = record (with_accessed_memory footprint (parts_of s p (part_numbers c.rank footprint)) made) { posts = after.posts; group = Some after.group }
 
     first : step s (Joined c id args)
-        ≡ ((joined s.limits c.rank p (group_or_none (parts_of s p (part_numbers c.rank reach)).group) c.thread id args >>= (λ after. Ok (left after))) >>= (λ x. Ok (with_parts s c.rank (part_numbers c.rank reach) x)))
+        ≡ ((joined s.limits c.rank p (group_or_none (parts_of s p (part_numbers c.rank footprint)).group) c.thread id args >>= (λ after. Ok (left after))) >>= (λ x. Ok (with_parts s c.rank (part_numbers c.rank footprint) x)))
     first = rw there refl
 
-    by_result : (r : Result PostsAndGroup Why) → ((r >>= (λ after. Ok (left after))) >>= (λ x. Ok (with_parts s c.rank (part_numbers c.rank reach) x)))
-        ≡ (r >>= (λ w. Ok (record s { posts = slice_set s.posts c.rank w.posts; memories = memories_at reach c.rank made s.memories; groups = with_group_at s.groups id w.group })))
+    by_result : (r : Result PostsAndGroup Why) → ((r >>= (λ after. Ok (left after))) >>= (λ x. Ok (with_parts s c.rank (part_numbers c.rank footprint) x)))
+        ≡ (r >>= (λ w. Ok (record s { posts = slice_set s.posts c.rank w.posts; memories = memories_at footprint c.rank made s.memories; groups = with_group_at s.groups id w.group })))
     by_result (Ok w) = ap (λ (x : State). Ok x) (lifted-group s c.rank id (join_footprint id args.coll) p w.posts made w.group on)
     by_result (Err why) = refl
 

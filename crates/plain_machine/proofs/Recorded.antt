@@ -126,14 +126,14 @@ limits_as r r' posts memories result s outcome limits groups steps =
     (subst (λ (x : List Group). Steps result s (state_of r.limits posts memories x) outcome) (sym groups) steps)
 
 -- a call on the memory that it works on, among the ranks
-pub called_ranks : (ranks ranks' : RankTables) (memories : List Memory) (c : CallerId) (call : Call) (look : Evaluation) (reach : Footprint) (result : Result (Unit {0}) StepFault) (m m' : Memory)
-    → (row_of call).group ≡ None → is_declared (state_in ranks memories) c.rank c.thread ≡ true → call_footprint ranks.limits c.rank call ≡ reach → memory_at memories c.rank reach ≡ m → with_memory_at memories c.rank reach m ≡ memories
-    → ((change : Posts → Posts) (all : List Posts) → with_peer_at reach change all ≡ all) → ranks'.limits ≡ ranks.limits → ranks'.groups ≡ ranks.groups → IsEvaluationIn look (state_in ranks memories) c call
+pub called_ranks : (ranks ranks' : RankTables) (memories : List Memory) (c : CallerId) (call : Call) (look : Evaluation) (footprint : Footprint) (result : Result (Unit {0}) StepFault) (m m' : Memory)
+    → (row_of call).group ≡ None → is_declared (state_in ranks memories) c.rank c.thread ≡ true → call_footprint ranks.limits c.rank call ≡ footprint → memory_at memories c.rank footprint ≡ m → with_memory_at memories c.rank footprint m ≡ memories
+    → ((change : Posts → Posts) (all : List Posts) → with_peer_at footprint change all ≡ all) → ranks'.limits ≡ ranks.limits → ranks'.groups ≡ ranks.groups → IsEvaluationIn look (state_in ranks memories) c call
     → Steps {S = PostsAndLentMemory} result (record { posts = ranks.posts; memory = m }) (record { posts = ranks'.posts; memory = m' }) (call_lent ranks.limits ranks.posts look.message m c call (recorded_reply look.ready))
-    → Steps result (state_in ranks memories) (state_in ranks' (with_memory_at memories c.rank reach m')) (step (state_in ranks memories) (Called c call (recorded_reply look.ready)))
-called_ranks ranks ranks' memories c call look reach result m m' plain declared is memory kept silent limits groups finds steps =
-    limits_as ranks ranks' ranks'.posts (with_memory_at memories c.rank reach m') result (state_in ranks memories) _ limits groups
-    (called_steps (state_in ranks memories) c call (recorded_reply look.ready) reach result m ranks'.posts m' plain (declared_there (state_in ranks memories) c.rank c.thread declared).within is memory kept silent
+    → Steps result (state_in ranks memories) (state_in ranks' (with_memory_at memories c.rank footprint m')) (step (state_in ranks memories) (Called c call (recorded_reply look.ready)))
+called_ranks ranks ranks' memories c call look footprint result m m' plain declared is memory kept silent limits groups finds steps =
+    limits_as ranks ranks' ranks'.posts (with_memory_at memories c.rank footprint m') result (state_in ranks memories) _ limits groups
+    (called_steps (state_in ranks memories) c call (recorded_reply look.ready) footprint result m ranks'.posts m' plain (declared_there (state_in ranks memories) c.rank c.thread declared).within is memory kept silent
     (subst (λ (o : Result PostsAndLentMemory Why). Steps {S = PostsAndLentMemory} result (record { posts = ranks.posts; memory = m }) (record { posts = ranks'.posts; memory = m' }) o)
     (lent_same look ranks.limits ranks.posts (call_message (state_in ranks memories) c.rank call) m c call finds.message) steps))
 

@@ -252,9 +252,9 @@ called_by limits me posts brought memory thread call reply after is =
         ap (λ (w : PostsAndMemory). w.posts) same
 
 -- what a peer is told names no lane
-registered_nonempty : (reach : Footprint) (me : ℕ) (p : Posts) (call : Call) (reply : Reply) (all : List Posts) → nonempty_lanes (with_peer_at reach (peer_after me p call reply) all) ≡ nonempty_lanes all
-registered_nonempty reach me p call reply all =
-    registered_by (λ ps. nonempty_lanes ps ≡ nonempty_lanes all) reach me p call reply all refl
+registered_nonempty : (footprint : Footprint) (me : ℕ) (p : Posts) (call : Call) (reply : Reply) (all : List Posts) → nonempty_lanes (with_peer_at footprint (peer_after me p call reply) all) ≡ nonempty_lanes all
+registered_nonempty footprint me p call reply all =
+    registered_by (λ ps. nonempty_lanes ps ≡ nonempty_lanes all) footprint me p call reply all refl
     (λ rank change kept. same_changed rank_nonempty_lanes 0 rank all change (λ j peer. ap (λ (qs : List Queue). flat_map (queue_nonempty_lanes j) (enumerate_from 0 qs)) (kept peer)))
 
 -- what a step that was made has done to the posts

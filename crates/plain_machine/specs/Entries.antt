@@ -50,11 +50,11 @@ released_by_take rooms rank Failed = changed_at rooms rank (λ n. n - 1)
 
 -- the outcome of the put of an entry that was found, into the memory that it reaches: the one that is given, or else the
 -- machine's
-abbrev pub reached_outcome : Option Outcome → List Memory → ℕ → Footprint → EntryPosition → Outcome
-reached_outcome given memories me reach at = unwrap_or given (put_outcome (memory_at memories me reach) at.entry.kind)
+abbrev pub outcome_in_memories : Option Outcome → List Memory → ℕ → Footprint → EntryPosition → Outcome
+outcome_in_memories given memories me footprint at = unwrap_or given (put_outcome (memory_at memories me footprint) at.entry.kind)
 
 -- all memories after the put of an entry that was found, into the one that it reaches
 abbrev pub memories_after_put : List Memory → ℕ → Footprint → EntryPosition → Outcome → Result (List Memory) Why
-memories_after_put memories me reach at outcome = do
-  memory ← memory_after_put (memory_at memories me reach) at outcome
-  Ok (with_memory_at memories me reach memory)
+memories_after_put memories me footprint at outcome = do
+  memory ← memory_after_put (memory_at memories me footprint) at outcome
+  Ok (with_memory_at memories me footprint memory)

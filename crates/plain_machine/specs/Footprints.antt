@@ -30,7 +30,7 @@ call_footprint limits me call = footprint_of limits.ranks me (row_of call).footp
 
 -- what a transfer of a rank reaches, by its entry's kind
 abbrev pub entry_footprint : Limits → ℕ → (Kind → DeclaredFootprint) → Posts → ℕ → ℕ → ℕ → Footprint
-entry_footprint limits me touch posts queue target number = footprint_of limits.ranks me (declared_entry_footprint touch (entry_in posts queue target number))
+entry_footprint limits me declaration posts queue target number = footprint_of limits.ranks me (declared_entry_footprint declaration (entry_in posts queue target number))
 
 -- the memory that is worked on; where none is, one with no segment
 abbrev pub memory_at : List Memory → ℕ → Footprint → Memory
@@ -44,7 +44,7 @@ memory_at memories me (GroupAndMemory id) = memory_or_none (slice_get memories m
 
 -- the own memory of a rank, where it is reached; else one with no segment
 abbrev pub own_at : List Memory → ℕ → Footprint → Memory
-own_at memories me reach = memory_or_none (part_at memories (part_numbers me reach).memory)
+own_at memories me footprint = memory_or_none (part_at memories (part_numbers me footprint).memory)
 
 -- the memories with that one replaced
 abbrev pub with_memory_at : List Memory → ℕ → Footprint → Memory → List Memory

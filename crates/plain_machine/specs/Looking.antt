@@ -62,7 +62,7 @@ HasJoinRoom limits all rank = (posts : Posts) → slice_get all rank ≡ Some po
 
 -- This is what a look at this call of this caller finds in this state, its caller has a section, and its rank has room for the event that
 -- records it, which takes so much of it.
-pub record IsFindingWithRoom (look : Evaluation) (s : State) (c : CallerId) (call : Call) (amount : ℕ) : Type 0 where
+pub record IsEvaluationWithRoom (look : Evaluation) (s : State) (c : CallerId) (call : Call) (amount : ℕ) : Type 0 where
   pub declared : is_declared s c.rank c.thread ≡ true
   pub finds : IsEvaluationIn look s c call
   pub charge : IsCharge amount s.posts c call look.ready

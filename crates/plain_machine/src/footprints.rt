@@ -9,12 +9,12 @@ use gaspi_types::{Footprint, Group, Invocation, Limits, RankId, Sequence};
 use std::alloc::Global;
 
 /// What a call reaches.
-pub fn call_reach(limits: &Limits, invocation: &Invocation<'_>) -> Footprint
+pub fn call_footprint(limits: &Limits, invocation: &Invocation<'_>) -> Footprint
     requires { limits.now.ranks ≤ 16 }
     ensures { result ≡ call_footprint limits.now invocation.now.caller.rank invocation.now.call.now }
 {
-    let touch = invocation.row.footprint;
-    touch.reach(limits.ranks, invocation.caller.rank)
+    let declaration = invocation.row.footprint;
+    declaration.footprint(limits.ranks, invocation.caller.rank)
 }
 
 /// A memory with no segment, for an event that works on none. It takes no memory.
@@ -64,16 +64,16 @@ fn memory_of<'a>(memories: &'a Sequence<Memory>, none: &'a Memory, rank: RankId)
 }
 
 /// The memory that an event of a rank works on, to be read; where it works on none, one with no segment.
-pub fn worked_memory<'a>(
+pub fn accessed_memory<'a>(
     memories: &'a Sequence<Memory>,
     none: &'a Memory,
     me: RankId,
-    reach: &Footprint,
+    footprint: &Footprint,
 ) -> &'a Memory
     requires { none.now ≡ empty_memory }
-    ensures { result.now ≡ memory_at memories.now me reach.now }
+    ensures { result.now ≡ memory_at memories.now me footprint.now }
 {
-    match reach {
+    match footprint {
         Footprint::OwnMemory | Footprint::GroupAndMemory(_) => memory_of(memories, none, me),
         Footprint::PeerMemory(rank) | Footprint::BothMemories(rank) => memory_of(
             memories, none, *rank,
@@ -87,12 +87,12 @@ pub fn own_memory<'a>(
     memories: &'a Sequence<Memory>,
     none: &'a Memory,
     me: RankId,
-    reach: &Footprint,
+    footprint: &Footprint,
 ) -> &'a Memory
     requires { none.now ≡ empty_memory }
-    ensures { result.now ≡ own_at memories.now me reach.now }
+    ensures { result.now ≡ own_at memories.now me footprint.now }
 {
-    match reach {
+    match footprint {
         Footprint::OwnMemory | Footprint::BothMemories(_) | Footprint::GroupAndMemory(_) => {
             memory_of(memories, none, me)
         }

@@ -14,13 +14,13 @@ ghost use Rattle.gaspi_model.specs.declared.states.Memory.{Memory};
 ghost use Rattle.gaspi_model.specs.declared.states.Posts.{Posts};
 ghost use Rattle.plain_calls.specs.Looks.{recorded_of};
 ghost use Rattle.plain_calls.specs.Memory.{is_send, is_allreduce, looks_with_memory, keeps_memory};
-ghost use Rattle.plain_machine.specs.Looking.{IsEvaluationIn, IsEvaluationOn, IsFindingWithRoom, IsCharge, MayJoin, MayJoinWith, HasEventRoom, HasJoinRoom, look_purge};
+ghost use Rattle.plain_machine.specs.Looking.{IsEvaluationIn, IsEvaluationOn, IsEvaluationWithRoom, IsCharge, MayJoin, MayJoinWith, HasEventRoom, HasJoinRoom, look_purge};
 ghost use Rattle.plain_machine.specs.Machine.{IsStateOf, IsMachine, StepsBy, state_in, used_room_of};
 ghost use Rattle.plain_machine.specs.Footprints.{PostsAndLentMemory, call_lent, group_at, AreRanks};
 ghost use Rattle.plain_machine.specs.NonemptyLanes.{nonempty_lanes};
 
 use crate::footprints::{
-    call_reach, empty_group, empty_memory, group_in, own_memory, worked_memory,
+    accessed_memory, call_footprint, empty_group, empty_memory, group_in, own_memory,
 };
 use crate::nonempty_lanes::{
     LaneId, has_entry, insert_lane, look_lane, look_purge, remove_queue_lanes,
@@ -74,9 +74,9 @@ fn look_plain(
 {
     let none = empty_memory(alloc);
     let rank = invocation.caller.rank;
-    let reach = call_reach(&ranks.limits, invocation);
-    let own = own_memory(memories, &none, rank, &reach);
-    let memory = worked_memory(memories, &none, rank, &reach);
+    let footprint = call_footprint(&ranks.limits, invocation);
+    let own = own_memory(memories, &none, rank, &footprint);
+    let memory = accessed_memory(memories, &none, rank, &footprint);
     look(
         alloc,
         &ranks.limits,
@@ -197,7 +197,7 @@ fn record_plain(
     charge: u32,
 ) -> Result<Reply, NoMemory>
     requires whole { IsStateOf ranks.old memories.old }
-    requires found { IsFindingWithRoom look (state_in ranks.old memories.old) invocation.now.caller invocation.now.call.now charge }
+    requires found { IsEvaluationWithRoom look (state_in ranks.old memories.old) invocation.now.caller invocation.now.call.now charge }
     requires plain { (row_of invocation.now.call.now).group ≡ None }
     ensures reply { IfOk result (λ reply. reply ≡ recorded_reply look.ready) }
     ensures step { StepsBy (recorded_of result) (state_in ranks.old memories.old) (state_in ranks.new memories.new) (Called invocation.now.caller invocation.now.call.now (recorded_reply look.ready)) }
@@ -205,7 +205,7 @@ fn record_plain(
     ensures ample { keeps_memory invocation.now.call.now ≡ false → IsOk result }
 {
     let rank = invocation.caller.rank;
-    match call_reach(&ranks.limits, invocation) {
+    match call_footprint(&ranks.limits, invocation) {
         Footprint::Alone => {
             let mut none = empty_memory(alloc);
             record_on(ranks, &mut none, alloc, invocation, look, charge)
@@ -294,7 +294,7 @@ fn record_posting(
     charge: u32,
 ) -> Result<Reply, NoMemory>
     requires machine { IsMachine (state_in ranks.old memories.old) ranks.old.used standing.old.items }
-    requires found { IsFindingWithRoom look (state_in ranks.old memories.old) invocation.now.caller invocation.now.call.now charge }
+    requires found { IsEvaluationWithRoom look (state_in ranks.old memories.old) invocation.now.caller invocation.now.call.now charge }
     requires plain { (row_of invocation.now.call.now).group ≡ None }
     requires unpurged { look_purge invocation.now.call.now look ≡ None }
     ensures reply { IfOk result (λ reply. reply ≡ recorded_reply look.ready) }
@@ -331,7 +331,7 @@ pub fn record_with_lanes(
     charge: u32,
 ) -> Result<Reply, NoMemory>
     requires machine { IsMachine (state_in ranks.old memories.old) ranks.old.used standing.old.items }
-    requires found { IsFindingWithRoom look (state_in ranks.old memories.old) invocation.now.caller invocation.now.call.now charge }
+    requires found { IsEvaluationWithRoom look (state_in ranks.old memories.old) invocation.now.caller invocation.now.call.now charge }
     requires unjoined { is_joining look.ready ≡ false }
     ensures reply { IfOk result (λ reply. reply ≡ recorded_reply look.ready) }
     ensures step { StepsBy (recorded_of result) (state_in ranks.old memories.old) (state_in ranks.new memories.new) (Called invocation.now.caller invocation.now.call.now (recorded_reply look.ready)) }

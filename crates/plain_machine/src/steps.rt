@@ -8,10 +8,10 @@ ghost use Rattle.gaspi_model.specs.declared.states.Memory.{Memory};
 ghost use Rattle.plain_calls.specs.Looks.{made_of};
 ghost use Rattle.plain_calls.specs.Memory.{takes_memory};
 ghost use Rattle.plain_machine.specs.Machine.{IsStateOf, IsMachine, StepsBy, state_in, used_room_of, take_event, put_event};
-ghost use Rattle.plain_machine.specs.Entries.{found_at, reached_outcome, memories_after_put, released_by_take};
+ghost use Rattle.plain_machine.specs.Entries.{found_at, outcome_in_memories, memories_after_put, released_by_take};
 ghost use Rattle.plain_machine.specs.NonemptyLanes.{nonempty_lanes};
 
-use crate::footprints::{empty_memory, worked_memory};
+use crate::footprints::{accessed_memory, empty_memory};
 use crate::looking::{step_called, step_joined};
 use crate::nonempty_lanes::{LaneId, has_entry, remove_lane};
 use crate::ranks::RankTables;
@@ -55,12 +55,12 @@ fn step_take(
         Err(why) => return Err(StepFault::Illegal(why)),
     };
     let none = empty_memory(alloc);
-    let reach = at
+    let footprint = at
         .entry
         .kind
-        .take_touch(id.target)
-        .reach(ranks.limits.ranks, id.origin);
-    let memory = worked_memory(memories, &none, id.origin, &reach);
+        .take_footprint(id.target)
+        .footprint(ranks.limits.ranks, id.origin);
+    let memory = accessed_memory(memories, &none, id.origin, &footprint);
     match take_bytes(alloc, &ranks.limits, memory, &at, given) {
         Ok(taken) => {
             let outcome = taken.outcome();
@@ -75,22 +75,22 @@ fn step_take(
 
 /// Puts an entry that was found into the memory that it reaches, with the outcome that is given, or else the machine's. It
 /// gives the outcome, and takes no memory.
-fn put_reached(
+fn put_at(
     memories: &mut Sequence<Memory>,
     alloc: Global,
     me: RankId,
-    reach: Footprint,
+    footprint: Footprint,
     at: &LaneEntry<'_>,
     given: Option<Outcome>,
 ) -> Result<Outcome, StepFault>
     requires own { me < length memories.old }
-    requires peer { (rank : ℕ) → reach ≡ PeerMemory rank → rank < length memories.old }
-    requires both { (rank : ℕ) → reach ≡ BothMemories rank → rank < length memories.old }
-    ensures outcome { IfOk result (λ outcome. outcome ≡ reached_outcome given memories.old me reach (found_at at.now)) }
-    ensures step { Steps {S = List Memory} (made_of result) memories.old memories.new (memories_after_put memories.old me reach (found_at at.now) (reached_outcome given memories.old me reach (found_at at.now))) }
+    requires peer { (rank : ℕ) → footprint ≡ PeerMemory rank → rank < length memories.old }
+    requires both { (rank : ℕ) → footprint ≡ BothMemories rank → rank < length memories.old }
+    ensures outcome { IfOk result (λ outcome. outcome ≡ outcome_in_memories given memories.old me footprint (found_at at.now)) }
+    ensures step { Steps {S = List Memory} (made_of result) memories.old memories.new (memories_after_put memories.old me footprint (found_at at.now) (outcome_in_memories given memories.old me footprint (found_at at.now))) }
     ensures ample { result ≢ Err StepFault.NoMemory }
 {
-    match reach {
+    match footprint {
         Footprint::OwnMemory => put_bytes(memories.at_mut(me.index()), at, given),
         Footprint::PeerMemory(peer) => put_bytes(memories.at_mut(peer.index()), at, given),
         Footprint::BothMemories(peer) => put_bytes(memories.at_mut(peer.index()), at, given),
@@ -126,12 +126,12 @@ fn step_put(
         Ok(at) => at,
         Err(why) => return Err(StepFault::Illegal(why)),
     };
-    let reach = at
+    let footprint = at
         .entry
         .kind
-        .put_touch(id.target)
-        .reach(ranks.limits.ranks, id.origin);
-    match put_reached(memories, alloc, id.origin, reach, &at, given) {
+        .put_footprint(id.target)
+        .footprint(ranks.limits.ranks, id.origin);
+    match put_at(memories, alloc, id.origin, footprint, &at, given) {
         Ok(outcome) => {
             let place = at.position;
             set_put(ranks.posts.at_mut(rank), id, place, outcome);

@@ -90,7 +90,7 @@ left-alone s t c call reply place old own group room plain is reserved posts mem
           posts = left-posts s t c call reply place old.posts own.posts m after mine.posts there posts;
           memory = record {
             capacity = left-capacity s t old.posts room.message call reply old.memory own.memory mine.memory.capacity kept memory;
-            memory = by-reach (call_footprint s.limits c.rank call) refl is.lends;
+            memory = by-footprint (call_footprint s.limits c.rank call) refl is.lends;
           };
         };
         peer_node = no-peer (call_footprint s.limits c.rank call) is.lends;
@@ -118,14 +118,14 @@ left-alone s t c call reply place old own group room plain is reserved posts mem
             let same = same-some (slice_get s.memories (memory_rank s.limits c.rank call)) m old.memory.memory there.memory_there there_is in
             ap (λ (n : ℕ). slice_get t.memories n) (sym here) ∙ left-memory s t c call reply old room m after old.memory own.memory mine reserved there same memory
 
-        by-reach : (r : Footprint) → call_footprint s.limits c.rank call ≡ r → Lends s c.rank r old None group → slice_get t.memories c.rank ≡ Some own.memory.memory
-        by-reach Alone at lends = at-own (ap (λ (r : Footprint). memory_place r c.rank) at)
-        by-reach OwnMemory at lends = at-own (ap (λ (r : Footprint). memory_place r c.rank) at)
-        by-reach (Group id) at lends = at-own (ap (λ (r : Footprint). memory_place r c.rank) at)
-        by-reach (GroupAndMemory id) at lends = at-own (ap (λ (r : Footprint). memory_place r c.rank) at)
-        by-reach (PeerMemory rank) at lends = absurd lends.peer_node
-        by-reach (BothMemories rank) at lends = absurd lends.peer_node
-        by-reach (PeerPosts rank) at lends = absurd lends.peer_node
+        by-footprint : (r : Footprint) → call_footprint s.limits c.rank call ≡ r → Lends s c.rank r old None group → slice_get t.memories c.rank ≡ Some own.memory.memory
+        by-footprint Alone at lends = at-own (ap (λ (r : Footprint). memory_place r c.rank) at)
+        by-footprint OwnMemory at lends = at-own (ap (λ (r : Footprint). memory_place r c.rank) at)
+        by-footprint (Group id) at lends = at-own (ap (λ (r : Footprint). memory_place r c.rank) at)
+        by-footprint (GroupAndMemory id) at lends = at-own (ap (λ (r : Footprint). memory_place r c.rank) at)
+        by-footprint (PeerMemory rank) at lends = absurd lends.peer_node
+        by-footprint (BothMemories rank) at lends = absurd lends.peer_node
+        by-footprint (PeerPosts rank) at lends = absurd lends.peer_node
 
 -- the footprint of a call in a world of so many ranks
 abbrev footprint_for : ℕ → ℕ → Call → Footprint
@@ -167,7 +167,7 @@ left-between s t c call reply place old own p q group room plain is reserved pos
 
     go : (m : Memory) (after : PostsAndMemory) → IsCalledThere s t c call reply old.posts.posts m after → IsLeft s t (Called c call reply) place old own (Some p) (Some q) group
     go m after there = record {
-      lends = by-reach (call_footprint s.limits c.rank call) refl is.lends;
+      lends = by-footprint (call_footprint s.limits c.rank call) refl is.lends;
       journal = ap (λ (x : PostsValue). x.journal) posts;
       peer_journal = ap (λ (x : PostsValue). Some x.journal) told;
     }
@@ -224,18 +224,18 @@ left-between s t c call reply place old own p q group room plain is reserved pos
               },
             )
 
-        by-reach : (r : Footprint) → call_footprint s.limits c.rank call ≡ r → Lends s c.rank r old (Some p) group → Lends t c.rank r own (Some q) group
-        by-reach Alone at lends = absurd lends.peer_node
-        by-reach OwnMemory at lends = absurd lends.peer_node
-        by-reach (Group id) at lends = absurd lends.peer_node
-        by-reach (GroupAndMemory id) at lends = absurd lends.peer_node
-        by-reach (PeerMemory rank) at lends =
+        by-footprint : (r : Footprint) → call_footprint s.limits c.rank call ≡ r → Lends s c.rank r old (Some p) group → Lends t c.rank r own (Some q) group
+        by-footprint Alone at lends = absurd lends.peer_node
+        by-footprint OwnMemory at lends = absurd lends.peer_node
+        by-footprint (Group id) at lends = absurd lends.peer_node
+        by-footprint (GroupAndMemory id) at lends = absurd lends.peer_node
+        by-footprint (PeerMemory rank) at lends =
             let both = at-peer rank (PeerMemory rank) at refl (λ k e. cc) (λ e. cc) lends.peer_node (ap (λ (x : State). slice_get x.posts rank) there.leaves ∙ rw at refl) in
             record { own_node = both.0; peer_node = both.1; group_node = groups (PeerMemory rank) lends }
-        by-reach (BothMemories rank) at lends =
+        by-footprint (BothMemories rank) at lends =
             let both = at-peer rank (BothMemories rank) at refl (λ k e. cc) (λ e. cc) lends.peer_node (ap (λ (x : State). slice_get x.posts rank) there.leaves ∙ rw at refl) in
             record { own_node = both.0; peer_node = both.1; group_node = groups (BothMemories rank) lends }
-        by-reach (PeerPosts rank) at lends = record {
+        by-footprint (PeerPosts rank) at lends = record {
           own_node = record {
             posts = own-posts;
             memory = record { capacity = own-capacity; memory = own-memory };

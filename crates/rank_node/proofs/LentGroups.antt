@@ -33,29 +33,29 @@ past-8 : (b : Bool) (footprint : Footprint) → b ≡ false → IsOwnFootprint (
 past-8 true footprint over = absurd (let no : ⊥ = cc in no)
 past-8 false footprint over = record { peer = refl; group = refl }
 
-on-group : (ranks me id : ℕ) (touch : DeclaredFootprint) → IsOnGroup touch id → nat_lt id 8 ≡ true → IsGroupFootprint (footprint_of ranks me touch) id
-on-group ranks me id touch (inl is) less = rw is (within-8 (nat_lt id 8) (Group id) id less (record { peer = refl; group = refl }))
-on-group ranks me id touch (inr is) less = rw is (within-8 (nat_lt id 8) (GroupAndMemory id) id less (record { peer = refl; group = refl }))
+on-group : (ranks me id : ℕ) (declaration : DeclaredFootprint) → IsOnGroup declaration id → nat_lt id 8 ≡ true → IsGroupFootprint (footprint_of ranks me declaration) id
+on-group ranks me id declaration (inl is) less = rw is (within-8 (nat_lt id 8) (Group id) id less (record { peer = refl; group = refl }))
+on-group ranks me id declaration (inr is) less = rw is (within-8 (nat_lt id 8) (GroupAndMemory id) id less (record { peer = refl; group = refl }))
 
-off-group : (ranks me id : ℕ) (touch : DeclaredFootprint) → IsOnGroup touch id → nat_lt id 8 ≡ false → IsOwnFootprint (footprint_of ranks me touch)
-off-group ranks me id touch (inl is) over = rw is (past-8 (nat_lt id 8) (Group id) over)
-off-group ranks me id touch (inr is) over = rw is (past-8 (nat_lt id 8) (GroupAndMemory id) over)
+off-group : (ranks me id : ℕ) (declaration : DeclaredFootprint) → IsOnGroup declaration id → nat_lt id 8 ≡ false → IsOwnFootprint (footprint_of ranks me declaration)
+off-group ranks me id declaration (inl is) over = rw is (past-8 (nat_lt id 8) (Group id) over)
+off-group ranks me id declaration (inr is) over = rw is (past-8 (nat_lt id 8) (GroupAndMemory id) over)
 
 -- a group's node is lent
-pub record LendsGroup (s : State) (me id : ℕ) (touch : DeclaredFootprint) (own : Node) (peer : Option Node) (n : GroupNode) : Type 0 where
+pub record LendsGroup (s : State) (me id : ℕ) (declaration : DeclaredFootprint) (own : Node) (peer : Option Node) (n : GroupNode) : Type 0 where
   pub within : id < 8
-  pub footprint : IsGroupFootprint (footprint_of s.limits.ranks me touch) id
+  pub footprint : IsGroupFootprint (footprint_of s.limits.ranks me declaration) id
   pub own_node : IsNodeOf s me own
   pub no_peer : IsPeer s me None peer
   pub group_node : IsGroupOf s id n
 
-pub lends-group : (s : State) (me id : ℕ) (touch : DeclaredFootprint) (own : Node) (peer : Option Node) (n : GroupNode) → IsOnGroup touch id → Lends s me (footprint_of s.limits.ranks me touch) own peer (Some n)
-    → LendsGroup s me id touch own peer n
-lends-group s me id touch own peer n on lends = go (nat_lt id 8) refl
+pub lends-group : (s : State) (me id : ℕ) (declaration : DeclaredFootprint) (own : Node) (peer : Option Node) (n : GroupNode) → IsOnGroup declaration id → Lends s me (footprint_of s.limits.ranks me declaration) own peer (Some n)
+    → LendsGroup s me id declaration own peer n
+lends-group s me id declaration own peer n on lends = go (nat_lt id 8) refl
   where
-    go : (b : Bool) → nat_lt id 8 ≡ b → LendsGroup s me id touch own peer n
+    go : (b : Bool) → nat_lt id 8 ≡ b → LendsGroup s me id declaration own peer n
     go true less =
-        let is = on-group s.limits.ranks me id touch on less in
+        let is = on-group s.limits.ranks me id declaration on less in
         record {
           within = ltb-true id 8 less;
           footprint = is;
@@ -63,23 +63,23 @@ lends-group s me id touch own peer n on lends = go (nat_lt id 8) refl
           no_peer = subst (λ (o : Option ℕ). IsPeer s me o peer) is.peer lends.peer_node;
           group_node = subst (λ (o : Option ℕ). IsGroupAt s o (Some n)) is.group lends.group_node;
         }
-    go false over = absurd (subst (λ (o : Option ℕ). IsGroupAt s o (Some n)) (off-group s.limits.ranks me id touch on over).group lends.group_node)
+    go false over = absurd (subst (λ (o : Option ℕ). IsGroupAt s o (Some n)) (off-group s.limits.ranks me id declaration on over).group lends.group_node)
 
 -- none is
-pub record LendsNoGroup (s : State) (me id : ℕ) (touch : DeclaredFootprint) (own : Node) (peer : Option Node) : Type 0 where
+pub record LendsNoGroup (s : State) (me id : ℕ) (declaration : DeclaredFootprint) (own : Node) (peer : Option Node) : Type 0 where
   pub over : 8 ≤ id
-  pub footprint : IsOwnFootprint (footprint_of s.limits.ranks me touch)
+  pub footprint : IsOwnFootprint (footprint_of s.limits.ranks me declaration)
   pub own_node : IsNodeOf s me own
   pub no_peer : IsPeer s me None peer
 
-pub lends-no-group : (s : State) (me id : ℕ) (touch : DeclaredFootprint) (own : Node) (peer : Option Node) → IsOnGroup touch id → Lends s me (footprint_of s.limits.ranks me touch) own peer None
-    → LendsNoGroup s me id touch own peer
-lends-no-group s me id touch own peer on lends = go (nat_lt id 8) refl
+pub lends-no-group : (s : State) (me id : ℕ) (declaration : DeclaredFootprint) (own : Node) (peer : Option Node) → IsOnGroup declaration id → Lends s me (footprint_of s.limits.ranks me declaration) own peer None
+    → LendsNoGroup s me id declaration own peer
+lends-no-group s me id declaration own peer on lends = go (nat_lt id 8) refl
   where
-    go : (b : Bool) → nat_lt id 8 ≡ b → LendsNoGroup s me id touch own peer
-    go true less = absurd (subst (λ (o : Option ℕ). IsGroupAt s o None) (on-group s.limits.ranks me id touch on less).group lends.group_node)
+    go : (b : Bool) → nat_lt id 8 ≡ b → LendsNoGroup s me id declaration own peer
+    go true less = absurd (subst (λ (o : Option ℕ). IsGroupAt s o None) (on-group s.limits.ranks me id declaration on less).group lends.group_node)
     go false over =
-        let is = off-group s.limits.ranks me id touch on over in
+        let is = off-group s.limits.ranks me id declaration on over in
         record {
           over = ltb-false id 8 over;
           footprint = is;

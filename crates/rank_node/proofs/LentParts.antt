@@ -102,10 +102,10 @@ found-as s p t posts at place e sound is there found first numbered =
       ranked = lt-ltb t.target s.limits.ranks (omega arith);
     }
 
-pub footprint-as : (s : State) (p : PostsValue) (t : Transfer) (e : Entry) (f : IsFoundAs s p t e) (touch : ℕ → Kind → DeclaredFootprint)
-    → footprint_of s.limits.ranks t.origin (declared_entry_footprint (touch t.target) (entry_in p.posts t.queue t.target t.number)) ≡ footprint_of s.limits.ranks t.origin (touch t.target e.kind)
-footprint-as s p t e f touch =
-    ap (λ (o : Option Entry). footprint_of s.limits.ranks t.origin (declared_entry_footprint (touch t.target) o)) (entry-found p.posts t.queue t.target t.number f.at f.found ∙ ap (λ (x : Entry). Some x) f.entry)
+pub footprint-as : (s : State) (p : PostsValue) (t : Transfer) (e : Entry) (f : IsFoundAs s p t e) (declaration : ℕ → Kind → DeclaredFootprint)
+    → footprint_of s.limits.ranks t.origin (declared_entry_footprint (declaration t.target) (entry_in p.posts t.queue t.target t.number)) ≡ footprint_of s.limits.ranks t.origin (declaration t.target e.kind)
+footprint-as s p t e f declaration =
+    ap (λ (o : Option Entry). footprint_of s.limits.ranks t.origin (declared_entry_footprint (declaration t.target) o)) (entry-found p.posts t.queue t.target t.number f.at f.found ∙ ap (λ (x : Entry). Some x) f.entry)
 
 -- no transfer reaches a group
 named-no_group : (ranks me named : ℕ) → footprint_group (if named == me then OwnMemory else (if nat_lt named ranks then PeerMemory named else Alone)) ≡ None

@@ -59,10 +59,10 @@ pub joined-lends : (c : CallerId) (id : ℕ) (args : Args) (place : ℕ) (s t : 
 joined-lends c id args place s t old own old_peer peer old_group group call on left is =
     let limits : t.limits ≡ s.limits = ap (λ (x : State). x.limits) (join-step s t c id args on.sound on.is_step).5.leaves in
     let me = left.lends.own_node.posts.me in
-    let touch : join_footprint id args.coll ≡ (row_of call).footprint = sym (joining-footprint id args) ∙ ap (λ (x : Call). (row_of x).footprint) is in
+    let declaration : join_footprint id args.coll ≡ (row_of call).footprint = sym (joining-footprint id args) ∙ ap (λ (x : Call). (row_of x).footprint) is in
     subst (λ (r : ℕ). Lends t r (footprint_of t.limits.ranks r (row_of call).footprint) own peer group) (sym me)
     (subst (λ (l : Limits). Lends t c.rank (footprint_of l.ranks c.rank (row_of call).footprint) own peer group) (sym limits)
-    (subst (λ (x : DeclaredFootprint). Lends t c.rank (footprint_of s.limits.ranks c.rank x) own peer group) touch left.lends))
+    (subst (λ (x : DeclaredFootprint). Lends t c.rank (footprint_of s.limits.ranks c.rank x) own peer group) declaration left.lends))
 
 pub joined-lent-for : (c : CallerId) (id : ℕ) (args : Args) (place : ℕ) (s t : State) (old own : Node) (old_peer peer : Option Node) (old_group group : Option GroupNode) (call : Call)
     → IsStepOn s t (Joined c id args) old old_peer old_group → IsLeft s t (Joined c id args) place old own old_peer peer group → joining_call id args ≡ call → AreLentFor call own peer group

@@ -48,7 +48,7 @@ fn check_meeting(group: &GroupNode, me: RankId, args: &Args) -> Result<(), Refus
 }
 
 /// Looks at a collective of which none is pending: whether it may join, with its arguments.
-fn fresh_finds(
+fn fresh_result(
     own: &NodePosts,
     group: &GroupNode,
     args: Option<Args>,
@@ -91,7 +91,7 @@ fn blank_for(alloc: Global, call: &Call) -> Result<Sequence<i128>, NoMemory>
 }
 
 /// Looks at a collective that is pending for its caller: ready where its round is full.
-fn resumed_finds(
+fn resumed_answer(
     alloc: Global,
     group: &GroupNode,
     me: RankId,
@@ -138,9 +138,9 @@ pub(crate) fn look(
     match resumes(own.pending_at(id), thread, handle.members, call) {
         Ok(Resume::Fresh) => {
             let args = args_of(alloc, handle.members, call)?;
-            Ok(collective_ready(fresh_finds(own, group, args, call)))
+            Ok(collective_ready(fresh_result(own, group, args, call)))
         }
-        Ok(Resume::Same) => resumed_finds(alloc, group, own.me, call),
+        Ok(Resume::Same) => resumed_answer(alloc, group, own.me, call),
         Err(refusal) => Ok(collective_ready(Err(refusal))),
     }
 }

@@ -2,10 +2,10 @@
 
 ghost use Rattle.std.specs.Prelude.{◌≡◌, ◌<◌, Ok, IsOk, IsSome, IfSome, slice_set};
 ghost use Rattle.gaspi_types.specs.Inboxes.{first_within, deposited};
-ghost use Rattle.gaspi_model.specs.AtomicCalls.{fetch_add_leaves, compare_swap_leaves};
+ghost use Rattle.gaspi_model.specs.AtomicCalls.{fetch_add_effect, compare_swap_effect};
 ghost use Rattle.gaspi_model.specs.Calls.{memory_effect};
 ghost use Rattle.gaspi_model.specs.Memories.{slots_of, with_slots};
-ghost use Rattle.gaspi_model.specs.MemoryCalls.{store_leaves};
+ghost use Rattle.gaspi_model.specs.MemoryCalls.{store_effect};
 ghost use Rattle.gaspi_model.specs.PassiveCalls.{send_effect, receive_effect};
 ghost use Rattle.gaspi_model.specs.SegmentCalls.{delete_effect};
 
@@ -34,7 +34,7 @@ impl NodeMemory {
 
     /// Writes the bytes of a store. (own choice)
     fn store(&mut self, call: &Store)
-        ensures { self.new ≡ with_memory self.old (store_leaves self.old.memory call.now) }
+        ensures { self.new ≡ with_memory self.old (store_effect self.old.memory call.now) }
     {
         store_bytes(
             &mut self.segments,
@@ -89,14 +89,14 @@ impl NodeMemory {
 
     /// Adds to a word. (GASPI: atomic_fetch_add)
     fn fetch_add(&mut self, call: &FetchAdd)
-        ensures { self.new ≡ with_memory self.old (fetch_add_leaves self.old.memory call.now) }
+        ensures { self.new ≡ with_memory self.old (fetch_add_effect self.old.memory call.now) }
     {
         add_to_segment(&mut self.segments, call.seg, call.offset, call.value);
     }
 
     /// Writes over a word, where it is the comparator. (GASPI: atomic_compare_swap)
     fn compare_swap(&mut self, call: &CompareSwap)
-        ensures { self.new ≡ with_memory self.old (compare_swap_leaves self.old.memory call.now) }
+        ensures { self.new ≡ with_memory self.old (compare_swap_effect self.old.memory call.now) }
     {
         swap_in_segment(
             &mut self.segments,

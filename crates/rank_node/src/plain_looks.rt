@@ -18,9 +18,9 @@ use gaspi_types::{
     Ready, Refusal, Reply, Wait,
 };
 use plain_calls::{
-    alloc_result, group_add_finds, group_create_finds, group_delete_finds, load_finds, ready_of,
-    receive_finds, register_result, reset_finds, send_finds, state_finds, store_finds,
-    waitsome_finds, word_finds,
+    alloc_result, group_add_result, group_create_result, group_delete_result, load_result,
+    ready_of, receive_result, register_result, reset_result, send_result, state_result,
+    store_result, waitsome_result, word_result,
 };
 use post_queue::Lanes;
 use segment_store::{call_kinds, extent_in};
@@ -66,7 +66,7 @@ fn look_at_delete(lanes: &Lanes, own: &Extents, call: &Delete) -> Result<Option<
 }
 
 /// What a call finds that posts nothing and is no collective. Only a load takes memory.
-fn plain_finds(
+fn plain_result(
     alloc: Global,
     posts: &NodePosts,
     memory: &NodeMemory,
@@ -83,21 +83,21 @@ fn plain_finds(
         Call::Alloc(call) => alloc_result(&table.own, call),
         Call::Register(call) => register_result(limits.ranks, &table.own, call),
         Call::Delete(call) => look_at_delete(&posts.lanes, &table.own, call),
-        Call::Store(call) => store_finds(&table.own, call),
-        Call::Load(call) => load_finds(alloc, &table.own, &memory.segments, call)?,
+        Call::Store(call) => store_result(&table.own, call),
+        Call::Load(call) => load_result(alloc, &table.own, &memory.segments, call)?,
         Call::Wait(call) => look_at_wait(&posts.lanes, call),
         Call::Purge(call) => look_at_purge(&posts.lanes, call),
         Call::Qsize(call) => look_at_size(&posts.lanes, call),
         Call::Waitsome(call) => {
-            waitsome_finds(limits.notes, &table.own, memory.slots_of(call.seg), call)
+            waitsome_result(limits.notes, &table.own, memory.slots_of(call.seg), call)
         }
         Call::Reset(call) => {
-            reset_finds(limits.notes, &table.own, memory.slots_of(call.seg), call)
+            reset_result(limits.notes, &table.own, memory.slots_of(call.seg), call)
         }
         Call::PassiveSend(call) => {
-            send_finds(limits.ranks, &table.own, memory.inbox.has_room(), call)
+            send_result(limits.ranks, &table.own, memory.inbox.has_room(), call)
         }
-        Call::PassiveReceive(call) => receive_finds(&table.own, memory.inbox.front(), call),
+        Call::PassiveReceive(call) => receive_result(&table.own, memory.inbox.front(), call),
         Call::FetchAdd(
             FetchAdd {
                 seg,
@@ -115,7 +115,7 @@ fn plain_finds(
             },
         ) => {
             let segments = &memory.segments;
-            word_finds(
+            word_result(
                 limits.ranks,
                 posts.me,
                 table,
@@ -125,22 +125,22 @@ fn plain_finds(
                 *rank,
             )
         }
-        Call::GroupCreate => group_create_finds(posts.groups.handles()),
+        Call::GroupCreate => group_create_result(posts.groups.handles()),
         Call::GroupAdd(call) => {
             let pending = posts.pending_at(call.group);
-            group_add_finds(limits.ranks, posts.groups.handles(), pending, call)
+            group_add_result(limits.ranks, posts.groups.handles(), pending, call)
         }
         Call::GroupDelete(call) => {
             let pending = posts.pending_at(call.group);
-            group_delete_finds(posts.groups.handles(), pending, call)
+            group_delete_result(posts.groups.handles(), pending, call)
         }
-        Call::State => state_finds(posts.corrupt.as_slice()),
+        Call::State => state_result(posts.corrupt.as_slice()),
         _ => Ok(Some(Reply::Done)),
     })
 }
 
 /// What a call finds that posts to that lane: `Done`, or its first refusal. Only the post of a list takes memory.
-fn post_finds(
+fn post_result(
     alloc: Global,
     posts: &NodePosts,
     to: Posting,
@@ -185,8 +185,8 @@ pub(crate) fn look(
         return Ok(Ready::Reply(Reply::Refused(Refusal::CallerEnded)));
     }
     let finds = match invocation.row.posting {
-        Some(to) => post_finds(alloc, posts, to, invocation.call)?,
-        None => plain_finds(alloc, posts, memory, invocation.call)?,
+        Some(to) => post_result(alloc, posts, to, invocation.call)?,
+        None => plain_result(alloc, posts, memory, invocation.call)?,
     };
     Ok(ready_of(finds))
 }

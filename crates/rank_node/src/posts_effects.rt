@@ -6,7 +6,7 @@ ghost use Rattle.gaspi_types.specs.Groups.{next_group, building_at, delete_check
 ghost use Rattle.gaspi_types.specs.SegmentTables.{next_generation};
 ghost use Rattle.gaspi_types.specs.declared.replies.Reply.TheVariants.{Done};
 ghost use Rattle.gaspi_model.specs.Calls.{plain_effect, posts_effect};
-ghost use Rattle.gaspi_model.specs.GroupCalls.{group_create_leaves, group_add_leaves, group_delete_leaves};
+ghost use Rattle.gaspi_model.specs.GroupCalls.{group_create_effect, group_add_effect, group_delete_effect};
 ghost use Rattle.gaspi_model.specs.Posting.{with_post};
 ghost use Rattle.gaspi_model.specs.QueueCalls.{wait_result, closed, purged};
 ghost use Rattle.gaspi_model.specs.SegmentCalls.{with_own, without_own, with_known};
@@ -81,7 +81,7 @@ impl NodePosts {
     /// Makes a group, with no rank in it. (GASPI: group_create)
     fn create_group(&mut self)
         requires { IsOk (next_group self.old.posts.groups) }
-        ensures { self.new ≡ with_posts self.old (group_create_leaves self.old.posts) }
+        ensures { self.new ≡ with_posts self.old (group_create_effect self.old.posts) }
     {
         match self.groups.create() {
             Ok(_id) => {}
@@ -93,7 +93,7 @@ impl NodePosts {
     fn add_to_group(&mut self, call: &GroupAdd)
         requires rank { call.now.rank < 16 }
         requires group { IsOk (building_at self.old.posts.groups call.now.group) }
-        ensures { self.new ≡ with_posts self.old (group_add_leaves self.old.posts call.now) }
+        ensures { self.new ≡ with_posts self.old (group_add_effect self.old.posts call.now) }
     {
         match self.groups.add(call.group, RankId::of(call.rank as u32)) {
             Ok(()) => {}
@@ -104,7 +104,7 @@ impl NodePosts {
     /// Drops a group. (GASPI: group_delete)
     fn delete_group(&mut self, group: u64)
         requires { IsOk (delete_checks self.old.posts.groups group) }
-        ensures { self.new ≡ with_posts self.old (group_delete_leaves self.old.posts (record { group = group })) }
+        ensures { self.new ≡ with_posts self.old (group_delete_effect self.old.posts (record { group = group })) }
     {
         match self.groups.delete(group) {
             Ok(()) => {}

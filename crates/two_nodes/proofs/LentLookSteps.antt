@@ -146,11 +146,11 @@ pub joins : (s : State) (c : CallerId) (call : Call) (args : Args) (own : Node) 
 joins s c call args own peer group is =
     let ok = joined-is_step s c call args is.lent.sound (has-room s c call is.room) is.joins in
     let m = ok-of (step s (join_event c call args)) ok in
-    let touch = join-touches s c call args is.joins in (
+    let declaration = join-touches s c call args is.joins in (
       m.0,
       record {
         sound = is.lent.sound;
-        lends = subst (λ (x : DeclaredFootprint). Lends s c.rank (footprint_of s.limits.ranks c.rank x) own peer group) (sym touch) is.lent.lends;
+        lends = subst (λ (x : DeclaredFootprint). Lends s c.rank (footprint_of s.limits.ranks c.rank x) own peer group) (sym declaration) is.lent.lends;
         is_step = m.1;
       },
     )

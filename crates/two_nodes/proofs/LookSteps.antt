@@ -101,9 +101,9 @@ called-frame s t c call reply shard h out =
 
 joined-frame : (s t : State) (c : CallerId) (call : Call) (args : Args) (shard : Shard) → step s (join_event c call args) ≡ Ok t → join_footprint (group_of call) args.coll ≡ (row_of call).footprint
     → is_shard (footprint_shards c.rank (footprint_of s.limits.ranks c.rank (row_of call).footprint)) shard ≡ false → AgreeOnShard t s shard
-joined-frame s t c call args shard h touch out =
+joined-frame s t c call args shard h declaration out =
     let same : is_shard (footprint_shards c.rank (footprint_of s.limits.ranks c.rank (join_footprint (group_of call) args.coll))) shard ≡ false =
-    ap (λ (x : DeclaredFootprint). is_shard (footprint_shards c.rank (footprint_of s.limits.ranks c.rank x)) shard) touch ∙ out in
+    ap (λ (x : DeclaredFootprint). is_shard (footprint_shards c.rank (footprint_of s.limits.ranks c.rank x)) shard) declaration ∙ out in
     found_then (slice_get s.posts c.rank) (cause_without_owner (join_event c call args)) _ t h (λ posts at rest. frame s t (join_event c call args) shard h (rw at same))
 
 part-itself : (s t : State) (shard : Shard) → t ≡ s → AgreeOnShard t s shard

@@ -68,8 +68,8 @@ not-group me (Group id) none = absurd (let no : ⊥ = cc in no)
 not-group me (GroupAndMemory id) none = absurd (let no : ⊥ = cc in no)
 
 -- a peer is another rank of the world
-pub peer-there : (ranks me : ℕ) (touch : DeclaredFootprint) (rank : ℕ) → footprint_peer (footprint_of ranks me touch) ≡ Some rank → ((rank == me) ≡ false) × (rank < ranks)
-peer-there ranks me touch rank = go touch
+pub peer-there : (ranks me : ℕ) (declaration : DeclaredFootprint) (rank : ℕ) → footprint_peer (footprint_of ranks me declaration) ≡ Some rank → ((rank == me) ≡ false) × (rank < ranks)
+peer-there ranks me declaration rank = go declaration
   where
     at : (k : ℕ) (far : Footprint) → footprint_peer far ≡ Some k → (a b : Bool) → (k == me) ≡ a → nat_lt k ranks ≡ b → (near : Footprint) → footprint_peer near ≡ None
         → footprint_peer (if a then near else (if b then far else Alone)) ≡ Some rank → ((rank == me) ≡ false) × (rank < ranks)
@@ -97,8 +97,8 @@ peer-there ranks me touch rank = go touch
         none false far is h = (let no : ⊥ = cc in no)
 
 -- a group that is reached is group 0
-pub group-there : (ranks me : ℕ) (touch : DeclaredFootprint) (id : ℕ) → reaches_group_0 touch ≡ true → footprint_group (footprint_of ranks me touch) ≡ Some id → id ≡ 0
-group-there ranks me touch id = go touch
+pub group-there : (ranks me : ℕ) (declaration : DeclaredFootprint) (id : ℕ) → reaches_group_0 declaration ≡ true → footprint_group (footprint_of ranks me declaration) ≡ Some id → id ≡ 0
+group-there ranks me declaration id = go declaration
   where
     peers : (a b : Bool) (near far : Footprint) → footprint_group near ≡ None → footprint_group far ≡ None → footprint_group (if a then near else (if b then far else Alone)) ≡ Some id → id ≡ 0
     peers true b near far n f h = absurd (let no : ⊥ = cc in no)
@@ -279,17 +279,17 @@ pub footprint-as : (s : State) (c : CallerId) (call : Call) (other place : ℕ) 
 footprint-as s c call other place own peer group parts row found rowed is =
     ap (λ (n : ℕ). footprint_of n c.rank (row_of call).footprint) parts.two ∙ sym (is ∙ ap (λ (x : CallRow). footprint_of 2 c.rank x.footprint) rowed)
 
-pub alone-reaches : (reach found : Footprint) → reach ≡ found → (found ≡ Alone) ⊎ (found ≡ OwnMemory) → (footprint_peer reach ≡ None) × (footprint_group reach ≡ None)
-alone-reaches reach found same (inl is) = (ap footprint_peer (same ∙ is), ap footprint_group (same ∙ is))
-alone-reaches reach found same (inr is) = (ap footprint_peer (same ∙ is), ap footprint_group (same ∙ is))
+pub alone-reaches : (footprint found : Footprint) → footprint ≡ found → (found ≡ Alone) ⊎ (found ≡ OwnMemory) → (footprint_peer footprint ≡ None) × (footprint_group footprint ≡ None)
+alone-reaches footprint found same (inl is) = (ap footprint_peer (same ∙ is), ap footprint_group (same ∙ is))
+alone-reaches footprint found same (inr is) = (ap footprint_peer (same ∙ is), ap footprint_group (same ∙ is))
 
-pub between-reaches : (reach found : Footprint) → reach ≡ found → ((rank : ℕ) × (found ≡ PeerMemory rank)) ⊎ (((rank : ℕ) × (found ≡ BothMemories rank)) ⊎ ((rank : ℕ) × (found ≡ PeerPosts rank)))
-    → (rank : ℕ) × (footprint_peer reach ≡ Some rank) × (footprint_group reach ≡ None)
-between-reaches reach found same (inl is) = (is.0, ap footprint_peer (same ∙ is.1), ap footprint_group (same ∙ is.1))
-between-reaches reach found same (inr (inl is)) = (is.0, ap footprint_peer (same ∙ is.1), ap footprint_group (same ∙ is.1))
-between-reaches reach found same (inr (inr is)) = (is.0, ap footprint_peer (same ∙ is.1), ap footprint_group (same ∙ is.1))
+pub between-reaches : (footprint found : Footprint) → footprint ≡ found → ((rank : ℕ) × (found ≡ PeerMemory rank)) ⊎ (((rank : ℕ) × (found ≡ BothMemories rank)) ⊎ ((rank : ℕ) × (found ≡ PeerPosts rank)))
+    → (rank : ℕ) × (footprint_peer footprint ≡ Some rank) × (footprint_group footprint ≡ None)
+between-reaches footprint found same (inl is) = (is.0, ap footprint_peer (same ∙ is.1), ap footprint_group (same ∙ is.1))
+between-reaches footprint found same (inr (inl is)) = (is.0, ap footprint_peer (same ∙ is.1), ap footprint_group (same ∙ is.1))
+between-reaches footprint found same (inr (inr is)) = (is.0, ap footprint_peer (same ∙ is.1), ap footprint_group (same ∙ is.1))
 
-pub group-reaches : (reach found : Footprint) → reach ≡ found → ((id : ℕ) × (found ≡ Group id)) ⊎ ((id : ℕ) × (found ≡ GroupAndMemory id))
-    → (id : ℕ) × (footprint_peer reach ≡ None) × (footprint_group reach ≡ Some id)
-group-reaches reach found same (inl is) = (is.0, ap footprint_peer (same ∙ is.1), ap footprint_group (same ∙ is.1))
-group-reaches reach found same (inr is) = (is.0, ap footprint_peer (same ∙ is.1), ap footprint_group (same ∙ is.1))
+pub group-reaches : (footprint found : Footprint) → footprint ≡ found → ((id : ℕ) × (found ≡ Group id)) ⊎ ((id : ℕ) × (found ≡ GroupAndMemory id))
+    → (id : ℕ) × (footprint_peer footprint ≡ None) × (footprint_group footprint ≡ Some id)
+group-reaches footprint found same (inl is) = (is.0, ap footprint_peer (same ∙ is.1), ap footprint_group (same ∙ is.1))
+group-reaches footprint found same (inr is) = (is.0, ap footprint_peer (same ∙ is.1), ap footprint_group (same ∙ is.1))

@@ -133,10 +133,10 @@ event-owner t o = go t.put refl
 
 event-frame : (s after : State) (e : Event) (posts : Posts) (origin : ℕ) (r : Footprint) (shard : Shard) → owner_of e ≡ origin → slice_get s.posts origin ≡ Some posts → event_footprint s.limits posts e ≡ r
     → step s e ≡ Ok after → is_shard (footprint_shards origin r) shard ≡ false → AgreeOnShard after s shard
-event-frame s after e posts origin r shard owner there reach h out =
+event-frame s after e posts origin r shard owner there footprint h out =
     let at : slice_get s.posts (owner_of e) ≡ Some posts = ap (λ (n : ℕ). slice_get s.posts n) owner ∙ there in
     let same : is_shard (footprint_shards (owner_of e) (event_footprint s.limits posts e)) shard ≡ false =
-    ap (λ (n : ℕ). is_shard (footprint_shards n (event_footprint s.limits posts e)) shard) owner ∙ ap (λ (x : Footprint). is_shard (footprint_shards origin x) shard) reach ∙ out in
+    ap (λ (n : ℕ). is_shard (footprint_shards n (event_footprint s.limits posts e)) shard) owner ∙ ap (λ (x : Footprint). is_shard (footprint_shards origin x) shard) footprint ∙ out in
     frame s after e shard h (rw at same)
 
 -- A transfer reaches no group.
@@ -169,17 +169,17 @@ transfer-ungrouped ranks t kind = go t.put refl kind
 
 -- The transfer of the first rank of two.
 module _ (law : FrontFootprints) (s : State) (me other place : ℕ) (own peer : Node) (group : GroupNode) (t : Transfer) (r : Footprint) (parts : ArePartsOf s me other own peer group place) (front : IsFront own.posts t)
-    (reach : (e : Entry) → front_entry own.posts t ≡ Some e → r ≡ transfer_footprint 2 t e.kind) where
+    (footprint : (e : Entry) → front_entry own.posts t ≡ Some e → r ≡ transfer_footprint 2 t e.kind) where
   origin-is : t.origin ≡ me
   origin-is = front.mine ∙ parts.own_node.posts.me
 
   footprint-is : (o : Outcome) → event_footprint s.limits own.posts.posts (event_of t o) ≡ r
   footprint-is o =
       let there : IsPostsOf s own.posts.me own.posts = subst (λ (n : ℕ). IsPostsOf s n own.posts) (sym parts.own_node.posts.me) parts.own_node.posts in
-      law s own.posts t front.entry o parts.sound there front front.next ∙ ap (λ (n : ℕ). transfer_footprint n t front.entry.kind) parts.two ∙ sym (reach front.entry front.next)
+      law s own.posts t front.entry o parts.sound there front front.next ∙ ap (λ (n : ℕ). transfer_footprint n t front.entry.kind) parts.two ∙ sym (footprint front.entry front.next)
 
   ungrouped : footprint_group r ≡ None
-  ungrouped = ap footprint_group (reach front.entry front.next) ∙ transfer-ungrouped 2 t front.entry.kind
+  ungrouped = ap footprint_group (footprint front.entry front.next) ∙ transfer-ungrouped 2 t front.entry.kind
 
   pub no-group : (id : ℕ) → footprint_group r ≡ Some id → ⊥
   no-group id is = (let none = ungrouped in let no : ⊥ = cc in no)
@@ -200,8 +200,8 @@ module _ (law : FrontFootprints) (s : State) (me other place : ℕ) (own peer : 
 
   peer-of : (rank : ℕ) → footprint_peer r ≡ Some rank → footprint_peer r ≡ Some other
   peer-of rank is =
-      let touch : DeclaredFootprint = if t.put then put_footprint t.target front.entry.kind else take_footprint t.target front.entry.kind in
-      let there = peer-there 2 t.origin touch rank (sym (ap footprint_peer (reach front.entry front.next)) ∙ is) in
+      let declaration : DeclaredFootprint = if t.put then put_footprint t.target front.entry.kind else take_footprint t.target front.entry.kind in
+      let there = peer-there 2 t.origin declaration rank (sym (ap footprint_peer (footprint front.entry front.next)) ∙ is) in
       is ∙ ap (λ (n : ℕ). Some n) (parts.others rank there.1 (ap (λ (n : ℕ). rank == n) (sym origin-is) ∙ there.0))
 
   pub move-between : (rank : ℕ) → footprint_peer r ≡ Some rank → AreLentToMove s t own (Some peer) None

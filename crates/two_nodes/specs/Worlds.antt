@@ -39,7 +39,7 @@ IsWorldOf s d = ArePartsOf s 0 1 d.first d.second d.group d.places
 abbrev pub reaches_group_0 : DeclaredFootprint → Bool
 reaches_group_0 (GroupOf id) = (id == 0) || nat_le 8 id
 reaches_group_0 (GroupAndMemory id) = (id == 0) || nat_le 8 id
-reaches_group_0 touch = true
+reaches_group_0 declaration = true
 
 abbrev pub is_driven : Call → Bool
 is_driven call = reaches_group_0 (row_of call).footprint

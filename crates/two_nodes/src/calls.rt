@@ -25,7 +25,11 @@ pub(crate) fn call_of(
     ensures { (s : State) (other : ℕ) → ArePartsOf s invocation.now.caller.rank other own.old peer.old group.old places.old → is_declared s invocation.now.caller.rank invocation.now.caller.thread ≡ true
         → HasCalled s invocation.now.caller invocation.now.call.now result other places.old places.new own.old own.new peer.old peer.new group.new }
 {
-    match invocation.row.footprint.reach(2, invocation.caller.rank) {
+    match invocation
+        .row
+        .footprint
+        .footprint(2, invocation.caller.rank)
+    {
         Footprint::Alone | Footprint::OwnMemory => look_alone(own, alloc, places, invocation),
         Footprint::PeerMemory(_) | Footprint::BothMemories(_) | Footprint::PeerPosts(_) => {
             look_between(own, peer, alloc, places, invocation)

@@ -31,17 +31,17 @@ fn first_front(own: &Node) -> Option<Transfer>
 }
 
 /// What a transfer reaches that is the front of its lane, in a world of two ranks.
-fn front_reach(own: &Node, transfer: &Transfer) -> Footprint
+fn front_footprint(own: &Node, transfer: &Transfer) -> Footprint
     requires { IsFront own.now.posts transfer.now }
     ensures { IfSome (front_entry own.now.posts transfer.now) (λ (e : Entry). result ≡ transfer_footprint 2 transfer.now e.kind) }
 {
     let kind = own.kind(transfer);
-    let touch = if transfer.put {
-        kind.put_touch(transfer.target)
+    let declaration = if transfer.put {
+        kind.put_footprint(transfer.target)
     } else {
-        kind.take_touch(transfer.target)
+        kind.take_footprint(transfer.target)
     };
-    touch.reach(2, transfer.origin)
+    declaration.footprint(2, transfer.origin)
 }
 
 /// The next transfer of the first rank of two, if it has one.
@@ -58,8 +58,8 @@ pub(crate) fn transfer_of(
         return false;
     };
     front_footprints();
-    let reach = front_reach(own, &transfer);
-    match reach {
+    let footprint = front_footprint(own, &transfer);
+    match footprint {
         Footprint::PeerMemory(_) | Footprint::BothMemories(_) | Footprint::PeerPosts(_) => {
             transfer_between(own, peer, places, transfer);
         }

@@ -69,9 +69,9 @@ pub own-on_memory : (s t : State) (c : CallerId) (call : Call) (reply : Reply) �
 own-on_memory s t c call reply plain own awake sound h =
     let made = sound-called s t c call reply plain sound h in
     let m = made.3 in
-    let worked : memory_rank s.limits c.rank call ≡ c.rank = ap (λ (touch : DeclaredFootprint). memory_place (footprint_of s.limits.ranks c.rank touch) c.rank) own in
+    let worked : memory_rank s.limits c.rank call ≡ c.rank = ap (λ (declaration : DeclaredFootprint). memory_place (footprint_of s.limits.ranks c.rank declaration) c.rank) own in
     let same : registering s.limits.ranks c.rank made.0 call reply (slice_set s.posts c.rank made.2.posts) ≡ slice_set s.posts c.rank made.2.posts =
-    ap (λ (touch : DeclaredFootprint). registered_at (footprint_of s.limits.ranks c.rank touch) c.rank made.0 call reply (slice_set s.posts c.rank made.2.posts)) own in (
+    ap (λ (declaration : DeclaredFootprint). registered_at (footprint_of s.limits.ranks c.rank declaration) c.rank made.0 call reply (slice_set s.posts c.rank made.2.posts)) own in (
       made.0,
       made.1,
       record {

@@ -53,7 +53,7 @@ posts-on_memory s t c call reply plain alone awake unmoved sound h =
     let m = made.3 in
     let place = memory_rank s.limits c.rank call in
     let same : registering s.limits.ranks c.rank made.0 call reply (slice_set s.posts c.rank made.2.posts) ≡ slice_set s.posts c.rank made.2.posts =
-    ap (λ (touch : DeclaredFootprint). registered_at (footprint_of s.limits.ranks c.rank touch) c.rank made.0 call reply (slice_set s.posts c.rank made.2.posts)) alone in
+    ap (λ (declaration : DeclaredFootprint). registered_at (footprint_of s.limits.ranks c.rank declaration) c.rank made.0 call reply (slice_set s.posts c.rank made.2.posts)) alone in
     let left : memory_after s.limits made.0 (call_message s c.rank call) made.1 call reply ≡ made.1 = rw awake (unmoved made.0 (call_message s c.rank call) made.1) in
     let kept : made.2.memory ≡ made.1 = ap (λ (w : PostsAndMemory). w.memory) m.is.leaves ∙ left in
     let memories : slice_set s.memories place made.2.memory ≡ s.memories = ap (slice_set s.memories place) kept ∙ set-there s.memories place made.1 m.memory_there in (

@@ -167,9 +167,9 @@ word-written : (s t : State) (c : CallerId) (call : Call) (seg offset rank old n
     → memory' ≡ with_bytes memory seg (with_range (bytes_of memory seg) offset (little_bytes 8 new)) → IsWritten s t c.rank rank seg offset (little_bytes 8 new)
 word-written s t c call seg offset rank old new posts memory memory' sound m touches_rank found leaves =
     let worked : memory_rank s.limits c.rank call ≡ rank =
-    ap (λ (touch : DeclaredFootprint). memory_place (footprint_of s.limits.ranks c.rank touch) c.rank) touches_rank ∙ on_memory-there s.limits.ranks rank c.rank found.ranked in
+    ap (λ (declaration : DeclaredFootprint). memory_place (footprint_of s.limits.ranks c.rank declaration) c.rank) touches_rank ∙ on_memory-there s.limits.ranks rank c.rank found.ranked in
     let same : (all : List Posts) → registering s.limits.ranks c.rank posts call (replies.Value old) all ≡ all = (λ all.
-    ap (λ (touch : DeclaredFootprint). registered_at (footprint_of s.limits.ranks c.rank touch) c.rank posts call (replies.Value old) all) touches_rank
+    ap (λ (declaration : DeclaredFootprint). registered_at (footprint_of s.limits.ranks c.rank declaration) c.rank posts call (replies.Value old) all) touches_rank
     ∙ tells-none s.limits.ranks rank c.rank posts call (replies.Value old) all) in
     let less = ltb-true rank s.limits.ranks found.ranked in
     let there = there-in-generation memory.segments seg found.theirs.generation found.there in
@@ -185,7 +185,7 @@ word-answered : (s t : State) (c : CallerId) (call : Call) (reply : Reply) (seg 
     → IsAnswered s rank seg (λ x. word_at x.bytes offset ≡ old)
 word-answered s t c call reply seg offset rank old posts memory after m touches_rank found =
     let worked : memory_rank s.limits c.rank call ≡ rank =
-    ap (λ (touch : DeclaredFootprint). memory_place (footprint_of s.limits.ranks c.rank touch) c.rank) touches_rank ∙ on_memory-there s.limits.ranks rank c.rank found.ranked in
+    ap (λ (declaration : DeclaredFootprint). memory_place (footprint_of s.limits.ranks c.rank declaration) c.rank) touches_rank ∙ on_memory-there s.limits.ranks rank c.rank found.ranked in
     let there = there-in-generation memory.segments seg found.theirs.generation found.there in
     record {
       memory = memory;
@@ -247,15 +247,15 @@ swap-kept s t c call old apart h =
     let there = there-in-generation memory.segments call.seg found.theirs.generation found.there in
     let kept : made.2.memory ≡ memory = rw m.is.leaves (rw (differs (word_at (bytes_of memory call.seg) call.offset) found.value) (same-memory memory there.0 there.1)) in
     let after : made.2.posts ≡ counted posts = rw m.is.leaves refl in
-    let reach = call-footprint s.limits.ranks c.rank (CompareSwap call) in
+    let footprint = call-footprint s.limits.ranks c.rank (CompareSwap call) in
     record {
       posts = posts;
       there = m.posts_there;
       after = m.leaves
-          ∙ ap (λ (x : List Posts). record s { posts = x; memories = memories_at reach c.rank made.2.memory s.memories })
+          ∙ ap (λ (x : List Posts). record s { posts = x; memories = memories_at footprint c.rank made.2.memory s.memories })
           (tells-none s.limits.ranks call.rank c.rank posts (CompareSwap call) (replies.Value old) (slice_set s.posts c.rank made.2.posts) ∙ ap (slice_set s.posts c.rank) after)
           ∙ ap (λ (x : List Memory). record s { posts = slice_set s.posts c.rank (counted posts); memories = x })
-          (ap (λ (m' : Memory). memories_at reach c.rank m' s.memories) (kept ∙ m.worked) ∙ memories-same reach c.rank s.memories);
+          (ap (λ (m' : Memory). memories_at footprint c.rank m' s.memories) (kept ∙ m.worked) ∙ memories-same footprint c.rank s.memories);
     }
   where
     differs : (n : ℕ) → n ≡ old → (n == call.comparator) ≡ false

@@ -155,11 +155,11 @@ called-step : (s : State) (rank thread : ℕ) (call : Call) (posts : Posts) (pen
 called-step s rank thread call posts pending plain hp running room =
     let memory = call_memory s rank posts call in
     let reply = recorded_reply (answer s.limits rank posts memory thread call) in
-    let reach = footprint_of s.limits.ranks rank (row_of call).footprint in
-    let parts = parts_of s posts (part_numbers rank reach) in
-    let leave = λ (after : PostsAndMemory). (let left : Parts = record (with_accessed_memory reach parts after.memory) { posts = after.posts; peer_posts = option_map (peer_after rank posts call reply) parts.peer_posts } in left) in
+    let footprint = footprint_of s.limits.ranks rank (row_of call).footprint in
+    let parts = parts_of s posts (part_numbers rank footprint) in
+    let leave = λ (after : PostsAndMemory). (let left : Parts = record (with_accessed_memory footprint parts after.memory) { posts = after.posts; peer_posts = option_map (peer_after rank posts call reply) parts.peer_posts } in left) in
     let recorded = called-enabled s.limits rank posts (call_message s rank call) memory thread call pending plain running room in
-    rw (hp, plain) (ok-then (called s.limits rank posts (call_message s rank call) memory thread call reply >>= λ after. Ok (leave after)) (with_parts s rank (part_numbers rank reach))
+    rw (hp, plain) (ok-then (called s.limits rank posts (call_message s rank call) memory thread call reply >>= λ after. Ok (leave after)) (with_parts s rank (part_numbers rank footprint))
     (ok-then (called s.limits rank posts (call_message s rank call) memory thread call reply) leave recorded))
 
 -- a collective with the reply that it has
@@ -167,8 +167,8 @@ completed-step : (s : State) (rank thread id : ℕ) (call : Call) (posts : Posts
     → posts.events + owed posts + 1 ≤ s.limits.events → collective_answer posts (group_in s id) rank thread id call ≡ found → is_joining found ≡ false
     → IsOk (step s (Called (record { rank = rank; thread = thread }) call (recorded_reply found)))
 completed-step s rank thread id call posts found named hp running room is answered =
-    let reach = footprint_of s.limits.ranks rank (row_of call).footprint in
-    let parts = parts_of s posts (part_numbers rank reach) in
+    let footprint = footprint_of s.limits.ranks rank (row_of call).footprint in
+    let parts = parts_of s posts (part_numbers rank footprint) in
     let group = group-on_memory s posts rank id (row_of call).footprint (collective-footprint call id named) in
     let there = running-there (thread_at posts thread) running in
     let fits = le-leb (posts.events + owed posts + 1) s.limits.events room in
@@ -176,7 +176,7 @@ completed-step s rank thread id call posts found named hp running room is answer
     ap (λ (g : Group). is_reply_of (collective_answer posts g rank thread id call) (recorded_reply found)) group ∙ ap (λ (r : Ready). is_reply_of r (recorded_reply found)) is ∙ itself found answered in
     let done : IsOk (completed s.limits rank posts (group_or_none parts.group) thread id call (recorded_reply found)) = rw (there, answers, fits) refl in
     let leave = λ (after : PostsAndGroup). (let left : Parts = record parts { posts = after.posts; group = Some after.group } in left) in
-    rw (hp, named) (ok-then (completed s.limits rank posts (group_or_none parts.group) thread id call (recorded_reply found) >>= λ after. Ok (leave after)) (with_parts s rank (part_numbers rank reach))
+    rw (hp, named) (ok-then (completed s.limits rank posts (group_or_none parts.group) thread id call (recorded_reply found) >>= λ after. Ok (leave after)) (with_parts s rank (part_numbers rank footprint))
     (ok-then (completed s.limits rank posts (group_or_none parts.group) thread id call (recorded_reply found)) leave done))
   where
     itself : (r : Ready) → is_joining r ≡ false → is_reply_of r (recorded_reply r) ≡ true
@@ -339,16 +339,16 @@ transfer-is_step s t k sound at =
         → is_none q.broken ≡ true → may_take s.limits.depth lane e ≡ true → IsOk (step s (Take t.origin t.queue t.target t.number (take_outcome memory e.kind)))
     take-step posts q lane place e memory hp hm ranked found hf whole permitted =
         let outcome = take_outcome memory e.kind in
-        let reach = event_footprint s.limits posts (Take t.origin t.queue t.target t.number outcome) in
-        let parts = parts_of s posts (part_numbers t.origin reach) in
+        let footprint = event_footprint s.limits posts (Take t.origin t.queue t.target t.number outcome) in
+        let parts = parts_of s posts (part_numbers t.origin footprint) in
         let worked = memory_at (take-footprint s.limits.ranks t.origin t.target e.kind) t.origin s.memories in
         let leave = λ (after : Posts). (let left : Parts = record parts { posts = after } in left) in
         let fits : same_outcome outcome (take_outcome worked e.kind) ≡ true = rw (take-outcome s t.origin t.target memory e.kind hm ranked) (same_outcome-refl outcome) in
         let takes : IsOk (take s.limits posts worked t.queue t.target t.number outcome) = rw (hf, whole, permitted, fits) refl in
-        let done : IsOk (take s.limits posts (accessed_memory reach parts) t.queue t.target t.number outcome) =
+        let done : IsOk (take s.limits posts (accessed_memory footprint parts) t.queue t.target t.number outcome) =
         subst (λ (m : Memory). IsOk (take s.limits posts m t.queue t.target t.number outcome)) (sym (take-on_memory s posts t.origin t.queue t.target t.number outcome e found)) takes in
-        rw hp (ok-then (take s.limits posts (accessed_memory reach parts) t.queue t.target t.number outcome >>= λ after. Ok (leave after)) (with_parts s t.origin (part_numbers t.origin reach))
-        (ok-then (take s.limits posts (accessed_memory reach parts) t.queue t.target t.number outcome) leave done))
+        rw hp (ok-then (take s.limits posts (accessed_memory footprint parts) t.queue t.target t.number outcome >>= λ after. Ok (leave after)) (with_parts s t.origin (part_numbers t.origin footprint))
+        (ok-then (take s.limits posts (accessed_memory footprint parts) t.queue t.target t.number outcome) leave done))
 
     put-step : (posts : Posts) (q : Queue) (lane : List Entry) (place : ℕ) (e : Entry) (memory : Memory) → slice_get s.posts t.origin ≡ Some posts → slice_get s.memories t.target ≡ Some memory
         → t.target < s.limits.ranks → entry_in posts t.queue t.target t.number ≡ Some e
@@ -356,16 +356,16 @@ transfer-is_step s t k sound at =
         → is_none q.broken ≡ true → may_put lane e ≡ true → IsOk (step s (Put t.origin t.queue t.target t.number (put_outcome memory e.kind)))
     put-step posts q lane place e memory hp hm ranked found hf whole permitted =
         let outcome = put_outcome memory e.kind in
-        let reach = event_footprint s.limits posts (Put t.origin t.queue t.target t.number outcome) in
-        let parts = parts_of s posts (part_numbers t.origin reach) in
+        let footprint = event_footprint s.limits posts (Put t.origin t.queue t.target t.number outcome) in
+        let parts = parts_of s posts (part_numbers t.origin footprint) in
         let worked = memory_at (put-footprint s.limits.ranks t.origin t.target e.kind) t.origin s.memories in
-        let leave = λ (after : PostsAndMemory). (let left : Parts = record (with_accessed_memory reach parts after.memory) { posts = after.posts } in left) in
+        let leave = λ (after : PostsAndMemory). (let left : Parts = record (with_accessed_memory footprint parts after.memory) { posts = after.posts } in left) in
         let fits : same_outcome outcome (put_outcome worked e.kind) ≡ true = rw (put-outcome s t.origin t.target memory e.kind hm ranked) (same_outcome-refl outcome) in
         let puts : IsOk (put posts worked t.queue t.target t.number outcome) = rw (hf, whole, permitted, fits) refl in
-        let done : IsOk (put posts (accessed_memory reach parts) t.queue t.target t.number outcome) =
+        let done : IsOk (put posts (accessed_memory footprint parts) t.queue t.target t.number outcome) =
         subst (λ (m : Memory). IsOk (put posts m t.queue t.target t.number outcome)) (sym (put-on_memory s posts t.origin t.queue t.target t.number outcome e found)) puts in
-        rw hp (ok-then (put posts (accessed_memory reach parts) t.queue t.target t.number outcome >>= λ after. Ok (leave after)) (with_parts s t.origin (part_numbers t.origin reach))
-        (ok-then (put posts (accessed_memory reach parts) t.queue t.target t.number outcome) leave done))
+        rw hp (ok-then (put posts (accessed_memory footprint parts) t.queue t.target t.number outcome >>= λ after. Ok (leave after)) (with_parts s t.origin (part_numbers t.origin footprint))
+        (ok-then (put posts (accessed_memory footprint parts) t.queue t.target t.number outcome) leave done))
 
     by-kind : (posts : Posts) (q : Queue) (lane : List Entry) (place : ℕ) (e : Entry) (target : Memory) → slice_get s.posts t.origin ≡ Some posts
         → slice_get s.memories t.target ≡ Some target → t.target < s.limits.ranks → entry_in posts t.queue t.target t.number ≡ Some e

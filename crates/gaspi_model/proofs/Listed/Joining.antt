@@ -93,8 +93,8 @@ join-is_step s rank thread id call args sound active room named is =
   where
     with-posts : (posts : Posts) → slice_get s.posts rank ≡ Some posts → is_running (thread_at posts thread) ≡ true → IsOk (step s (Joined (record { rank = rank; thread = thread }) id args))
     with-posts posts hp running =
-        let reach = footprint_of s.limits.ranks rank (join_footprint id args.coll) in
-        let parts = parts_of s posts (part_numbers rank reach) in
+        let footprint = footprint_of s.limits.ranks rank (join_footprint id args.coll) in
+        let parts = parts_of s posts (part_numbers rank footprint) in
         let group = group-on_memory s posts rank id (join_footprint id args.coll) (join-footprint id args.coll) in
         let one = needs-one call id (is_pending s rank thread call) named in
         let taken : used_room s rank ≡ posts.events + owed posts = rw hp refl in
@@ -106,8 +106,8 @@ join-is_step s rank thread id call args sound active room named is =
         ap (λ (g : Group). is_join_of (collective_answer posts g rank thread id (joining_call id args)) args) group
         ∙ ap (λ (x : Call). is_join_of (collective_answer posts (group_in s id) rank thread id x) args) itself ∙ ap (λ (r : Ready). is_join_of r args) answer ∙ same_args-refl args in
         let done : IsOk (joined s.limits rank posts (group_or_none parts.group) thread id args) = rw (there, joins, fits) refl in
-        let leave = λ (after : PostsAndGroup). (let left : Parts = record (with_accessed_memory reach parts (made_memory s.limits posts (accessed_memory reach parts) args.coll)) { posts = after.posts; group = Some after.group } in left) in
-        rw hp (ok-then (joined s.limits rank posts (group_or_none parts.group) thread id args >>= λ after. Ok (leave after)) (with_parts s rank (part_numbers rank reach))
+        let leave = λ (after : PostsAndGroup). (let left : Parts = record (with_accessed_memory footprint parts (made_memory s.limits posts (accessed_memory footprint parts) args.coll)) { posts = after.posts; group = Some after.group } in left) in
+        rw hp (ok-then (joined s.limits rank posts (group_or_none parts.group) thread id args >>= λ after. Ok (leave after)) (with_parts s rank (part_numbers rank footprint))
         (ok-then (joined s.limits rank posts (group_or_none parts.group) thread id args) leave done))
 
 -- A collective that has joined is pending for its caller, and its rank has taken room for one event more.

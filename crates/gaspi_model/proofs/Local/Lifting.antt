@@ -36,7 +36,7 @@ second-is-shard a b = go (same_shard a b) refl
     go true is = rw is refl
     go false is = rw (is, same-shard b) refl
 
-pub owner-is-shard : (me : ℕ) (reach : Footprint) → is_shard (footprint_shards me reach) (shards.Posts me) ≡ true
+pub owner-is-shard : (me : ℕ) (footprint : Footprint) → is_shard (footprint_shards me footprint) (shards.Posts me) ≡ true
 owner-is-shard me Alone = first-is-shard (shards.Posts me) []
 owner-is-shard me OwnMemory = first-is-shard (shards.Posts me) (shards.Memory me ∷ [])
 owner-is-shard me (PeerMemory rank) = first-is-shard (shards.Posts me) (shards.Memory rank ∷ [])
@@ -68,8 +68,8 @@ part-elsewhere : {A : Type 0} (table : List A) (place k : ℕ) (part : Option A)
 part-elsewhere table place k None other = refl
 part-elsewhere table place k (Some x) other = slice_get-set_other table place k x (apart place k other)
 
-frame-parts : (s : State) (me : ℕ) (reach : Footprint) (parts : Parts) (shard : Shard) → is_shard (footprint_shards me reach) shard ≡ false
-    → AgreeOnShard (with_parts s me (part_numbers me reach) parts) s shard
+frame-parts : (s : State) (me : ℕ) (footprint : Footprint) (parts : Parts) (shard : Shard) → is_shard (footprint_shards me footprint) shard ≡ false
+    → AgreeOnShard (with_parts s me (part_numbers me footprint) parts) s shard
 frame-parts s me Alone parts (shards.Posts k) out = slice_get-set_other s.posts me k parts.posts (apart me k (neither (me == k) false out).0)
 frame-parts s me Alone parts (shards.Memory k) out = refl
 frame-parts s me OwnMemory parts (shards.Posts k) out = slice_get-set_other s.posts me k parts.posts (apart me k (neither (me == k) false out).0)
@@ -98,14 +98,14 @@ frame-parts s me (PeerMemory rank) parts (shards.Group k) out = refl
 frame-parts s me (BothMemories rank) parts (shards.Group k) out = refl
 frame-parts s me (PeerPosts rank) parts (shards.Group k) out = refl
 
-pub lifted-frame : (s t : State) (me : ℕ) (missing : Why) (reach : Posts → Footprint) (local : Parts → Result Parts Why) (posts : Posts) (shard : Shard)
-    → lifted s me missing (λ x. part_numbers me (reach x)) local ≡ Ok t → slice_get s.posts me ≡ Some posts → is_shard (footprint_shards me (reach posts)) shard ≡ false → AgreeOnShard t s shard
-lifted-frame s t me missing reach local posts shard h at out =
+pub lifted-frame : (s t : State) (me : ℕ) (missing : Why) (footprint : Posts → Footprint) (local : Parts → Result Parts Why) (posts : Posts) (shard : Shard)
+    → lifted s me missing (λ x. part_numbers me (footprint x)) local ≡ Ok t → slice_get s.posts me ≡ Some posts → is_shard (footprint_shards me (footprint posts)) shard ≡ false → AgreeOnShard t s shard
+lifted-frame s t me missing footprint local posts shard h at out =
     found_then (slice_get s.posts me) missing _ t h (λ p hp h1.
-    bind_then (local (parts_of s p (part_numbers me (reach p)))) _ t h1 (λ parts hl h2.
+    bind_then (local (parts_of s p (part_numbers me (footprint p)))) _ t h1 (λ parts hl h2.
     let same : posts ≡ p = (let some : ◌≡◌ {A = Option Posts} (Some posts) (Some p) = sym at ∙ hp in cc) in
     subst (λ (x : State). AgreeOnShard x s shard) (same_Ok _ _ h2)
-    (frame-parts s me (reach p) parts shard (subst (λ (x : Posts). is_shard (footprint_shards me (reach x)) shard ≡ false) same out))))
+    (frame-parts s me (footprint p) parts shard (subst (λ (x : Posts). is_shard (footprint_shards me (footprint x)) shard ≡ false) same out))))
 
 -- Determinism.
 
@@ -133,8 +133,8 @@ part-agree table table' place k None same here = here
 part-agree table table' place k (Some x) same here = set-agree table table' place k x same here
 
 -- the parts of a reach are the same
-same-parts : (s s' : State) (me : ℕ) (reach : Footprint) (posts : Posts) → AgreeOn (is_shard (footprint_shards me reach)) s s'
-    → parts_of s posts (part_numbers me reach) ≡ parts_of s' posts (part_numbers me reach)
+same-parts : (s s' : State) (me : ℕ) (footprint : Footprint) (posts : Posts) → AgreeOn (is_shard (footprint_shards me footprint)) s s'
+    → parts_of s posts (part_numbers me footprint) ≡ parts_of s' posts (part_numbers me footprint)
 same-parts s s' me Alone posts agree = refl
 same-parts s s' me OwnMemory posts agree =
     ap (λ (m : Option Memory). let x : Parts = record { posts = posts; memory = m; peer_posts = None; peer_memory = None; group = None } in x)
@@ -160,8 +160,8 @@ same-parts s s' me (GroupAndMemory id) posts agree =
     (agree.parts (shards.Group id) (third-is-shard (shards.Posts me) (shards.Memory me) (shards.Group id)))
 
 -- what was the same stays the same
-same-after : (s s' : State) (me : ℕ) (reach : Footprint) (parts : Parts) → AgreeOn (is_shard (footprint_shards me reach)) s s' → (shard : Shard) → AgreeOnShard s s' shard
-    → AgreeOnShard (with_parts s me (part_numbers me reach) parts) (with_parts s' me (part_numbers me reach) parts) shard
+same-after : (s s' : State) (me : ℕ) (footprint : Footprint) (parts : Parts) → AgreeOn (is_shard (footprint_shards me footprint)) s s' → (shard : Shard) → AgreeOnShard s s' shard
+    → AgreeOnShard (with_parts s me (part_numbers me footprint) parts) (with_parts s' me (part_numbers me footprint) parts) shard
 same-after s s' me Alone parts agree (shards.Posts k) here = set-agree s.posts s'.posts me k parts.posts (agree.parts (shards.Posts me) (owner-is-shard me Alone)) here
 same-after s s' me Alone parts agree (shards.Memory k) here = here
 same-after s s' me OwnMemory parts agree (shards.Posts k) here = set-agree s.posts s'.posts me k parts.posts (agree.parts (shards.Posts me) (owner-is-shard me OwnMemory)) here
@@ -197,21 +197,21 @@ same-after s s' me (PeerMemory rank) parts agree (shards.Group k) here = here
 same-after s s' me (BothMemories rank) parts agree (shards.Group k) here = here
 same-after s s' me (PeerPosts rank) parts agree (shards.Group k) here = here
 
-pub lifted-determined : (s s' : State) (me : ℕ) (missing : Why) (reach : Posts → Footprint) (local : Parts → Result Parts Why) → s.limits ≡ s'.limits
+pub lifted-determined : (s s' : State) (me : ℕ) (missing : Why) (footprint : Posts → Footprint) (local : Parts → Result Parts Why) → s.limits ≡ s'.limits
     → slice_get s.posts me ≡ slice_get s'.posts me
-    → ((posts : Posts) → slice_get s.posts me ≡ Some posts → AgreeOn (is_shard (footprint_shards me (reach posts))) s s')
-    → HaveSameResult s s' (lifted s me missing (λ x. part_numbers me (reach x)) local) (lifted s' me missing (λ x. part_numbers me (reach x)) local)
-lifted-determined s s' me missing reach local limits same agree = with-posts (slice_get s.posts me) refl
+    → ((posts : Posts) → slice_get s.posts me ≡ Some posts → AgreeOn (is_shard (footprint_shards me (footprint posts))) s s')
+    → HaveSameResult s s' (lifted s me missing (λ x. part_numbers me (footprint x)) local) (lifted s' me missing (λ x. part_numbers me (footprint x)) local)
+lifted-determined s s' me missing footprint local limits same agree = with-posts (slice_get s.posts me) refl
   where
-    with-result : (posts : Posts) → slice_get s.posts me ≡ Some posts → (r : Result Parts Why) → local (parts_of s posts (part_numbers me (reach posts))) ≡ r
-        → HaveSameResult s s' (lifted s me missing (λ x. part_numbers me (reach x)) local) (lifted s' me missing (λ x. part_numbers me (reach x)) local)
+    with-result : (posts : Posts) → slice_get s.posts me ≡ Some posts → (r : Result Parts Why) → local (parts_of s posts (part_numbers me (footprint posts))) ≡ r
+        → HaveSameResult s s' (lifted s me missing (λ x. part_numbers me (footprint x)) local) (lifted s' me missing (λ x. part_numbers me (footprint x)) local)
     with-result posts at (Ok parts) is =
-        let is' : local (parts_of s' posts (part_numbers me (reach posts))) ≡ Ok parts = ap local (sym (same-parts s s' me (reach posts) posts (agree posts at))) ∙ is in
-        rw (at, sym same ∙ at, is, is') (limits, same-after s s' me (reach posts) parts (agree posts at))
+        let is' : local (parts_of s' posts (part_numbers me (footprint posts))) ≡ Ok parts = ap local (sym (same-parts s s' me (footprint posts) posts (agree posts at))) ∙ is in
+        rw (at, sym same ∙ at, is, is') (limits, same-after s s' me (footprint posts) parts (agree posts at))
     with-result posts at (Err why) is =
-        let is' : local (parts_of s' posts (part_numbers me (reach posts))) ≡ Err why = ap local (sym (same-parts s s' me (reach posts) posts (agree posts at))) ∙ is in
+        let is' : local (parts_of s' posts (part_numbers me (footprint posts))) ≡ Err why = ap local (sym (same-parts s s' me (footprint posts) posts (agree posts at))) ∙ is in
         rw (at, sym same ∙ at, is, is') refl
 
-    with-posts : (o : Option Posts) → slice_get s.posts me ≡ o → HaveSameResult s s' (lifted s me missing (λ x. part_numbers me (reach x)) local) (lifted s' me missing (λ x. part_numbers me (reach x)) local)
+    with-posts : (o : Option Posts) → slice_get s.posts me ≡ o → HaveSameResult s s' (lifted s me missing (λ x. part_numbers me (footprint x)) local) (lifted s' me missing (λ x. part_numbers me (footprint x)) local)
     with-posts None at = rw (at, sym same ∙ at) refl
-    with-posts (Some posts) at = with-result posts at (local (parts_of s posts (part_numbers me (reach posts)))) refl
+    with-posts (Some posts) at = with-result posts at (local (parts_of s posts (part_numbers me (footprint posts)))) refl

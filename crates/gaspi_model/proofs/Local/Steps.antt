@@ -83,8 +83,8 @@ either : {P : Type 0} (b : Bool) → (b ≡ true → P) → (b ≡ false → P) 
 either true same other = same refl
 either false same other = other refl
 
-footprint-once : (me : ℕ) (reach : Footprint) → ((rank : ℕ) → reach ≡ PeerPosts rank → (rank == me) ≡ false) → ((rank : ℕ) → reach ≡ BothMemories rank → (rank == me) ≡ false)
-    → (shard : Shard) → count_by (λ x. same_shard x shard) (footprint_shards me reach) ≤ 1
+footprint-once : (me : ℕ) (footprint : Footprint) → ((rank : ℕ) → footprint ≡ PeerPosts rank → (rank == me) ≡ false) → ((rank : ℕ) → footprint ≡ BothMemories rank → (rank == me) ≡ false)
+    → (shard : Shard) → count_by (λ x. same_shard x shard) (footprint_shards me footprint) ≤ 1
 footprint-once me Alone other both (shards.Posts k) = either (me == k) (λ is. rw is (omega arith)) (λ is. rw is (omega arith))
 footprint-once me Alone other both (shards.Memory k) = omega arith
 footprint-once me OwnMemory other both (shards.Posts k) = either (me == k) (λ is. rw is (omega arith)) (λ is. rw is (omega arith))
@@ -120,9 +120,9 @@ once s e shard = go (slice_get s.posts (owner_of e)) refl
 abbrev is_both : DeclaredFootprint → Bool
 is_both (touches.BothMemories rank) = true
 is_both (touches.GroupAndMemory id) = true
-is_both touch = false
+is_both declaration = false
 
-footprint-few : (ranks me : ℕ) (touch : DeclaredFootprint) → is_both touch ≡ false → length (footprint_shards me (footprint_of ranks me touch)) ≤ 2
+footprint-few : (ranks me : ℕ) (declaration : DeclaredFootprint) → is_both declaration ≡ false → length (footprint_shards me (footprint_of ranks me declaration)) ≤ 2
 footprint-few ranks me touches.Nothing h = omega arith
 footprint-few ranks me touches.OwnMemory h = omega arith
 footprint-few ranks me (touches.MemoryOf rank) h = go (rank == me) (nat_lt rank ranks)
@@ -259,7 +259,7 @@ untouched s c call reply none = go (slice_get s.posts c.rank) refl
   where
     go : (o : Option Posts) → slice_get s.posts c.rank ≡ o → event_shards s (Called c call reply) ≡ shards.Posts c.rank ∷ []
     go None at = rw at refl
-    go (Some posts) at = rw at (ap (λ (touch : DeclaredFootprint). footprint_shards c.rank (footprint_of s.limits.ranks c.rank touch)) none)
+    go (Some posts) at = rw at (ap (λ (declaration : DeclaredFootprint). footprint_shards c.rank (footprint_of s.limits.ranks c.rank declaration)) none)
 
 pub posting-alone : (s : State) (c : CallerId) (call : Call) (reply : Reply) (to : Posting) → (row_of call).posting ≡ Some to → event_shards s (Called c call reply) ≡ shards.Posts c.rank ∷ []
 posting-alone s c call reply to posts = untouched s c call reply (posting-reaches-none call to posts)

@@ -97,15 +97,15 @@ made-inbox limits posts memory (colls.Create seg size) = refl
 made-inbox limits posts memory (colls.Commit mask) = refl
 
 -- the inboxes where the own memory, if it is touched, is replaced by one with the same inbox
-footprint-inbox : (all : List Memory) (me id : ℕ) (touch : DeclaredFootprint) (memory : Memory) (rank ranks : ℕ) → IsOnGroup touch id
-    → memory.inbox ≡ (memory_at (footprint_of ranks me touch) me all).inbox
-    → (memory_or_none (slice_get (memories_at (footprint_of ranks me touch) me memory all) rank)).inbox ≡ (memory_or_none (slice_get all rank)).inbox
-footprint-inbox all me id touch memory rank ranks (inl is) same = rw is (go (nat_lt id 8))
+footprint-inbox : (all : List Memory) (me id : ℕ) (declaration : DeclaredFootprint) (memory : Memory) (rank ranks : ℕ) → IsOnGroup declaration id
+    → memory.inbox ≡ (memory_at (footprint_of ranks me declaration) me all).inbox
+    → (memory_or_none (slice_get (memories_at (footprint_of ranks me declaration) me memory all) rank)).inbox ≡ (memory_or_none (slice_get all rank)).inbox
+footprint-inbox all me id declaration memory rank ranks (inl is) same = rw is (go (nat_lt id 8))
   where
     go : (b : Bool) → (memory_or_none (slice_get (memories_at (if b then Group id else Alone) me memory all) rank)).inbox ≡ (memory_or_none (slice_get all rank)).inbox
     go true = refl
     go false = refl
-footprint-inbox all me id touch memory rank ranks (inr is) same = rw is (go (nat_lt id 8) (subst (λ (x : DeclaredFootprint). memory.inbox ≡ (memory_at (footprint_of ranks me x) me all).inbox) is same))
+footprint-inbox all me id declaration memory rank ranks (inr is) same = rw is (go (nat_lt id 8) (subst (λ (x : DeclaredFootprint). memory.inbox ≡ (memory_at (footprint_of ranks me x) me all).inbox) is same))
   where
     there : (o : Option Memory) → slice_get all me ≡ o → memory.inbox ≡ (memory_or_none (slice_get all me)).inbox
         → (memory_or_none (slice_get (slice_set all me memory) rank)).inbox ≡ (memory_or_none (slice_get all rank)).inbox

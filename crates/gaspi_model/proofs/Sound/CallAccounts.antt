@@ -22,7 +22,7 @@ use Rattle.gaspi_types.specs.Queues.{queue_owed, with_entries}
 use Rattle.gaspi_model.specs.Posting.{with_post, counted}
 use Rattle.gaspi_types.specs.Tables.{changed_at}
 use Rattle.gaspi_model.specs.QueueCalls.{emptied, purged}
-use Rattle.gaspi_model.specs.GroupCalls.{group_create_leaves, group_add_leaves, group_delete_leaves}
+use Rattle.gaspi_model.specs.GroupCalls.{group_create_effect, group_add_effect, group_delete_effect}
 use Rattle.gaspi_model.specs.SegmentCalls.{with_own, without_own}
 use Rattle.gaspi_model.specs.PostCalls.{post_request_result}
 use Rattle.gaspi_model.specs.Calls.{posts_after, charge, answer, call_result, ready_of, recorded_reply, plain_result, plain_effect, requested_kinds}
@@ -167,9 +167,9 @@ plain-grows limits me posts memory thread (Alloc call) finds running is = at-mos
 plain-grows limits me posts memory thread (Delete call) finds running is = at-most _ _ (posts-grow (is_idle (recorded_reply (ready_of finds))) posts (without_own posts call.seg) refl refl)
 plain-grows limits me posts memory thread (Wait call) finds running is = at-most _ _ (waited-grows (is_idle (recorded_reply (ready_of finds))) posts call.queue)
 plain-grows limits me posts memory thread (Purge call) finds running is = purged-grows (is_idle (recorded_reply (ready_of finds))) posts call.queue
-plain-grows limits me posts memory thread GroupCreate finds running is = at-most _ _ (posts-grow (is_idle (recorded_reply (ready_of finds))) posts (group_create_leaves posts) refl refl)
-plain-grows limits me posts memory thread (GroupAdd call) finds running is = at-most _ _ (posts-grow (is_idle (recorded_reply (ready_of finds))) posts (group_add_leaves posts call) refl refl)
-plain-grows limits me posts memory thread (GroupDelete call) finds running is = at-most _ _ (posts-grow (is_idle (recorded_reply (ready_of finds))) posts (group_delete_leaves posts call) refl refl)
+plain-grows limits me posts memory thread GroupCreate finds running is = at-most _ _ (posts-grow (is_idle (recorded_reply (ready_of finds))) posts (group_create_effect posts) refl refl)
+plain-grows limits me posts memory thread (GroupAdd call) finds running is = at-most _ _ (posts-grow (is_idle (recorded_reply (ready_of finds))) posts (group_add_effect posts call) refl refl)
+plain-grows limits me posts memory thread (GroupDelete call) finds running is = at-most _ _ (posts-grow (is_idle (recorded_reply (ready_of finds))) posts (group_delete_effect posts call) refl refl)
 plain-grows limits me posts memory thread End finds running is =
     let ends = ended-owed posts thread running in
     rw (← is) (omega arith)

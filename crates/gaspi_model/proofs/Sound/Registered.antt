@@ -79,7 +79,7 @@ abbrev pub registering : ℕ → ℕ → Posts → Call → Reply → List Posts
 registering ranks me p call reply all = registered_at (footprint_of ranks me (row_of call).footprint) me p call reply all
 
 -- a reach of a peer's posts comes from a touch of the posts of another rank
-pub peer-touched : (ranks me rank : ℕ) (touch : DeclaredFootprint) → footprint_of ranks me touch ≡ PeerPosts rank → (touch ≡ touches.PostsOf rank) × ((rank == me) ≡ false) × (nat_lt rank ranks ≡ true)
+pub peer-touched : (ranks me rank : ℕ) (declaration : DeclaredFootprint) → footprint_of ranks me declaration ≡ PeerPosts rank → (declaration ≡ touches.PostsOf rank) × ((rank == me) ≡ false) × (nat_lt rank ranks ≡ true)
 peer-touched ranks me rank touches.Nothing h = absurd (let no : ⊥ = cc in no)
 peer-touched ranks me rank touches.OwnMemory h = absurd (let no : ⊥ = cc in no)
 peer-touched ranks me rank (touches.MemoryOf r) h = absurd (mine (r == me) (nat_lt r ranks) h)
@@ -115,7 +115,7 @@ peer-touched ranks me rank (touches.GroupAndMemory id) h = absurd (mine (nat_lt 
     mine false h = cc
 
 -- and one of both memories from a touch of those
-pub both-touched : (ranks me rank : ℕ) (touch : DeclaredFootprint) → footprint_of ranks me touch ≡ BothMemories rank → (touch ≡ touches.BothMemories rank) × ((rank == me) ≡ false) × (nat_lt rank ranks ≡ true)
+pub both-touched : (ranks me rank : ℕ) (declaration : DeclaredFootprint) → footprint_of ranks me declaration ≡ BothMemories rank → (declaration ≡ touches.BothMemories rank) × ((rank == me) ≡ false) × (nat_lt rank ranks ≡ true)
 both-touched ranks me rank touches.Nothing h = absurd (let no : ⊥ = cc in no)
 both-touched ranks me rank touches.OwnMemory h = absurd (let no : ⊥ = cc in no)
 both-touched ranks me rank (touches.MemoryOf r) h = absurd (mine (r == me) (nat_lt r ranks) h)
@@ -159,7 +159,7 @@ with_footprint-registers other rank h = absurd (let no : ⊥ = cc in no)
 pub registered-cases : {P : Type 0} (ranks me : ℕ) (p : Posts) (call : Call) (reply : Reply) → (((all : List Posts) → registering ranks me p call reply all ≡ all) → P)
     → ((x : register.Register) → call ≡ Register x → is_idle reply ≡ false → (x.rank == me) ≡ false
     → ((all : List Posts) → registering ranks me p call reply all ≡ changed_at all x.rank (with_known me x.seg (extent_in p.segments.own x.seg))) → P) → P
-registered-cases {P} ranks me p call reply same tells = by-reach (footprint_of ranks me (row_of call).footprint) refl
+registered-cases {P} ranks me p call reply same tells = by-footprint (footprint_of ranks me (row_of call).footprint) refl
   where
     told-known : (x : register.Register) → call ≡ Register x → (rank : ℕ) → x.rank ≡ rank → is_idle reply ≡ false → (all : List Posts)
         → changed_at all rank (peer_after me p call reply) ≡ changed_at all x.rank (with_known me x.seg (extent_in p.segments.own x.seg))
@@ -169,18 +169,18 @@ registered-cases {P} ranks me p call reply same tells = by-reach (footprint_of r
 
     named : (rank : ℕ) → footprint_of ranks me (row_of call).footprint ≡ PeerPosts rank → (x : register.Register) → call ≡ Register x → x.rank ≡ rank → (rank == me) ≡ false
         → (b : Bool) → is_idle reply ≡ b → P
-    named rank reach x is at other true idle = same (λ all. rw reach (changed_at-same all rank (peer_after me p call reply) (λ q. rw idle refl)))
-    named rank reach x is at other false awake =
-        tells x is awake (subst (λ (n : ℕ). (n == me) ≡ false) (sym at) other) (λ all. rw reach (told-known x is rank at awake all))
+    named rank footprint x is at other true idle = same (λ all. rw footprint (changed_at-same all rank (peer_after me p call reply) (λ q. rw idle refl)))
+    named rank footprint x is at other false awake =
+        tells x is awake (subst (λ (n : ℕ). (n == me) ≡ false) (sym at) other) (λ all. rw footprint (told-known x is rank at awake all))
 
-    by-reach : (r : Footprint) → footprint_of ranks me (row_of call).footprint ≡ r → P
-    by-reach Alone is = same (λ all. rw is refl)
-    by-reach OwnMemory is = same (λ all. rw is refl)
-    by-reach (PeerMemory rank) is = same (λ all. rw is refl)
-    by-reach (BothMemories rank) is = same (λ all. rw is refl)
-    by-reach (Group id) is = same (λ all. rw is refl)
-    by-reach (GroupAndMemory id) is = same (λ all. rw is refl)
-    by-reach (PeerPosts rank) is =
+    by-footprint : (r : Footprint) → footprint_of ranks me (row_of call).footprint ≡ r → P
+    by-footprint Alone is = same (λ all. rw is refl)
+    by-footprint OwnMemory is = same (λ all. rw is refl)
+    by-footprint (PeerMemory rank) is = same (λ all. rw is refl)
+    by-footprint (BothMemories rank) is = same (λ all. rw is refl)
+    by-footprint (Group id) is = same (λ all. rw is refl)
+    by-footprint (GroupAndMemory id) is = same (λ all. rw is refl)
+    by-footprint (PeerPosts rank) is =
         let touched = peer-touched ranks me rank (row_of call).footprint is in
         let registers = with_footprint-registers call rank touched.0 in
         named rank is registers.0 registers.1 registers.2 touched.1 (is_idle reply) refl

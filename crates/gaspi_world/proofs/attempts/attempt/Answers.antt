@@ -26,11 +26,11 @@ take_and_look-requires-clause-other c =
     let w = c.args.table.now.start.shape in
     let caller = c.args.invocation.now.caller in
     let call = c.args.invocation.now.call.now in
-    let other = c.reached_shard-other.ensures ∙ (ap (rank_other c.ranks-ranks.result) c.reach.ensures
+    let other = c.footprint_shard-other.ensures ∙ (ap (rank_other c.ranks-ranks.result) c.footprint.ensures
     ∙ (ap (λ (n : ℕ). rank_other n (footprint_of n caller.rank c.args.invocation.now.row.footprint)) (c.ranks-ranks.ensures ∙ ap (λ (s : Start). s.shape.limits.ranks) c.start.ensures.start)
     ∙ ap (λ (r : CallRow). rank_other w.limits.ranks (footprint_of w.limits.ranks caller.rank r.footprint)) c.args.invocation.now.rowed)) in
     let there = other-shard w caller.rank (footprint_of w.limits.ranks caller.rank (row_of call).footprint) (declared-within w.limits.ranks caller.rank caller.thread w.callers c.requires.world.within c.requires.caller.0).0 (footprint-is w.limits.ranks caller.rank (row_of call).footprint) in
-    subst (λ (n : ℕ). IsOtherShard w n c.reached_shard-other.result) (sym c.number.ensures.value) (subst (λ (o : Option ℕ). IsOtherShard w caller.rank o) (sym other) there)
+    subst (λ (n : ℕ). IsOtherShard w n c.footprint_shard-other.result) (sym c.number.ensures.value) (subst (λ (o : Option ℕ). IsOtherShard w caller.rank o) (sym other) there)
 
 pub returns-clause-attempted : goal.returns-clause-attempted
 returns-clause-attempted c =
@@ -45,9 +45,9 @@ returns-clause-attempted c =
 pub returns-in_default-clause-attempted : goal.returns-in_default-clause-attempted
 returns-in_default-clause-attempted c =
     let w = c.args.table.now.start.shape in
-    let other = c.reached_shard-other.ensures ∙ (ap (rank_other c.ranks-ranks.result) c.reach.ensures
+    let other = c.footprint_shard-other.ensures ∙ (ap (rank_other c.ranks-ranks.result) c.footprint.ensures
     ∙ (ap (λ (n : ℕ). rank_other n (footprint_of n c.args.invocation.now.caller.rank c.args.invocation.now.row.footprint)) (c.ranks-ranks.ensures ∙ ap (λ (s : Start). s.shape.limits.ranks) c.start.ensures.start)
     ∙ ap (λ (r : CallRow). rank_other w.limits.ranks (footprint_of w.limits.ranks c.args.invocation.now.caller.rank r.footprint)) c.args.invocation.now.rowed)) in
     missed-busy w c.args.invocation.now.caller c.args.invocation.now.call.now c.args.look c.args.pass.now.known c.take_and_look.new.pass.known c.requires.world c.requires.caller
     (subst (λ (o : Option ℕ). IsMissed (world_machine w) c.args.pass.now.known (IsEither c.args.invocation.now.caller.rank o) c.take_and_look.new.pass.known) other
-    (subst (λ (n : ℕ). IsMissed (world_machine w) c.args.pass.now.known (IsEither n c.reached_shard-other.result) c.take_and_look.new.pass.known) c.number.ensures.value c.in_default.ensures.missed))
+    (subst (λ (n : ℕ). IsMissed (world_machine w) c.args.pass.now.known (IsEither n c.footprint_shard-other.result) c.take_and_look.new.pass.known) c.number.ensures.value c.in_default.ensures.missed))

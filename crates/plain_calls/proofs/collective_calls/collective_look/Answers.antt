@@ -6,8 +6,8 @@ use Rattle.gaspi_types.specs.declared.groups.Resume.TheVariants.{Same}
 use Rattle.plain_calls.proofs.Rounds.{reducible_by}
 use Rattle.plain_calls.proofs.collective_calls.collective_look.Goals as goal
 
-pub resumed_finds-requires : goal.resumed_finds-requires
-resumed_finds-requires c =
+pub resumed_answer-requires : goal.resumed_answer-requires
+resumed_answer-requires c =
     let found : resume (option_copied c.pending_on.result) c.args.thread (option_copied c.as_ref.result) ≡ Ok Same =
     sym c.resume.ensures ∙ c.in-Ok-Same.is ∙ ap Ok c.in-Ok-Same.field-0-is in
     record {

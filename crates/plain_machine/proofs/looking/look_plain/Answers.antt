@@ -8,4 +8,4 @@ look-requires-clause-corrupt c = few_marks (state_in c.args.ranks.now c.args.mem
 
 pub look-requires-clause-inbox : goal.look-requires-clause-inbox
 look-requires-clause-inbox c =
-    rw c.worked_memory-memory.ensures (short_at (state_in c.args.ranks.now c.args.memories.now) c.args.invocation.now.caller.rank c.call_reach-reach.result c.requires.whole.sound)
+    rw c.accessed_memory-memory.ensures (short_at (state_in c.args.ranks.now c.args.memories.now) c.args.invocation.now.caller.rank c.call_footprint-footprint.result c.requires.whole.sound)

@@ -14,35 +14,35 @@ use Rattle.plain_machine.proofs.steps.step_put.Goals as goal
 pub set_put-requires : goal.set_put-requires
 set_put-requires c = events_fit c.args.ranks.now.limits _ c.requires.sound.limits (c.requires.sound.posts _ _ c.at_mut.ensures.value)
 
-pub returns-in-Ok-put_reached-clause-outcome : goal.returns-in-Ok-put_reached-clause-outcome
-returns-in-Ok-put_reached-clause-outcome c =
+pub returns-in-Ok-put_at-clause-outcome : goal.returns-in-Ok-put_at-clause-outcome
+returns-in-Ok-put_at-clause-outcome c =
     let read = rw c.index-rank.ensures.value at c.at.ensures in
-    let reach = c.reach-reach.ensures ∙ ap (footprint_of c.args.ranks.now.limits.ranks c.args.id.now.origin) c.put_touch.ensures in
-    rw c.in-Ok-put_reached.ensures.outcome
-    (event_found (state_in c.args.ranks.now c.args.memories.now) c.args.id.now c.args.number c.args.given c.at.result.now (found_at c.in-Ok.at) c.reach-reach.result c.requires.sound.memories read c.in-Ok.ensures reach)
+    let footprint = c.footprint-footprint.ensures ∙ ap (footprint_of c.args.ranks.now.limits.ranks c.args.id.now.origin) c.put_footprint.ensures in
+    rw c.in-Ok-put_at.ensures.outcome
+    (event_found (state_in c.args.ranks.now c.args.memories.now) c.args.id.now c.args.number c.args.given c.at.result.now (found_at c.in-Ok.at) c.footprint-footprint.result c.requires.sound.memories read c.in-Ok.ensures footprint)
 
-pub returns-in-Ok-put_reached-clause-step : goal.returns-in-Ok-put_reached-clause-step
-returns-in-Ok-put_reached-clause-step c =
+pub returns-in-Ok-put_at-clause-step : goal.returns-in-Ok-put_at-clause-step
+returns-in-Ok-put_at-clause-step c =
     let there = rw c.index-rank.ensures.value at c.at_mut.ensures.value in
     let read = rw c.index-rank.ensures.value at c.at.ensures in
     let same : c.at.result.now ≡ c.at_mut.result.now = cc in
     let found : find_entry c.at_mut.result.now c.args.id.now.queue c.args.id.now.target c.args.number whys.Put ≡ Ok (found_at c.in-Ok.at) =
     subst (λ (p : Posts). find_entry p c.args.id.now.queue c.args.id.now.target c.args.number whys.Put ≡ Ok (found_at c.in-Ok.at)) same c.in-Ok.ensures in
-    let reach = c.reach-reach.ensures ∙ ap (footprint_of c.args.ranks.now.limits.ranks c.args.id.now.origin) c.put_touch.ensures in
+    let footprint = c.footprint-footprint.ensures ∙ ap (footprint_of c.args.ranks.now.limits.ranks c.args.id.now.origin) c.put_footprint.ensures in
     rw c.index-rank.ensures.value
-    (put_done (state_in c.args.ranks.now c.args.memories.now) c.args.id.now c.args.number c.args.given c.in-Ok-put_reached.outcome c.at_mut.result.now c.set_put.new.posts (found_at c.in-Ok.at) c.reach-reach.result c.put_reached.new.memories
-    c.requires.sound.memories there found reach c.in-Ok-put_reached.ensures.outcome c.in-Ok-put_reached.ensures.step c.set_put.ensures)
+    (put_done (state_in c.args.ranks.now c.args.memories.now) c.args.id.now c.args.number c.args.given c.in-Ok-put_at.outcome c.at_mut.result.now c.set_put.new.posts (found_at c.in-Ok.at) c.footprint-footprint.result c.put_at.new.memories
+    c.requires.sound.memories there found footprint c.in-Ok-put_at.ensures.outcome c.in-Ok-put_at.ensures.step c.set_put.ensures)
 
-pub returns-in-Ok-put_reached-clause-taken : goal.returns-in-Ok-put_reached-clause-taken
-returns-in-Ok-put_reached-clause-taken c =
+pub returns-in-Ok-put_at-clause-taken : goal.returns-in-Ok-put_at-clause-taken
+returns-in-Ok-put_at-clause-taken c =
     let old = state_in c.args.ranks.now c.args.memories.now in
-    let new = state_in (record c.args.ranks.now { posts = slice_set c.args.ranks.now.posts c.index-rank.result c.set_put.new.posts }) c.put_reached.new.memories in
-    let made = subst (λ (e : Event). step old e ≡ Ok new) (returns-in-Ok-put_reached-clause-outcome c) (returns-in-Ok-put_reached-clause-step c) in
-    c.requires.taken ∙ sym (put_keeps_used old new c.args.id.now.origin c.args.id.now.queue c.args.id.now.target c.args.number c.in-Ok-put_reached.outcome made)
+    let new = state_in (record c.args.ranks.now { posts = slice_set c.args.ranks.now.posts c.index-rank.result c.set_put.new.posts }) c.put_at.new.memories in
+    let made = subst (λ (e : Event). step old e ≡ Ok new) (returns-in-Ok-put_at-clause-outcome c) (returns-in-Ok-put_at-clause-step c) in
+    c.requires.taken ∙ sym (put_keeps_used old new c.args.id.now.origin c.args.id.now.queue c.args.id.now.target c.args.number c.in-Ok-put_at.outcome made)
 
-pub returns-in-Err-put_reached-clause-step : goal.returns-in-Err-put_reached-clause-step
-returns-in-Err-put_reached-clause-step c =
+pub returns-in-Err-put_at-clause-step : goal.returns-in-Err-put_at-clause-step
+returns-in-Err-put_at-clause-step c =
     let read = rw c.index-rank.ensures.value at c.at.ensures in
-    let reach = c.reach-reach.ensures ∙ ap (footprint_of c.args.ranks.now.limits.ranks c.args.id.now.origin) c.put_touch.ensures in
-    put_fault (state_in c.args.ranks.now c.args.memories.now) c.args.id.now c.args.number c.args.given c.at.result.now (found_at c.in-Ok.at) c.reach-reach.result c.put_reached.new.memories c.in-Err-put_reached.fault
-    c.requires.sound.memories read c.in-Ok.ensures reach c.in-Err-put_reached.ensures.step
+    let footprint = c.footprint-footprint.ensures ∙ ap (footprint_of c.args.ranks.now.limits.ranks c.args.id.now.origin) c.put_footprint.ensures in
+    put_fault (state_in c.args.ranks.now c.args.memories.now) c.args.id.now c.args.number c.args.given c.at.result.now (found_at c.in-Ok.at) c.footprint-footprint.result c.put_at.new.memories c.in-Err-put_at.fault
+    c.requires.sound.memories read c.in-Ok.ensures footprint c.in-Err-put_at.ensures.step

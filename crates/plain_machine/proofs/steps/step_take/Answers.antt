@@ -20,9 +20,9 @@ pub returns-in-Ok-take_bytes-clause-outcome : goal.returns-in-Ok-take_bytes-clau
 returns-in-Ok-take_bytes-clause-outcome c =
     let read = rw c.index-rank.ensures.value at c.at.ensures in
     let memory =
-    c.worked_memory-memory.ensures
-    ∙ ap (memory_at c.args.memories.now c.args.id.now.origin) (c.reach-reach.ensures ∙ ap (footprint_of c.args.ranks.now.limits.ranks c.args.id.now.origin) c.take_touch.ensures) in
-    take_event_found (state_in c.args.ranks.now c.args.memories.now) c.args.id.now c.args.number c.args.given c.at.result.now (found_at c.in-Ok.at) c.worked_memory-memory.result.now c.requires.sound.memories read c.in-Ok.ensures memory
+    c.accessed_memory-memory.ensures
+    ∙ ap (memory_at c.args.memories.now c.args.id.now.origin) (c.footprint-footprint.ensures ∙ ap (footprint_of c.args.ranks.now.limits.ranks c.args.id.now.origin) c.take_footprint.ensures) in
+    take_event_found (state_in c.args.ranks.now c.args.memories.now) c.args.id.now c.args.number c.args.given c.at.result.now (found_at c.in-Ok.at) c.accessed_memory-memory.result.now c.requires.sound.memories read c.in-Ok.ensures memory
     ∙ ap (Take c.args.id.now.origin c.args.id.now.queue c.args.id.now.target c.args.number) (sym c.in-Ok-take_bytes.ensures.outcome ∙ sym c.outcome-outcome.ensures)
 
 pub returns-in-Ok-take_bytes-clause-step : goal.returns-in-Ok-take_bytes-clause-step
@@ -33,10 +33,10 @@ returns-in-Ok-take_bytes-clause-step c =
     let found : find_entry c.at_mut.result.now c.args.id.now.queue c.args.id.now.target c.args.number whys.Take ≡ Ok (found_at c.in-Ok.at) =
     subst (λ (p : Posts). find_entry p c.args.id.now.queue c.args.id.now.target c.args.number whys.Take ≡ Ok (found_at c.in-Ok.at)) same c.in-Ok.ensures in
     let memory =
-    c.worked_memory-memory.ensures
-    ∙ ap (memory_at c.args.memories.now c.args.id.now.origin) (c.reach-reach.ensures ∙ ap (footprint_of c.args.ranks.now.limits.ranks c.args.id.now.origin) c.take_touch.ensures) in
+    c.accessed_memory-memory.ensures
+    ∙ ap (memory_at c.args.memories.now c.args.id.now.origin) (c.footprint-footprint.ensures ∙ ap (footprint_of c.args.ranks.now.limits.ranks c.args.id.now.origin) c.take_footprint.ensures) in
     rw c.index-rank.ensures.value
-    (take_done (state_in c.args.ranks.now c.args.memories.now) c.args.id.now c.args.number c.args.given c.at_mut.result.now c.set_take.new.posts (found_at c.in-Ok.at) c.worked_memory-memory.result.now c.in-Ok-take_bytes.used
+    (take_done (state_in c.args.ranks.now c.args.memories.now) c.args.id.now c.args.number c.args.given c.at_mut.result.now c.set_take.new.posts (found_at c.in-Ok.at) c.accessed_memory-memory.result.now c.in-Ok-take_bytes.used
     c.requires.sound.memories there found memory c.in-Ok-take_bytes.ensures.outcome c.in-Ok-take_bytes.ensures.bytes c.set_take.ensures)
 
 pub returns-in-Ok-take_bytes-clause-taken : goal.returns-in-Ok-take_bytes-clause-taken
@@ -52,7 +52,7 @@ pub returns-clause-step : goal.returns-clause-step
 returns-clause-step c =
     let read = rw c.index-rank.ensures.value at c.at.ensures in
     let memory =
-    c.worked_memory-memory.ensures
-    ∙ ap (memory_at c.args.memories.now c.args.id.now.origin) (c.reach-reach.ensures ∙ ap (footprint_of c.args.ranks.now.limits.ranks c.args.id.now.origin) c.take_touch.ensures) in
-    take_fault (state_in c.args.ranks.now c.args.memories.now) c.args.id.now c.args.number c.args.given c.at.result.now (found_at c.in-Ok.at) c.worked_memory-memory.result.now c.in-Err-take_bytes.fault
+    c.accessed_memory-memory.ensures
+    ∙ ap (memory_at c.args.memories.now c.args.id.now.origin) (c.footprint-footprint.ensures ∙ ap (footprint_of c.args.ranks.now.limits.ranks c.args.id.now.origin) c.take_footprint.ensures) in
+    take_fault (state_in c.args.ranks.now c.args.memories.now) c.args.id.now c.args.number c.args.given c.at.result.now (found_at c.in-Ok.at) c.accessed_memory-memory.result.now c.in-Err-take_bytes.fault
     c.requires.sound.memories read c.in-Ok.ensures memory c.in-Err-take_bytes.ensures.bytes

@@ -11,8 +11,8 @@ use Rattle.rank_node.proofs.Resumed.{resumed-mine, same-answer}
 use Rattle.rank_node.proofs.Unready.{fresh-ready}
 use Rattle.rank_node.proofs.collective_looks.look.Goals as goal
 
-pub fresh_finds-requires : goal.fresh_finds-requires
-fresh_finds-requires c =
+pub fresh_result-requires : goal.fresh_result-requires
+fresh_result-requires c =
     let found : resume (option_copied c.pending_at.result) c.args.thread (args_of c.in-Ok.handle.members c.args.call.now) ≡ Ok Fresh =
     sym c.resumes.ensures ∙ c.in-Ok-Fresh.is ∙ ap Ok c.in-Ok-Fresh.field-0-is in
     let groups = ap (λ (p : PostsValue). p.posts.groups) c.own.view_is in
@@ -22,8 +22,8 @@ fresh_finds-requires c =
     new-joins c.args.own.now.posts c.args.own.now.me c.args.thread c.args.id c.requires.together.group c.args.group.now c.args.call.now c.in-Ok.handle a c.requires.together.sound c.requires.together.is
     (sym (rw (c.handles.ensures.value, groups, me) at called) ∙ c.in-Ok.is) (rw c.pending_at.ensures at found) (sym c.in_ok-args-in-Ok-Fresh.ensures.args ∙ is) plain
 
-pub resumed_finds-requires : goal.resumed_finds-requires
-resumed_finds-requires c =
+pub resumed_answer-requires : goal.resumed_answer-requires
+resumed_answer-requires c =
     let found : resume (option_copied c.pending_at.result) c.args.thread (args_of c.in-Ok.handle.members c.args.call.now) ≡ Ok Same =
     sym c.resumes.ensures ∙ c.in-Ok-Same.is ∙ ap Ok c.in-Ok-Same.field-0-is in
     let me = ap (λ (p : PostsValue). p.me) c.own.view_is in (
@@ -44,7 +44,7 @@ returns-in-Ok-Same-clause-look c =
     let mine = resumed-mine c.args.own.now.posts c.args.own.now.me c.args.thread c.args.id c.in-Ok.handle.members g c.args.group.now c.args.call.now meets is same in
     let answer = same-answer c.args.own.now.posts c.args.own.now.me c.args.thread c.args.id g c.args.call.now c.in-Ok.handle (sym c.is_running.ensures ∙ c.if-not-is_running.false)
     (sym (rw (c.handles.ensures.value, groups, me) at called) ∙ c.in-Ok.is) same in
-    subst (λ (r : Ready). IfOk c.resumed_finds.result (λ ready. ready ≡ r)) (sym answer) (let finds = c.resumed_finds.ensures.finds g (rw me mine) in rw me at finds)
+    subst (λ (r : Ready). IfOk c.resumed_answer.result (λ ready. ready ≡ r)) (sym answer) (let finds = c.resumed_answer.ensures.finds g (rw me mine) in rw me at finds)
 
 pub returns-in_err-args-in-Ok-Fresh-clause-unready : goal.returns-in_err-args-in-Ok-Fresh-clause-unready
 returns-in_err-args-in-Ok-Fresh-clause-unready c =
@@ -70,4 +70,4 @@ returns-in-Ok-Same-clause-unready c =
     let answer = same-answer c.args.own.now.posts c.args.own.now.me c.args.thread c.args.id g c.args.call.now c.in-Ok.handle (sym c.is_running.ensures ∙ c.if-not-is_running.false)
     (sym (rw (c.handles.ensures.value, groups, me) at called) ∙ c.in-Ok.is) same in
     let none = sym answer ∙ waits in
-    c.resumed_finds.ensures.unready g (rw me mine) (rw me none)
+    c.resumed_answer.ensures.unready g (rw me mine) (rw me none)

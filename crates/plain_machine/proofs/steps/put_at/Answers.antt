@@ -4,7 +4,7 @@ use Rattle.gaspi_types.proofs.Items.{set-there}
 use Rattle.plain_calls.specs.Looks.{made_of}
 use Rattle.plain_machine.specs.Entries.{found_at}
 use Rattle.plain_machine.proofs.Moved.{put_has_footprint}
-use Rattle.plain_machine.proofs.steps.put_reached.Goals as goal
+use Rattle.plain_machine.proofs.steps.put_at.Goals as goal
 
 pub returns-in-OwnMemory-clause-step : goal.returns-in-OwnMemory-clause-step
 returns-in-OwnMemory-clause-step c =
