@@ -1,4 +1,4 @@
--- What every turn of the schedule keeps.
+-- What every iteration of the schedule keeps.
 use Rattle.std.proofs.Common.{◌≡◌, ℕ, zero, suc, ◌+◌, ◌-◌, ◌<◌, Bool, true, false, List, [], ◌∷◌, ◌++◌, length, Option, None, Some, Result, Ok, Err, refl, sym, subst, ◌∙◌, nat_lt, nat_le, ◌==◌, remove, ◌⊎◌, inl, inr}
 use Rattle.std.specs.List.{slice_get}
 use Rattle.gaspi_types.specs.World.{ShapeValue}
@@ -28,7 +28,7 @@ use Rattle.rank_script.specs.declared.scripts.RunOutcome.{RunOutcome}
 use Rattle.rank_script.specs.Generator.{drawn}
 use Rattle.gaspi_run.specs.Generator.{picked}
 use Rattle.gaspi_run.specs.Endings.{present_need}
-use Rattle.gaspi_run.specs.Schedule.{made, looks_of, with_active, recorded, looked, joined, joined_answered, joined_iteration, answered, active_iteration, end_iteration, run_iteration, candidate_turn, candidates, with_draw, iterate, iterations}
+use Rattle.gaspi_run.specs.Schedule.{made, looks_of, with_active, recorded, looked, joined, joined_answered, joined_iteration, answered, active_iteration, end_iteration, run_iteration, candidate_iteration, candidates, with_draw, iterate, iterations}
 use Rattle.gaspi_run.specs.declared.schedule_states.ActiveCaller.{ActiveCaller}
 use Rattle.gaspi_run.specs.declared.schedule_states.ScheduleState.{ScheduleState}
 use Rattle.gaspi_run.proofs.OwnValues.{own-more}
@@ -148,14 +148,14 @@ good-progress : Steps → LimitsStay → (limit : ℕ) (w : ShapeValue) (t : Sch
 good-progress steps stay limit w t place x (AtLine line tried lines) good at = good-going steps stay limit w t place x line good at
 good-progress steps stay limit w t place x (RunEnded outcome) good at = good-ending steps stay w t place x outcome good
 
-good-candidate : Steps → LimitsStay → (limit : ℕ) (w : ShapeValue) (t : ScheduleState) (candidate : ℕ) → IsGood w t → IsGood w (candidate_turn limit t candidate)
+good-candidate : Steps → LimitsStay → (limit : ℕ) (w : ShapeValue) (t : ScheduleState) (candidate : ℕ) → IsGood w t → IsGood w (candidate_iteration limit t candidate)
 good-candidate steps stay limit w t candidate good = of-caller (slice_get t.active candidate) refl
   where
-    of-transfer : (o : Option Transfer) → slice_get t.active candidate ≡ None → slice_get (transfers t.state.limits t.state.posts) (candidate - length t.active) ≡ o → IsGood w (candidate_turn limit t candidate)
+    of-transfer : (o : Option Transfer) → slice_get t.active candidate ≡ None → slice_get (transfers t.state.limits t.state.posts) (candidate - length t.active) ≡ o → IsGood w (candidate_iteration limit t candidate)
     of-transfer None past none = rw (past, none) good
     of-transfer (Some transfer) past at = rw (past, at) (good-made steps stay w t (transfer_event t.state transfer) good)
 
-    of-caller : (o : Option ActiveCaller) → slice_get t.active candidate ≡ o → IsGood w (candidate_turn limit t candidate)
+    of-caller : (o : Option ActiveCaller) → slice_get t.active candidate ≡ o → IsGood w (candidate_iteration limit t candidate)
     of-caller (Some x) at = rw at (good-progress steps stay limit w t candidate x x.cursor good at)
     of-caller None past = of-transfer (slice_get (transfers t.state.limits t.state.posts) (candidate - length t.active)) past refl
 
@@ -173,7 +173,7 @@ pub good-iterations : Steps → LimitsStay → (limit n : ℕ) (w : ShapeValue) 
 good-iterations steps stay limit zero w t good = good
 good-iterations steps stay limit (suc n) w t good = good-iterations steps stay limit n w (iterate limit t) (good-iteration steps stay limit w t good)
 
--- one turn more
+-- one iteration more
 pub iterations-more : (limit n : ℕ) (t : ScheduleState) → iterations limit (suc n) t ≡ iterate limit (iterations limit n t)
 iterations-more limit zero t = refl
 iterations-more limit (suc n) t = iterations-more limit n (iterate limit t)

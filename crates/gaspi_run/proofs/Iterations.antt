@@ -1,4 +1,4 @@
--- Each turn keeps that the callers' calls are runs of their scripts.
+-- Each iteration keeps that the callers' calls are runs of their scripts.
 use Rattle.std.proofs.Common.{◌≡◌, ℕ, ◌+◌, Bool, true, false, ◌&&◌, List, [], ◌∷◌, ◌++◌, ◌==◌, Option, Some, Ok, append-nil, refl, sym, ap, ◌∙◌, subst, arith, ◌⊎◌, inl, inr, cond}
 use Rattle.std.specs.List.{slice_get, slice_set, sum_by}
 use Rattle.std.proofs.lemmas.Bool.{eqb-true, eqb-false, eq-eqb}
@@ -128,7 +128,7 @@ and-false : (b : Bool) → (b && false) ≡ false
 and-false true = refl
 and-false false = refl
 
--- a whole caller's turn with a call of its own
+-- a whole caller's iteration with a call of its own
 pub own-more : (w : ShapeValue) (journal : List Event) (c : CallerId) (call : Call) (reply : Reply) → recorded_calls c.rank c.thread (journal ++ Called c call reply ∷ []) ≡ recorded_calls c.rank c.thread journal ++ (call, reply) ∷ []
 own-more w journal c call reply = own_calls-append c.rank c.thread journal (Called c call reply ∷ []) ∙ ap (λ (ps : List (Call × Reply)). recorded_calls c.rank c.thread journal ++ ps) (own-same c call reply)
 

@@ -1,4 +1,4 @@
--- What every turn of the schedule keeps of the callers: their calls are runs of their scripts.
+-- What every iteration of the schedule keeps of the callers: their calls are runs of their scripts.
 use Rattle.std.proofs.Common.{◌≡◌, ℕ, zero, suc, ◌+◌, ◌<◌, ◌≤◌, Bool, true, false, List, [], ◌∷◌, ◌++◌, Option, None, Some, Ok, refl, sym, ap, ◌∙◌, subst, arith, ◌==◌, ◌⊎◌, inl, inr, find, cond, count_by, if◌then◌else◌, append_assoc, append-nil}
 use Rattle.std.specs.List.{slice_get, slice_set}
 use Rattle.std.proofs.lemmas.Bool.{eqb-true, eqb-false, eq-eqb}
@@ -199,7 +199,7 @@ pub record Goes (w : ShapeValue) (scripts : List Script) (journal : List Event) 
   pub is_script : find (is_script_of x.caller) scripts ≡ Some script
   pub come : HasCome w journal x.caller script.lines x.cursor
 
--- what each turn keeps of the callers
+-- what each iteration keeps of the callers
 pub record IsRunning (w : ShapeValue) (scripts : List Script) (t : ScheduleState) : Type 0 where
   pub active : (place : ℕ) (x : ActiveCaller) → slice_get t.active place ≡ Some x → is_active t.state x.caller.rank x.caller.thread ≡ true
   pub goes : (place : ℕ) (x : ActiveCaller) → slice_get t.active place ≡ Some x → Goes w scripts t.journal x

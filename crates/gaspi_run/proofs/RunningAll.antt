@@ -1,4 +1,4 @@
--- Every turn of the schedule keeps that the callers' calls are runs of their scripts.
+-- Every iteration of the schedule keeps that the callers' calls are runs of their scripts.
 use Rattle.std.proofs.Common.{◌≡◌, ◌≢◌, ℕ, zero, suc, ◌+◌, ◌-◌, ◌<◌, ◌≤◌, Bool, true, false, List, [], ◌∷◌, ◌++◌, length, Option, None, Some, Result, Ok, Err, refl, sym, ap, ◌∙◌, subst, arith, nat_lt, nat_le, ◌==◌, IsOk, inr, append-nil, if◌then◌else◌}
 use Rattle.std.specs.List.{slice_get, All}
 use Rattle.std.proofs.lemmas.Bool.{ltb-true, ltb-false}
@@ -36,7 +36,7 @@ use Rattle.rank_script.specs.declared.scripts.RunOutcome.TheVariants as outcomes
 use Rattle.rank_script.specs.Generator.{drawn}
 use Rattle.gaspi_run.specs.Generator.{picked}
 use Rattle.gaspi_run.specs.Endings.{present_need, own_events}
-use Rattle.gaspi_run.specs.Schedule.{made, looks_of, recorded, looked, joined, joined_answered, joined_iteration, answered, active_iteration, end_iteration, run_iteration, caller_turn, candidate_turn, candidates, with_draw, iterate, iterations}
+use Rattle.gaspi_run.specs.Schedule.{made, looks_of, recorded, looked, joined, joined_answered, joined_iteration, answered, active_iteration, end_iteration, run_iteration, caller_iteration, candidate_iteration, candidates, with_draw, iterate, iterations}
 use Rattle.gaspi_run.specs.declared.schedule_states.ActiveCaller.{ActiveCaller}
 use Rattle.gaspi_run.specs.declared.schedule_states.ScheduleState.{ScheduleState}
 use Rattle.gaspi_run.proofs.Good.{IsGood, Steps, LimitsStay, good-made, good-iteration}
@@ -64,7 +64,7 @@ pub record JoinLaws : Type 0 where
   pub pends : (s t : State) (c : CallerId) (line : ScriptLine) (args : Args) → IsSound s → answer_in s c.rank c.thread line.call ≡ Some (ready.Join args)
       → step s (join_event c line.call args) ≡ Ok t → is_pending t c.rank c.thread line.call ≡ true
 
--- the laws that the turns rest on
+-- the laws that the iterations rest on
 pub record Laws : Type 0 where
   pub steps : Steps
   pub stay : LimitsStay
@@ -239,10 +239,10 @@ ending-running laws w scripts t place x outcome good running at over =
     rw ok.1 made
 
 caller-running : Laws → (limit : ℕ) (w : ShapeValue) (scripts : List Script) (t : ScheduleState) (place : ℕ) (x : ActiveCaller) → ArePlain scripts → IsGood w t → IsRunning w scripts t → slice_get t.active place ≡ Some x
-    → IsRunning w scripts (caller_turn limit t place x)
+    → IsRunning w scripts (caller_iteration limit t place x)
 caller-running laws limit w scripts t place x plain good running at = go x.cursor refl
   where
-    go : (p : RunPosition) → x.cursor ≡ p → IsRunning w scripts (caller_turn limit t place x)
+    go : (p : RunPosition) → x.cursor ≡ p → IsRunning w scripts (caller_iteration limit t place x)
     go (AtLine line tried lines) is =
         subst (λ (u : ScheduleState). IsRunning w scripts u) (sym (ap (λ (p : RunPosition). run_iteration limit t place x p) is)) (going-running laws limit w scripts t place x line tried lines plain good running at is)
     go (RunEnded outcome) is =
@@ -265,14 +265,14 @@ transfer-running laws w scripts t transfer sound running = go (step t.state (tra
     go (Ok s) is = rw is (foreign-step laws.active w scripts t (transfer_event t.state transfer) s sound running is
         (foreign transfer.put _ _ (λ rank thread. refl) (λ rank thread. refl)) (ends transfer.put _ _ (λ rank thread. refl) (λ rank thread. refl)))
 
-candidate-running : Laws → (limit : ℕ) (w : ShapeValue) (scripts : List Script) (t : ScheduleState) (candidate : ℕ) → ArePlain scripts → IsGood w t → IsRunning w scripts t → IsRunning w scripts (candidate_turn limit t candidate)
+candidate-running : Laws → (limit : ℕ) (w : ShapeValue) (scripts : List Script) (t : ScheduleState) (candidate : ℕ) → ArePlain scripts → IsGood w t → IsRunning w scripts t → IsRunning w scripts (candidate_iteration limit t candidate)
 candidate-running laws limit w scripts t candidate plain good running = of-caller (slice_get t.active candidate) refl
   where
-    of-transfer : (o : Option Transfer) → slice_get t.active candidate ≡ None → slice_get (transfers t.state.limits t.state.posts) (candidate - length t.active) ≡ o → IsRunning w scripts (candidate_turn limit t candidate)
+    of-transfer : (o : Option Transfer) → slice_get t.active candidate ≡ None → slice_get (transfers t.state.limits t.state.posts) (candidate - length t.active) ≡ o → IsRunning w scripts (candidate_iteration limit t candidate)
     of-transfer None past none = rw (past, none) running
     of-transfer (Some transfer) past at = rw (past, at) (transfer-running laws w scripts t transfer good.sound running)
 
-    of-caller : (o : Option ActiveCaller) → slice_get t.active candidate ≡ o → IsRunning w scripts (candidate_turn limit t candidate)
+    of-caller : (o : Option ActiveCaller) → slice_get t.active candidate ≡ o → IsRunning w scripts (candidate_iteration limit t candidate)
     of-caller (Some x) at = rw at (caller-running laws limit w scripts t candidate x plain good running at)
     of-caller None past = of-transfer (slice_get (transfers t.state.limits t.state.posts) (candidate - length t.active)) past refl
 

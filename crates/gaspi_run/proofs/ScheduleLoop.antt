@@ -37,7 +37,7 @@ use Rattle.gaspi_run.proofs.RunningEnds.{EndsRun, StopsRun}
 use Rattle.gaspi_run.proofs.RunningAll.{Laws, CallsAreSteps, JoinLaws, running-iterations}
 use Rattle.gaspi_run.proofs.Started.{good-started, running-started, count-map}
 
--- the schedule has come to where some number of turns leads
+-- the schedule has come to where some number of iterations leads
 pub record HasTurned (w : ShapeValue) (scripts : List Script) (seed limit : ℕ) (t : ScheduleState) : Type 0 where
   pub count : ℕ
   pub is : t ≡ iterations limit count (started w scripts seed)
@@ -75,30 +75,30 @@ known w scripts l counts transfers opens world are plain = record {
   plain = plain;
 }
 
-pub turned-good : (w : ShapeValue) (scripts : List Script) (seed limit : ℕ) (t : ScheduleState) → Known w scripts → HasTurned w scripts seed limit t → IsGood w t
-turned-good w scripts seed limit t k h =
+pub iterated-good : (w : ShapeValue) (scripts : List Script) (seed limit : ℕ) (t : ScheduleState) → Known w scripts → HasTurned w scripts seed limit t → IsGood w t
+iterated-good w scripts seed limit t k h =
     subst (λ (u : ScheduleState). IsGood w u) (sym h.is) (good-iterations k.laws.steps k.laws.stay limit h.count w (started w scripts seed) (good-started k.opens w scripts seed k.world k.are))
 
-pub turned-running : (w : ShapeValue) (scripts : List Script) (seed limit : ℕ) (t : ScheduleState) → Known w scripts → HasTurned w scripts seed limit t → IsRunning w scripts t
-turned-running w scripts seed limit t k h =
+pub iterated-running : (w : ShapeValue) (scripts : List Script) (seed limit : ℕ) (t : ScheduleState) → Known w scripts → HasTurned w scripts seed limit t → IsRunning w scripts t
+iterated-running w scripts seed limit t k h =
     subst (λ (u : ScheduleState). IsRunning w scripts u) (sym h.is)
     (running-iterations k.laws limit h.count w scripts (started w scripts seed) k.plain (good-started k.opens w scripts seed k.world k.are) (running-started w scripts seed k.world k.are))
 
-pub turned-active : (w : ShapeValue) (scripts : List Script) (seed limit : ℕ) (t : ScheduleState) → Known w scripts → HasTurned w scripts seed limit t → AreActive t
-turned-active w scripts seed limit t k h place x at = (turned-running w scripts seed limit t k h).active place x at
+pub iterated-active : (w : ShapeValue) (scripts : List Script) (seed limit : ℕ) (t : ScheduleState) → Known w scripts → HasTurned w scripts seed limit t → AreActive t
+iterated-active w scripts seed limit t k h place x at = (iterated-running w scripts seed limit t k h).active place x at
 
-pub turned-own : (w : ShapeValue) (scripts : List Script) (seed limit : ℕ) (t : ScheduleState) → Known w scripts → HasTurned w scripts seed limit t → HaveOwnValues t.journal
-turned-own w scripts seed limit t k h = (turned-good w scripts seed limit t k h).own
+pub iterated-own : (w : ShapeValue) (scripts : List Script) (seed limit : ℕ) (t : ScheduleState) → Known w scripts → HasTurned w scripts seed limit t → HaveOwnValues t.journal
+iterated-own w scripts seed limit t k h = (iterated-good w scripts seed limit t k h).own
 
-pub turned-less : (w : ShapeValue) (scripts : List Script) (seed limit : ℕ) (t : ScheduleState) → Known w scripts → HasTurned w scripts seed limit t → 0 < candidates t → work limit (iterate limit t) < work limit t
-turned-less w scripts seed limit t k h some =
-    let good = turned-good w scripts seed limit t k h in
+pub iterated-less : (w : ShapeValue) (scripts : List Script) (seed limit : ℕ) (t : ScheduleState) → Known w scripts → HasTurned w scripts seed limit t → 0 < candidates t → work limit (iterate limit t) < work limit t
+iterated-less w scripts seed limit t k h some =
+    let good = iterated-good w scripts seed limit t k h in
     let w-laws : WorkLaws = record { counts = k.counts; transfers = k.transfers; joins = k.laws.joins.steps; steps = k.laws.steps } in
     iteration-less w-laws limit t good.sound
-    (λ place x at. subst (λ (l : Rattle.gaspi_types.specs.declared.shapes.Limits.Limits). x.caller.rank < l.ranks) (sym good.limits) (good.ranked place x at)) (turned-active w scripts seed limit t k h) some
+    (λ place x at. subst (λ (l : Rattle.gaspi_types.specs.declared.shapes.Limits.Limits). x.caller.rank < l.ranks) (sym good.limits) (good.ranked place x at)) (iterated-active w scripts seed limit t k h) some
 
-pub turned-more : (w : ShapeValue) (scripts : List Script) (seed limit : ℕ) (t u : ScheduleState) → HasTurned w scripts seed limit t → u ≡ iterate limit t → HasTurned w scripts seed limit u
-turned-more w scripts seed limit t u h is = record {
+pub iterated-more : (w : ShapeValue) (scripts : List Script) (seed limit : ℕ) (t u : ScheduleState) → HasTurned w scripts seed limit t → u ≡ iterate limit t → HasTurned w scripts seed limit u
+iterated-more w scripts seed limit t u h is = record {
   count = suc h.count;
   is = is ∙ ap (λ (x : ScheduleState). iterate limit x) h.is ∙ sym (iterations-more limit h.count (started w scripts seed));
 }
@@ -106,11 +106,11 @@ turned-more w scripts seed limit t u h is = record {
 -- At the end.
 
 pub over-legal : (w : ShapeValue) (scripts : List Script) (seed limit : ℕ) (t : ScheduleState) → Known w scripts → HasTurned w scripts seed limit t → is_legal w t.journal ≡ true
-over-legal w scripts seed limit t k h = rw (turned-good w scripts seed limit t k h).legal refl
+over-legal w scripts seed limit t k h = rw (iterated-good w scripts seed limit t k h).legal refl
 
 pub over-ended : (w : ShapeValue) (scripts : List Script) (seed limit : ℕ) (t : ScheduleState) → Known w scripts → HasTurned w scripts seed limit t → candidates t ≡ 0 → HaveEnded w scripts t.journal t.ended
 over-ended w scripts seed limit t k h over =
-    let running = turned-running w scripts seed limit t k h in
+    let running = iterated-running w scripts seed limit t k h in
     record {
       each = running.ended;
       once = λ rank thread. (let all = running.counted rank thread in let none = no-count t.active rank thread (let none : length t.active ≡ 0 = omega arith in none) in omega arith);
@@ -215,7 +215,7 @@ no-items (x ∷ xs) h = absurd (omega arith)
 
 pub over-settled : (w : ShapeValue) (scripts : List Script) (seed limit : ℕ) (t : ScheduleState) → Known w scripts → EndLaws → HasTurned w scripts seed limit t → candidates t ≡ 0 → HasSettled w t.journal
 over-settled w scripts seed limit t k l h over =
-    let good = turned-good w scripts seed limit t k h in
+    let good = iterated-good w scripts seed limit t k h in
     record {
       state = t.state;
       leads = good.legal;

@@ -1,4 +1,4 @@
--- The work that is left falls with each turn.
+-- The work that is left falls with each iteration.
 use Rattle.std.proofs.Common.{◌≡◌, ℕ, zero, suc, ◌+◌, ◌-◌, ◌*◌, ◌<◌, ◌≤◌, Bool, true, false, ◌&&◌, if◌then◌else◌, List, [], ◌∷◌, ◌++◌, length, Option, None, Some, Result, Ok, Err, refl, sym, ap, subst, arith, nat_lt, nat_le, ◌==◌, remove, IsOk}
 use Rattle.std.specs.List.{slice_get, slice_set, sum_by}
 use Rattle.std.proofs.lemmas.Bool.{leb-false, ltb-true, ltb-false, ne_eqb}
@@ -30,7 +30,7 @@ use Rattle.rank_script.specs.declared.scripts.RunOutcome.TheVariants as outcomes
 use Rattle.rank_script.specs.Generator.{drawn}
 use Rattle.gaspi_run.specs.Generator.{picked}
 use Rattle.gaspi_run.specs.Endings.{present_need}
-use Rattle.gaspi_run.specs.Schedule.{made, looks_of, with_active, recorded, looked, joined, joined_answered, joined_iteration, answered, active_iteration, end_iteration, run_iteration, caller_turn, candidate_turn, candidates, with_draw, iterate, AreActive}
+use Rattle.gaspi_run.specs.Schedule.{made, looks_of, with_active, recorded, looked, joined, joined_answered, joined_iteration, answered, active_iteration, end_iteration, run_iteration, caller_iteration, candidate_iteration, candidates, with_draw, iterate, AreActive}
 use Rattle.gaspi_run.specs.declared.schedule_states.ActiveCaller.{ActiveCaller}
 use Rattle.gaspi_run.specs.declared.schedule_states.ScheduleState.{ScheduleState}
 use Rattle.gaspi_run.proofs.Good.{Steps, made-waiting}
@@ -231,10 +231,10 @@ ending-less counts limit t place w outcome sound at over =
     omega arith
 
 caller-less : WorkLaws → (limit : ℕ) (t : ScheduleState) (place : ℕ) (w : ActiveCaller) → IsSound t.state → w.caller.rank < t.state.limits.ranks
-    → is_active t.state w.caller.rank w.caller.thread ≡ true → slice_get t.active place ≡ Some w → work limit (caller_turn limit t place w) < work limit t
+    → is_active t.state w.caller.rank w.caller.thread ≡ true → slice_get t.active place ≡ Some w → work limit (caller_iteration limit t place w) < work limit t
 caller-less laws limit t place w sound within active at = go w.cursor refl
   where
-    go : (p : RunPosition) → w.cursor ≡ p → work limit (caller_turn limit t place w) < work limit t
+    go : (p : RunPosition) → w.cursor ≡ p → work limit (caller_iteration limit t place w) < work limit t
     go (AtLine line tried lines) is =
         subst (λ (x : ScheduleState). work limit x < work limit t) (sym (ap (λ (p : RunPosition). run_iteration limit t place w p) is)) (going-less-iteration laws limit t place w line tried lines sound within active at is)
     go (RunEnded outcome) is =
@@ -245,21 +245,21 @@ abbrev pub AreRanked : ScheduleState → Type 0
 AreRanked t = (place : ℕ) (w : ActiveCaller) → slice_get t.active place ≡ Some w → w.caller.rank < t.state.limits.ranks
 
 candidate-less : WorkLaws → (limit : ℕ) (t : ScheduleState) (candidate : ℕ) → IsSound t.state → AreRanked t → AreActive t → candidate < candidates t
-    → work limit (candidate_turn limit t candidate) < work limit t
+    → work limit (candidate_iteration limit t candidate) < work limit t
 candidate-less laws limit t candidate sound ranked active less = of-caller (slice_get t.active candidate) refl
   where
     of-transfer : (o : Option Transfer) → slice_get t.active candidate ≡ None → slice_get (transfers t.state.limits t.state.posts) (candidate - length t.active) ≡ o
-        → work limit (candidate_turn limit t candidate) < work limit t
+        → work limit (candidate_iteration limit t candidate) < work limit t
     of-transfer None past none =
         let over = none-past t.active candidate past in
         absurd (past-none (transfers t.state.limits t.state.posts) (candidate - length t.active) (omega arith) none)
     of-transfer (Some transfer) past at = rw (past, at) (made-less laws.counts limit t (transfer_event t.state transfer) sound (laws.transfers t.state transfer (candidate - length t.active) sound at))
 
-    of-caller : (o : Option ActiveCaller) → slice_get t.active candidate ≡ o → work limit (candidate_turn limit t candidate) < work limit t
+    of-caller : (o : Option ActiveCaller) → slice_get t.active candidate ≡ o → work limit (candidate_iteration limit t candidate) < work limit t
     of-caller (Some w) at = rw at (caller-less laws limit t candidate w sound (ranked candidate w at) (active candidate w at) at)
     of-caller None past = of-transfer (slice_get (transfers t.state.limits t.state.posts) (candidate - length t.active)) past refl
 
--- each turn with a candidate leaves less work
+-- each iteration with a candidate leaves less work
 pub iteration-less : WorkLaws → (limit : ℕ) (t : ScheduleState) → IsSound t.state → AreRanked t → AreActive t → 0 < candidates t → work limit (iterate limit t) < work limit t
 iteration-less laws limit t sound ranked active some =
     let apart : (candidates t == 0) ≡ false = ne_eqb (candidates t) 0 (omega arith) in

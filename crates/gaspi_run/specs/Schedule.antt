@@ -1,4 +1,4 @@
--- The schedule on one thread: turns of callers and of transfers, picked by the generator. (own choice)
+-- The schedule on one thread: iterations of callers and of transfers, picked by the generator. (own choice)
 use Rattle.std.specs.Prelude.{◌≡◌, Bool, ℕ, zero, suc, ◌+◌, ◌-◌, true, ◌==◌, nat_lt, nat_le, List, [], ◌∷◌, ◌++◌, length, remove, Option, None, Some, Result, Ok, Err, IsOk, false, if◌then◌else◌, slice_get, slice_set, find}
 use Rattle.std.specs.List.{flat_map, range_with_len}
 use Rattle.gaspi_types.specs.World.{ShapeValue}
@@ -106,7 +106,7 @@ joined_answered limit t place w line (Some ready.NotReady) = looked limit t plac
 abbrev pub joined_iteration : ℕ → ScheduleState → ℕ → ActiveCaller → ScriptLine → ScheduleState
 joined_iteration limit t place w line = joined_answered limit t place w line (answer_in t.state w.caller.rank w.caller.thread line.call)
 
--- what a look finds: a call that may join its group joins, and is then looked at in the same turn
+-- what a look finds: a call that may join its group joins, and is then looked at in the same iteration
 abbrev pub answered : ℕ → ScheduleState → ℕ → ActiveCaller → ScriptLine → Option Ready → ScheduleState
 answered limit t place w line None = t
 answered limit t place w line (Some (ready.Reply reply)) = recorded t place w line.call reply
@@ -117,14 +117,14 @@ answered limit t place w line (Some ready.NotReady) = looked limit t place w lin
 abbrev pub is_full : State → CallerId → ScriptLine → Bool
 is_full s c line = nat_lt s.limits.events (used_room s c.rank + present_need s c line)
 
--- the turn of a caller whose script goes on: where its rank has no room for what the call needs, its run ends
+-- the iteration of a caller whose script goes on: where its rank has no room for what the call needs, its run ends
 abbrev pub active_iteration : ℕ → ScheduleState → ℕ → ActiveCaller → ScriptLine → ScheduleState
 active_iteration limit t place w line =
     if is_full t.state w.caller line
     then with_active t place (record { caller = w.caller; cursor = stopped w.cursor halts.Limit; looks = 0 })
     else answered limit t place w line (answer_in t.state w.caller.rank w.caller.thread line.call)
 
--- the turn of a caller whose run is over: it makes its end
+-- the iteration of a caller whose run is over: it makes its end
 abbrev pub end_iteration : ScheduleState → ℕ → ActiveCaller → RunOutcome → ScheduleState
 end_iteration t place w outcome =
     made (record t { active = remove t.active place; ended = t.ended ++ record { caller = w.caller; outcome = outcome } ∷ [] })
@@ -134,19 +134,19 @@ abbrev pub run_iteration : ℕ → ScheduleState → ℕ → ActiveCaller → Ru
 run_iteration limit t place w (AtLine line made lines) = active_iteration limit t place w line
 run_iteration limit t place w (RunEnded outcome) = end_iteration t place w outcome
 
-abbrev pub caller_turn : ℕ → ScheduleState → ℕ → ActiveCaller → ScheduleState
-caller_turn limit t place w = run_iteration limit t place w w.cursor
+abbrev pub caller_iteration : ℕ → ScheduleState → ℕ → ActiveCaller → ScheduleState
+caller_iteration limit t place w = run_iteration limit t place w w.cursor
 
--- the turn of a candidate: the callers that wait come first, then the transfers that may come next
-abbrev pub candidate_turn : ℕ → ScheduleState → ℕ → ScheduleState
-candidate_turn limit t candidate = of_caller (slice_get t.active candidate)
+-- the iteration of a candidate: the callers that wait come first, then the transfers that may come next
+abbrev pub candidate_iteration : ℕ → ScheduleState → ℕ → ScheduleState
+candidate_iteration limit t candidate = of_caller (slice_get t.active candidate)
   where
     of_transfer : Option Transfer → ScheduleState
     of_transfer None = t
     of_transfer (Some transfer) = made t (transfer_event t.state transfer)
 
     of_caller : Option ActiveCaller → ScheduleState
-    of_caller (Some w) = caller_turn limit t candidate w
+    of_caller (Some w) = caller_iteration limit t candidate w
     of_caller None = of_transfer (slice_get (transfers t.state.limits t.state.posts) (candidate - length t.active))
 
 abbrev pub candidates : ScheduleState → ℕ
@@ -155,18 +155,18 @@ candidates t = length t.active + length (transfers t.state.limits t.state.posts)
 abbrev pub with_draw : ScheduleState → ScheduleState
 with_draw t = record t { x = drawn t.x }
 
--- one turn: a draw picks the candidate; where there is none, nothing happens
+-- one iteration: a draw picks the candidate; where there is none, nothing happens
 abbrev pub iterate : ℕ → ScheduleState → ScheduleState
 iterate limit t =
-    if candidates t == 0 then t else candidate_turn limit (with_draw t) (picked (drawn t.x) (candidates t))
+    if candidates t == 0 then t else candidate_iteration limit (with_draw t) (picked (drawn t.x) (candidates t))
 
--- that many turns
+-- that many iterations
 abbrev pub iterations : ℕ → ℕ → ScheduleState → ScheduleState
 iterations limit zero t = t
 iterations limit (suc n) t = iterations limit n (iterate limit t)
 
--- The scheduled history and outcomes: those that some number of turns leads to, after which there is no candidate.
--- No further turn changes them, so they are the only ones.
+-- The scheduled history and outcomes: those that some number of iterations leads to, after which there is no candidate.
+-- No further iteration changes them, so they are the only ones.
 pub record IsScheduled (w : ShapeValue) (scripts : List Script) (seed limit : ℕ) (journal : List Event) (finished : List EndedCaller) : Type 0 where
   pub count : ℕ
   pub over : candidates (iterations limit count (started w scripts seed)) ≡ 0

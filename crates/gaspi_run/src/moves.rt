@@ -1,4 +1,4 @@
-//! What a turn does: the present call of a caller, its end, or a transfer.
+//! What an iteration does: the present call of a caller, its end, or a transfer.
 
 ghost use Rattle.std.specs.Prelude.{◌≡◌, ℕ, ◌+◌, ◌<◌, ◌≤◌, ◌++◌, ◌∷◌, [], OnOk, IsOk, Ok, Some, true, false, length, slice_get};
 ghost use Rattle.gaspi_types.specs.declared.replies.Ready.{Ready};
@@ -9,7 +9,7 @@ ghost use Rattle.gaspi_model.specs.Calls.{recorded_reply};
 ghost use Rattle.gaspi_model.specs.Step.{step, answer_in, is_active, lacks_room_in, transfer_event};
 ghost use Rattle.gaspi_model.specs.Transfers.{transfers};
 ghost use Rattle.gaspi_run.specs.Generator.{picked};
-ghost use Rattle.gaspi_run.specs.Schedule.{made, looks_of, recorded, looked, join_args, joined, joined_iteration, is_full, active_iteration, end_iteration, caller_turn, candidate_turn, candidates, iterate, AreActive, IsCallerAt, MayBeRecorded};
+ghost use Rattle.gaspi_run.specs.Schedule.{made, looks_of, recorded, looked, join_args, joined, joined_iteration, is_full, active_iteration, end_iteration, caller_iteration, candidate_iteration, candidates, iterate, AreActive, IsCallerAt, MayBeRecorded};
 ghost use Rattle.plain_machine.specs.Looking.{IsEvaluationIn};
 ghost use Rattle.rank_script.specs.Runs.{advanced};
 ghost use Rattle.rank_script.specs.declared.scripts.ScriptLine.{ScriptLine};
@@ -46,12 +46,12 @@ fn looks_of(limit: u32, timeout: Timeout) -> u32
 }
 
 /// Makes an event. One that is no step is not made.
-fn make(turns: &mut ScheduleState, alloc: Global, event: Event) -> Result<(), NoMemory>
-    ensures { OnOk result (turns.new ≡ made turns.old event) }
+fn make(schedule: &mut ScheduleState, alloc: Global, event: Event) -> Result<(), NoMemory>
+    ensures { OnOk result (schedule.new ≡ made schedule.old event) }
 {
-    match turns.state.step(alloc, &event) {
+    match schedule.state.step(alloc, &event) {
         Ok(()) => {
-            turns.journal.push(event)?;
+            schedule.journal.push(event)?;
             Ok(())
         }
         Err(StepFault::Illegal(_)) => Ok(()),
@@ -72,48 +72,48 @@ fn bring_on(waiting: &mut ActiveCaller<'_>, ready: &Ready)
 
 /// Records a look at the present call of a waiting caller, which is a step.
 fn record_call(
-    turns: &mut ScheduleState,
+    schedule: &mut ScheduleState,
     alloc: Global,
     place: usize,
     invocation: &Invocation<'_>,
     look: Evaluation,
 ) -> Result<(), NoMemory>
-    requires place { place < length turns.old.active }
-    requires caller { IsCallerAt turns.old place invocation.now.caller }
-    requires active { is_active turns.old.state invocation.now.caller.rank invocation.now.caller.thread ≡ true }
-    requires look { IsEvaluationIn look turns.old.state invocation.now.caller invocation.now.call.now }
+    requires place { place < length schedule.old.active }
+    requires caller { IsCallerAt schedule.old place invocation.now.caller }
+    requires active { is_active schedule.old.state invocation.now.caller.rank invocation.now.caller.thread ≡ true }
+    requires look { IsEvaluationIn look schedule.old.state invocation.now.caller invocation.now.call.now }
     requires unjoined { is_joining look.ready ≡ false }
-    requires steps { IsOk (step turns.old.state (Called invocation.now.caller invocation.now.call.now (recorded_reply look.ready))) }
-    ensures { (w : ActiveCaller) → slice_get turns.old.active place ≡ Some w → OnOk result (turns.new ≡ recorded turns.old place w invocation.now.call.now (recorded_reply look.ready)) }
+    requires steps { IsOk (step schedule.old.state (Called invocation.now.caller invocation.now.call.now (recorded_reply look.ready))) }
+    ensures { (w : ActiveCaller) → slice_get schedule.old.active place ≡ Some w → OnOk result (schedule.new ≡ recorded schedule.old place w invocation.now.call.now (recorded_reply look.ready)) }
 {
     let call = invocation.call.copy(alloc)?;
-    bring_on(turns.active.at_mut(place), &look.ready);
-    let reply = turns.state.record(alloc, invocation, look)?;
+    bring_on(schedule.active.at_mut(place), &look.ready);
+    let reply = schedule.state.record(alloc, invocation, look)?;
     let event = Event::Called(invocation.caller, call, reply);
-    turns.journal.push(event)?;
+    schedule.journal.push(event)?;
     Ok(())
 }
 
 /// The end of a waiting caller whose run is over.
 fn end_caller(
-    turns: &mut ScheduleState,
+    schedule: &mut ScheduleState,
     alloc: Global,
     place: usize,
     outcome: RunOutcome,
 ) -> Result<(), NoMemory>
-    requires { place < length turns.old.active }
-    ensures { (w : ActiveCaller) → slice_get turns.old.active place ≡ Some w → OnOk result (turns.new ≡ end_iteration turns.old place w outcome) }
+    requires { place < length schedule.old.active }
+    ensures { (w : ActiveCaller) → slice_get schedule.old.active place ≡ Some w → OnOk result (schedule.new ≡ end_iteration schedule.old place w outcome) }
 {
-    let end = Event::Called(turns.active.at(place).caller, Call::End, Reply::Done);
-    let caller = turns.active.at(place).caller;
-    drop(turns.active.remove(place));
-    turns.ended.push(EndedCaller { caller, outcome })?;
-    make(turns, alloc, end)
+    let end = Event::Called(schedule.active.at(place).caller, Call::End, Reply::Done);
+    let caller = schedule.active.at(place).caller;
+    drop(schedule.active.remove(place));
+    schedule.ended.push(EndedCaller { caller, outcome })?;
+    make(schedule, alloc, end)
 }
 
 /// A look at the present call of a waiting caller that is not ready: at the last one a timeout is recorded, which is a step.
 fn look_again(
-    turns: &mut ScheduleState,
+    schedule: &mut ScheduleState,
     alloc: Global,
     limit: u32,
     place: usize,
@@ -121,21 +121,21 @@ fn look_again(
     timeout: Timeout,
     look: Evaluation,
 ) -> Result<(), NoMemory>
-    requires place { place < length turns.old.active }
-    requires caller { IsCallerAt turns.old place invocation.now.caller }
-    requires active { is_active turns.old.state invocation.now.caller.rank invocation.now.caller.thread ≡ true }
-    requires look { IsEvaluationIn look turns.old.state invocation.now.caller invocation.now.call.now }
+    requires place { place < length schedule.old.active }
+    requires caller { IsCallerAt schedule.old place invocation.now.caller }
+    requires active { is_active schedule.old.state invocation.now.caller.rank invocation.now.caller.thread ≡ true }
+    requires look { IsEvaluationIn look schedule.old.state invocation.now.caller invocation.now.call.now }
     requires not_ready { look.ready ≡ NotReady }
-    requires steps { IsOk (step turns.old.state (Called invocation.now.caller invocation.now.call.now (recorded_reply look.ready))) }
-    ensures { (w : ActiveCaller) (line : ScriptLine) → slice_get turns.old.active place ≡ Some w → line.call ≡ invocation.now.call.now → line.timeout ≡ timeout
-        → OnOk result (turns.new ≡ looked limit turns.old place w line) }
+    requires steps { IsOk (step schedule.old.state (Called invocation.now.caller invocation.now.call.now (recorded_reply look.ready))) }
+    ensures { (w : ActiveCaller) (line : ScriptLine) → slice_get schedule.old.active place ≡ Some w → line.call ≡ invocation.now.call.now → line.timeout ≡ timeout
+        → OnOk result (schedule.new ≡ looked limit schedule.old place w line) }
 {
-    let looks = turns.active.at(place).looks;
+    let looks = schedule.active.at(place).looks;
     let most = looks_of(limit, timeout);
     if u64::from(most) <= u64::from(looks) + 1 {
-        return record_call(turns, alloc, place, invocation, look);
+        return record_call(schedule, alloc, place, invocation, look);
     }
-    turns.active.at_mut(place).looks = looks + 1;
+    schedule.active.at_mut(place).looks = looks + 1;
     Ok(())
 }
 
@@ -156,148 +156,148 @@ fn join_args(look: Evaluation) -> Option<Args>
 
 /// The join of the present call of a waiting caller to its group, where a look found that it may; it is a step. (GASPI: collectives)
 fn join_group(
-    turns: &mut ScheduleState,
+    schedule: &mut ScheduleState,
     alloc: Global,
     invocation: &Invocation<'_>,
     args: Args,
 ) -> Result<(), NoMemory>
-    requires active { is_active turns.old.state invocation.now.caller.rank invocation.now.caller.thread ≡ true }
-    requires joins { answer_in turns.old.state invocation.now.caller.rank invocation.now.caller.thread invocation.now.call.now ≡ Some (Join args) }
-    requires steps { IsOk (step turns.old.state (join_event invocation.now.caller invocation.now.call.now args)) }
-    ensures joined { (w : ActiveCaller) (line : ScriptLine) → w.caller ≡ invocation.now.caller → line.call ≡ invocation.now.call.now → OnOk result (turns.new ≡ joined turns.old w line args) }
-    ensures stepped { OnOk result (step turns.old.state (join_event invocation.now.caller invocation.now.call.now args) ≡ Ok turns.new.state) }
-    ensures active { OnOk result (is_active turns.new.state invocation.now.caller.rank invocation.now.caller.thread ≡ true) }
-    ensures waiting { turns.new.active ≡ turns.old.active }
+    requires active { is_active schedule.old.state invocation.now.caller.rank invocation.now.caller.thread ≡ true }
+    requires joins { answer_in schedule.old.state invocation.now.caller.rank invocation.now.caller.thread invocation.now.call.now ≡ Some (Join args) }
+    requires steps { IsOk (step schedule.old.state (join_event invocation.now.caller invocation.now.call.now args)) }
+    ensures joined { (w : ActiveCaller) (line : ScriptLine) → w.caller ≡ invocation.now.caller → line.call ≡ invocation.now.call.now → OnOk result (schedule.new ≡ joined schedule.old w line args) }
+    ensures stepped { OnOk result (step schedule.old.state (join_event invocation.now.caller invocation.now.call.now args) ≡ Ok schedule.new.state) }
+    ensures active { OnOk result (is_active schedule.new.state invocation.now.caller.rank invocation.now.caller.thread ≡ true) }
+    ensures waiting { schedule.new.active ≡ schedule.old.active }
 {
     soundness();
-    let event = turns.state.join(alloc, invocation, args)?;
-    turns.journal.push(event)?;
+    let event = schedule.state.join(alloc, invocation, args)?;
+    schedule.journal.push(event)?;
     Ok(())
 }
 
 /// The look at the present call of a waiting caller goes on, which has joined its group: what it finds is no join, and may be recorded.
 fn look_joined(
-    turns: &mut ScheduleState,
+    schedule: &mut ScheduleState,
     alloc: Global,
     limit: u32,
     place: usize,
     invocation: &Invocation<'_>,
     timeout: Timeout,
 ) -> Result<(), NoMemory>
-    requires place { place < length turns.old.active }
-    requires caller { IsCallerAt turns.old place invocation.now.caller }
-    requires active { is_active turns.old.state invocation.now.caller.rank invocation.now.caller.thread ≡ true }
-    requires recordable { MayBeRecorded turns.old.state invocation.now.caller invocation.now.call.now }
-    ensures { (w : ActiveCaller) (line : ScriptLine) → slice_get turns.old.active place ≡ Some w → line.call ≡ invocation.now.call.now → line.timeout ≡ timeout
-        → OnOk result (turns.new ≡ joined_iteration limit turns.old place w line) }
+    requires place { place < length schedule.old.active }
+    requires caller { IsCallerAt schedule.old place invocation.now.caller }
+    requires active { is_active schedule.old.state invocation.now.caller.rank invocation.now.caller.thread ≡ true }
+    requires recordable { MayBeRecorded schedule.old.state invocation.now.caller invocation.now.call.now }
+    ensures { (w : ActiveCaller) (line : ScriptLine) → slice_get schedule.old.active place ≡ Some w → line.call ≡ invocation.now.call.now → line.timeout ≡ timeout
+        → OnOk result (schedule.new ≡ joined_iteration limit schedule.old place w line) }
 {
-    let found = turns.state.look(alloc, invocation)?;
+    let found = schedule.state.look(alloc, invocation)?;
     match found.ready {
-        Ready::Reply(_) => record_call(turns, alloc, place, invocation, found),
+        Ready::Reply(_) => record_call(schedule, alloc, place, invocation, found),
         Ready::Join(_) => Ok(()),
-        Ready::NotReady => look_again(turns, alloc, limit, place, invocation, timeout, found),
+        Ready::NotReady => look_again(schedule, alloc, limit, place, invocation, timeout, found),
     }
 }
 
 /// Whether the rank of a waiting caller has no room for what its present call needs.
-fn is_full(turns: &ScheduleState, invocation: &Invocation<'_>) -> bool
-    requires active { is_active turns.now.state invocation.now.caller.rank invocation.now.caller.thread ≡ true }
-    ensures room { result ≡ lacks_room_in turns.now.state invocation.now.caller invocation.now.call.now }
-    ensures full { (w : ActiveCaller) (line : ScriptLine) → w.caller ≡ invocation.now.caller → line.call ≡ invocation.now.call.now → result ≡ is_full turns.now.state w.caller line }
+fn is_full(schedule: &ScheduleState, invocation: &Invocation<'_>) -> bool
+    requires active { is_active schedule.now.state invocation.now.caller.rank invocation.now.caller.thread ≡ true }
+    ensures room { result ≡ lacks_room_in schedule.now.state invocation.now.caller invocation.now.call.now }
+    ensures full { (w : ActiveCaller) (line : ScriptLine) → w.caller ≡ invocation.now.caller → line.call ≡ invocation.now.call.now → result ≡ is_full schedule.now.state w.caller line }
 {
-    turns.state.is_full(invocation)
+    schedule.state.is_full(invocation)
 }
 
-/// The turn of a waiting caller whose script goes on.
+/// The iteration of a waiting caller whose script goes on.
 fn go_on(
-    turns: &mut ScheduleState,
+    schedule: &mut ScheduleState,
     alloc: Global,
     limit: u32,
     place: usize,
     call: &Call,
     timeout: Timeout,
 ) -> Result<(), NoMemory>
-    requires place { place < length turns.old.active }
-    requires active { AreActive turns.old }
-    ensures { (w : ActiveCaller) (line : ScriptLine) → slice_get turns.old.active place ≡ Some w → line.call ≡ call.now → line.timeout ≡ timeout
-        → OnOk result (turns.new ≡ active_iteration limit turns.old place w line) }
+    requires place { place < length schedule.old.active }
+    requires active { AreActive schedule.old }
+    ensures { (w : ActiveCaller) (line : ScriptLine) → slice_get schedule.old.active place ≡ Some w → line.call ≡ call.now → line.timeout ≡ timeout
+        → OnOk result (schedule.new ≡ active_iteration limit schedule.old place w line) }
 {
-    let caller = turns.active.at(place).caller;
+    let caller = schedule.active.at(place).caller;
     let invocation = Invocation::new(caller, call);
-    go_on_with(turns, alloc, limit, place, &invocation, timeout)
+    go_on_with(schedule, alloc, limit, place, &invocation, timeout)
 }
 
-/// The turn of a waiting caller whose script goes on, with its present call.
+/// The iteration of a waiting caller whose script goes on, with its present call.
 fn go_on_with(
-    turns: &mut ScheduleState,
+    schedule: &mut ScheduleState,
     alloc: Global,
     limit: u32,
     place: usize,
     invocation: &Invocation<'_>,
     timeout: Timeout,
 ) -> Result<(), NoMemory>
-    requires place { place < length turns.old.active }
-    requires caller { IsCallerAt turns.old place invocation.now.caller }
-    requires active { is_active turns.old.state invocation.now.caller.rank invocation.now.caller.thread ≡ true }
-    ensures { (w : ActiveCaller) (line : ScriptLine) → slice_get turns.old.active place ≡ Some w → line.call ≡ invocation.now.call.now → line.timeout ≡ timeout
-        → OnOk result (turns.new ≡ active_iteration limit turns.old place w line) }
+    requires place { place < length schedule.old.active }
+    requires caller { IsCallerAt schedule.old place invocation.now.caller }
+    requires active { is_active schedule.old.state invocation.now.caller.rank invocation.now.caller.thread ≡ true }
+    ensures { (w : ActiveCaller) (line : ScriptLine) → slice_get schedule.old.active place ≡ Some w → line.call ≡ invocation.now.call.now → line.timeout ≡ timeout
+        → OnOk result (schedule.new ≡ active_iteration limit schedule.old place w line) }
 {
-    turns.state.limits();
-    if is_full(turns, invocation) {
-        let waiting = turns.active.at_mut(place);
+    schedule.state.limits();
+    if is_full(schedule, invocation) {
+        let waiting = schedule.active.at_mut(place);
         waiting.cursor.stop(RunStop::Limit);
         waiting.looks = 0;
         return Ok(());
     }
-    let look = turns.state.look(alloc, invocation)?;
+    let look = schedule.state.look(alloc, invocation)?;
     match look.ready {
-        Ready::NotReady => look_again(turns, alloc, limit, place, invocation, timeout, look),
-        Ready::Reply(_) => record_call(turns, alloc, place, invocation, look),
+        Ready::NotReady => look_again(schedule, alloc, limit, place, invocation, timeout, look),
+        Ready::Reply(_) => record_call(schedule, alloc, place, invocation, look),
         Ready::Join(_) => match join_args(look) {
             Some(args) => {
-                join_group(turns, alloc, invocation, args)?;
-                look_joined(turns, alloc, limit, place, invocation, timeout)
+                join_group(schedule, alloc, invocation, args)?;
+                look_joined(schedule, alloc, limit, place, invocation, timeout)
             }
             None => Ok(()),
         },
     }
 }
 
-/// The turn of a waiting caller.
+/// The iteration of a waiting caller.
 fn caller_iteration(
-    turns: &mut ScheduleState,
+    schedule: &mut ScheduleState,
     alloc: Global,
     limit: u32,
     place: usize,
 ) -> Result<(), NoMemory>
-    requires place { place < length turns.old.active }
-    requires active { AreActive turns.old }
-    ensures { (w : ActiveCaller) → slice_get turns.old.active place ≡ Some w → OnOk result (turns.new ≡ caller_turn limit turns.old place w) }
+    requires place { place < length schedule.old.active }
+    requires active { AreActive schedule.old }
+    ensures { (w : ActiveCaller) → slice_get schedule.old.active place ≡ Some w → OnOk result (schedule.new ≡ caller_iteration limit schedule.old place w) }
 {
-    let cursor = &turns.active.at(place).cursor;
+    let cursor = &schedule.active.at(place).cursor;
     if let Some(outcome) = cursor.outcome() {
-        return end_caller(turns, alloc, place, outcome);
+        return end_caller(schedule, alloc, place, outcome);
     }
     match cursor.present() {
         Some((call, timeout)) => {
             let call = call.copy(alloc)?;
-            go_on(turns, alloc, limit, place, &call, timeout)
+            go_on(schedule, alloc, limit, place, &call, timeout)
         }
         None => Ok(()),
     }
 }
 
-/// The turn of a transfer, with the machine's outcome.
+/// The iteration of a transfer, with the machine's outcome.
 fn transfer_iteration(
-    turns: &mut ScheduleState,
+    schedule: &mut ScheduleState,
     alloc: Global,
     transfer: &Transfer,
 ) -> Result<(), NoMemory>
-    ensures { OnOk result (turns.new ≡ made turns.old (transfer_event turns.old.state transfer.now)) }
+    ensures { OnOk result (schedule.new ≡ made schedule.old (transfer_event schedule.old.state transfer.now)) }
 {
-    match turns.state.make(alloc, transfer) {
+    match schedule.state.make(alloc, transfer) {
         Ok(event) => {
-            turns.journal.push(event)?;
+            schedule.journal.push(event)?;
             Ok(())
         }
         Err(StepFault::Illegal(_)) => Ok(()),
@@ -305,39 +305,39 @@ fn transfer_iteration(
     }
 }
 
-/// The turn of a candidate: the callers that wait come first, then the transfers that may come next.
+/// The iteration of a candidate: the callers that wait come first, then the transfers that may come next.
 fn candidate_iteration(
-    turns: &mut ScheduleState,
+    schedule: &mut ScheduleState,
     alloc: Global,
     limit: u32,
     candidate: usize,
 ) -> Result<(), NoMemory>
-    requires active { AreActive turns.old }
-    ensures { OnOk result (turns.new ≡ candidate_turn limit turns.old candidate) }
+    requires active { AreActive schedule.old }
+    ensures { OnOk result (schedule.new ≡ candidate_iteration limit schedule.old candidate) }
 {
-    let waiting = turns.active.len();
+    let waiting = schedule.active.len();
     if candidate < waiting {
-        return caller_iteration(turns, alloc, limit, candidate);
+        return caller_iteration(schedule, alloc, limit, candidate);
     }
-    match turns.state.transfer_at(candidate - waiting) {
-        Some(transfer) => transfer_iteration(turns, alloc, &transfer),
+    match schedule.state.transfer_at(candidate - waiting) {
+        Some(transfer) => transfer_iteration(schedule, alloc, &transfer),
         None => Ok(()),
     }
 }
 
-/// One turn: a draw picks the candidate. False where there is none, and then nothing has happened.
-pub fn iterate(turns: &mut ScheduleState, alloc: Global, limit: u32) -> Result<bool, NoMemory>
-    requires { AreActive turns.old }
-    ensures over { result ≡ Ok false → (candidates turns.old ≡ 0) × (turns.new ≡ turns.old) }
-    ensures turned { result ≡ Ok true → (0 < candidates turns.old) × (turns.new ≡ iterate limit turns.old) }
+/// One iteration: a draw picks the candidate. False where there is none, and then nothing has happened.
+pub fn iterate(schedule: &mut ScheduleState, alloc: Global, limit: u32) -> Result<bool, NoMemory>
+    requires { AreActive schedule.old }
+    ensures over { result ≡ Ok false → (candidates schedule.old ≡ 0) × (schedule.new ≡ schedule.old) }
+    ensures iterated { result ≡ Ok true → (0 < candidates schedule.old) × (schedule.new ≡ iterate limit schedule.old) }
 {
-    let waiting = turns.active.len();
-    let transfers = turns.state.transfer_count();
+    let waiting = schedule.active.len();
+    let transfers = schedule.state.transfer_count();
     if waiting == 0 && transfers == 0 {
         return Ok(false);
     }
-    turns.x = drawn(turns.x);
-    let candidate = picked(turns.x, waiting, transfers);
-    candidate_iteration(turns, alloc, limit, candidate)?;
+    schedule.x = drawn(schedule.x);
+    let candidate = picked(schedule.x, waiting, transfers);
+    candidate_iteration(schedule, alloc, limit, candidate)?;
     Ok(true)
 }

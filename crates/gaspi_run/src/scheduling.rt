@@ -103,21 +103,21 @@ pub fn schedule(
     settling();
     endings();
     runs();
-    let mut turns = ScheduleState {
+    let mut schedule = ScheduleState {
         x: seed,
         state: Machine::start(alloc, shape)?,
         active: starts(alloc, shape, scripts)?,
         ended: Sequence::new(alloc),
         journal: Sequence::new(alloc),
     };
-    while iterate(&mut turns, alloc, limit)? {}
+    while iterate(&mut schedule, alloc, limit)? {}
     let ScheduleState {
         x: _,
         state: _,
         active: _,
         ended: finished,
         journal,
-    } = turns;
+    } = schedule;
     prove!(journal_is_in_range(&journal));
     Ok(ScheduleResult {
         journal,
