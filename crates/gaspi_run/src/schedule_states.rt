@@ -1,4 +1,4 @@
-//! Turns of callers and of transfers on one thread.
+//! The schedule of callers and of transfers on one thread, iteration by iteration.
 
 use gaspi_types::{CallerId, Event, Sequence};
 use plain_machine::Machine;
