@@ -1,4 +1,4 @@
--- What comes of a call that a program makes: what it answers where nothing goes wrong, or all that was told. (own choice)
+-- What comes of a call that a program makes: what it answers where nothing goes wrong, or the whole answer. (own choice)
 use Rattle.std.specs.Prelude.{◌≡◌, ◌≢◌, ◌<◌, ◌⊎◌, ℕ, false, IsErrAnd, Result, Ok, Err}
 use Rattle.gaspi_types.specs.CallRows.{row_of}
 use Rattle.gaspi_types.specs.declared.calls.Call.{Call}
@@ -16,19 +16,19 @@ abbrev pub done : Unit {0} → Reply
 done answer = replies.Done
 
 module _ {R T : Type 0} (reply_of : T → Reply) (call : Call) (timeout : Timeout) where
-  -- the call was made, and told this; it was not out of memory where its row takes none
-  abbrev pub Tells : Caller R → Result Reply Stop → Caller R → Type 0
-  Tells c told d =
-      CallsBy c.rank.world.now call timeout c.rank.pass.now told d.rank.pass.now
-      × ((row_of call).takes_memory ≡ false → told ≢ Err stops.NoMemory)
+  -- the call was made, with this answer; it was not out of memory where its row takes none
+  abbrev pub HasAnswered : Caller R → Result Reply Stop → Caller R → Type 0
+  HasAnswered c answer d =
+      CallsBy c.rank.world.now call timeout c.rank.pass.now answer d.rank.pass.now
+      × ((row_of call).takes_memory ≡ false → answer ≢ Err stops.NoMemory)
 
-  -- The call was made. The result is a value where its reply has that value, and otherwise all that was told.
+  -- The call was made. The result is a value where its reply has that value, and otherwise the whole answer.
   abbrev pub Answers : Caller R → Result T Unexpected → Caller R → Type 0
-  Answers c (Ok value) d = Tells c (Ok (reply_of value)) d
-  Answers c (Err e) d = Tells c e.told d × ((value : T) → e.told ≢ Ok (reply_of value))
+  Answers c (Ok value) d = HasAnswered c (Ok (reply_of value)) d
+  Answers c (Err e) d = HasAnswered c e.answer d × ((value : T) → e.answer ≢ Ok (reply_of value))
 
   -- the call was made; or there was no memory for its list, which has an item, and nothing was called
-  abbrev pub AnswersOrLacks : ℕ → Caller R → Result T Unexpected → Caller R → Type 0
-  AnswersOrLacks items c result d =
+  abbrev pub AnswersOrRunsOut : ℕ → Caller R → Result T Unexpected → Caller R → Type 0
+  AnswersOrRunsOut items c result d =
       Answers c result d
-      ⊎ ((0 < items) × IsErrAnd result (λ e. e.told ≡ Err stops.NoMemory) × (d.rank.pass.now ≡ c.rank.pass.now))
+      ⊎ ((0 < items) × IsErrAnd result (λ e. e.answer ≡ Err stops.NoMemory) × (d.rank.pass.now ≡ c.rank.pass.now))

@@ -1,3 +1,3 @@
 pub mod Answers
 pub mod Callers
-pub mod Parts
+pub mod ThreadBodies

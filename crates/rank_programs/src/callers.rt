@@ -60,8 +60,8 @@ impl<'a, R: Wait> Caller<'a, R> {
         ensures stays { StaysCaller self.old self.new }
         ensures answers { Answers done call timeout self.old result self.new }
     {
-        let told = self.rank.call(self.rt, self.alloc, &call, timeout);
-        replies::done(name, told)
+        let answer = self.rank.call(self.rt, self.alloc, &call, timeout);
+        replies::done(name, answer)
     }
 
     /// Makes a call that is to answer a number.
@@ -76,8 +76,8 @@ impl<'a, R: Wait> Caller<'a, R> {
         ensures stays { StaysCaller self.old self.new }
         ensures answers { Answers replies.Value call timeout self.old result self.new }
     {
-        let told = self.rank.call(self.rt, self.alloc, &call, timeout);
-        replies::value(name, told)
+        let answer = self.rank.call(self.rt, self.alloc, &call, timeout);
+        replies::value(name, answer)
     }
 
     /// Makes a call that is to answer the number of something.
@@ -92,8 +92,8 @@ impl<'a, R: Wait> Caller<'a, R> {
         ensures stays { StaysCaller self.old self.new }
         ensures answers { Answers replies.Id call timeout self.old result self.new }
     {
-        let told = self.rank.call(self.rt, self.alloc, &call, timeout);
-        replies::id(name, told)
+        let answer = self.rank.call(self.rt, self.alloc, &call, timeout);
+        replies::id(name, answer)
     }
 
     /// Makes a call that is to answer bytes.
@@ -108,8 +108,8 @@ impl<'a, R: Wait> Caller<'a, R> {
         ensures stays { StaysCaller self.old self.new }
         ensures answers { Answers replies.Bytes call timeout self.old result self.new }
     {
-        let told = self.rank.call(self.rt, self.alloc, &call, timeout);
-        replies::bytes(name, told)
+        let answer = self.rank.call(self.rt, self.alloc, &call, timeout);
+        replies::bytes(name, answer)
     }
 
     /// Makes a call that is to answer ranks.
@@ -124,8 +124,8 @@ impl<'a, R: Wait> Caller<'a, R> {
         ensures stays { StaysCaller self.old self.new }
         ensures answers { Answers replies.Mask call timeout self.old result self.new }
     {
-        let told = self.rank.call(self.rt, self.alloc, &call, timeout);
-        replies::mask(name, told)
+        let answer = self.rank.call(self.rt, self.alloc, &call, timeout);
+        replies::mask(name, answer)
     }
 
     /// Makes a call that is to answer numbers.
@@ -140,7 +140,7 @@ impl<'a, R: Wait> Caller<'a, R> {
         ensures stays { StaysCaller self.old self.new }
         ensures answers { Answers replies.List call timeout self.old result self.new }
     {
-        let told = self.rank.call(self.rt, self.alloc, &call, timeout);
-        replies::numbers(name, told)
+        let answer = self.rank.call(self.rt, self.alloc, &call, timeout);
+        replies::numbers(name, answer)
     }
 }

@@ -6,13 +6,13 @@
 #![tactic(auto)]
 
 mod callers;
-mod parts;
 mod procedures;
 mod programs;
 mod replies;
 mod running;
+mod thread_bodies;
 
 pub use callers::Caller;
 pub use programs::Program;
 pub use replies::{Unexpected, bytes, done, id, mask, numbers, value};
-pub use running::{Ran, RunFault, run_program};
+pub use running::{ProgramResult, RunFault, run_program};

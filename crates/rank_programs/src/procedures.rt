@@ -1,7 +1,7 @@
 //! The procedures of a caller: each is one call, and gives what it answers where nothing goes wrong. (GASPI: the interface)
 //!
 //! The arguments come in GASPI's order. A procedure without a timeout looks once. One that is given a list copies it: `Unexpected`
-//! tells `Stop::NoMemory` where there is no memory for that, and nothing was called.
+//! answers `Stop::NoMemory` where there is no memory for that, and nothing was called.
 
 ghost use Rattle.std.specs.Prelude.{length};
 ghost use Rattle.gaspi_types.specs.NumberTypes.{AreInType};
@@ -9,7 +9,7 @@ ghost use Rattle.gaspi_types.specs.declared.calls.Call.TheVariants as calls;
 ghost use Rattle.gaspi_types.specs.declared.calls.Timeout.TheVariants.{Looks};
 ghost use Rattle.gaspi_types.specs.declared.replies.Reply.TheVariants as replies;
 ghost use Rattle.timeout_state.specs.Looks.{looks_of, HasLook};
-ghost use Rattle.rank_programs.specs.Answers.{done, Answers, AnswersOrLacks};
+ghost use Rattle.rank_programs.specs.Answers.{done, Answers, AnswersOrRunsOut};
 ghost use Rattle.rank_programs.specs.Callers.{IsCaller, StaysCaller};
 
 use crate::callers::Caller;
@@ -82,7 +82,7 @@ impl<'a, R: Wait> Caller<'a, R> {
     pub fn store(&mut self, seg: u64, offset: u64, bytes: &[u8]) -> Result<(), Unexpected>
         requires { IsCaller self.old }
         ensures stays { StaysCaller self.old self.new }
-        ensures answers { AnswersOrLacks done (calls.Store (record { seg = seg; offset = offset; bytes = bytes.now })) (Looks 1) (length bytes.now) self.old result self.new }
+        ensures answers { AnswersOrRunsOut done (calls.Store (record { seg = seg; offset = offset; bytes = bytes.now })) (Looks 1) (length bytes.now) self.old result self.new }
     {
         let Ok(bytes) = Sequence::copied_from(self.alloc, bytes) else {
             return Err(lacks("gaspi_store"));
@@ -208,7 +208,7 @@ impl<'a, R: Wait> Caller<'a, R> {
     pub fn write_list(&mut self, items: &[Item], rank: u64, queue: u64) -> Result<(), Unexpected>
         requires { IsCaller self.old }
         ensures stays { StaysCaller self.old self.new }
-        ensures answers { AnswersOrLacks done (calls.WriteList (record { rank = rank; queue = queue; items = items.now })) (Looks 1) (length items.now) self.old result self.new }
+        ensures answers { AnswersOrRunsOut done (calls.WriteList (record { rank = rank; queue = queue; items = items.now })) (Looks 1) (length items.now) self.old result self.new }
     {
         let Ok(items) = Sequence::copied_from(self.alloc, items) else {
             return Err(lacks("gaspi_write_list"));
@@ -229,7 +229,7 @@ impl<'a, R: Wait> Caller<'a, R> {
     ) -> Result<(), Unexpected>
         requires { IsCaller self.old }
         ensures stays { StaysCaller self.old self.new }
-        ensures answers { AnswersOrLacks done (calls.WriteListNotify (record { rank = rank; queue = queue; nseg = nseg; note = note; value = value; items = items.now })) (Looks 1) (length items.now) self.old result self.new }
+        ensures answers { AnswersOrRunsOut done (calls.WriteListNotify (record { rank = rank; queue = queue; nseg = nseg; note = note; value = value; items = items.now })) (Looks 1) (length items.now) self.old result self.new }
     {
         let Ok(items) = Sequence::copied_from(self.alloc, items) else {
             return Err(lacks("gaspi_write_list_notify"));
@@ -253,7 +253,7 @@ impl<'a, R: Wait> Caller<'a, R> {
     pub fn read_list(&mut self, items: &[Item], rank: u64, queue: u64) -> Result<(), Unexpected>
         requires { IsCaller self.old }
         ensures stays { StaysCaller self.old self.new }
-        ensures answers { AnswersOrLacks done (calls.ReadList (record { rank = rank; queue = queue; items = items.now })) (Looks 1) (length items.now) self.old result self.new }
+        ensures answers { AnswersOrRunsOut done (calls.ReadList (record { rank = rank; queue = queue; items = items.now })) (Looks 1) (length items.now) self.old result self.new }
     {
         let Ok(items) = Sequence::copied_from(self.alloc, items) else {
             return Err(lacks("gaspi_read_list"));
@@ -273,7 +273,7 @@ impl<'a, R: Wait> Caller<'a, R> {
     ) -> Result<(), Unexpected>
         requires { IsCaller self.old }
         ensures stays { StaysCaller self.old self.new }
-        ensures answers { AnswersOrLacks done (calls.ReadListNotify (record { rank = rank; queue = queue; nseg = nseg; note = note; items = items.now })) (Looks 1) (length items.now) self.old result self.new }
+        ensures answers { AnswersOrRunsOut done (calls.ReadListNotify (record { rank = rank; queue = queue; nseg = nseg; note = note; items = items.now })) (Looks 1) (length items.now) self.old result self.new }
     {
         let Ok(items) = Sequence::copied_from(self.alloc, items) else {
             return Err(lacks("gaspi_read_list_notify"));
@@ -510,7 +510,7 @@ impl<'a, R: Wait> Caller<'a, R> {
         requires timeout { HasLook (looks_of timeout) }
         requires range { AreInType num_type numbers.now }
         ensures stays { StaysCaller self.old self.new }
-        ensures answers { AnswersOrLacks replies.List (calls.Allreduce (record { group = group; op = op; values = record { num_type = num_type; items = numbers.now } })) timeout (length numbers.now) self.old result self.new }
+        ensures answers { AnswersOrRunsOut replies.List (calls.Allreduce (record { group = group; op = op; values = record { num_type = num_type; items = numbers.now } })) timeout (length numbers.now) self.old result self.new }
     {
         let Ok(items) = Sequence::copied_from(self.alloc, numbers) else {
             return Err(lacks("gaspi_allreduce"));

@@ -6,10 +6,10 @@ ghost use Rattle.gaspi_model.specs.Step.{is_legal};
 ghost use Rattle.gaspi_model.specs.ContributionCounts.{ContributesOnce};
 ghost use Rattle.gaspi_model.specs.Notifications.{HandsOutOnce};
 ghost use Rattle.transfer_worker.specs.Turns.{IsDrained};
-ghost use Rattle.rank_programs.specs.Parts.{EachAt, made_pass, AreCallersThere, NeedsOf, outcome_of, outcomes_in, HaveAllRun, IsPartOf, IsReady, HaveRun};
+ghost use Rattle.rank_programs.specs.ThreadBodies.{EachAt, made_pass, AreCallersThere, BodyNeeds, outcome_of, outcomes_in, HaveAllRun, IsBodyOf, IsReady, HaveRun};
 
-use crate::parts::Part;
 use crate::programs::Program;
+use crate::thread_bodies::ThreadBody;
 use gaspi_model::settling;
 use gaspi_texts::Journal;
 use gaspi_types::{NoMemory, Shape};
@@ -21,7 +21,7 @@ use thiserror::Error;
 
 /// What a run gave: the journal, and what the callers came to, by rank and thread.
 #[derive(Drop)]
-pub struct Ran<T> {
+pub struct ProgramResult<T> {
     pub journal: Journal,
     pub outcomes: Vec<T>,
 }
@@ -44,17 +44,21 @@ impl From<NoMemory> for RunFault {
 }
 
 /// What the thread with a pass does, where the passes of the callers stand first.
-fn part_of<'a, P: Program>(world: &World, program: &'a P, place: usize) -> Part<'a, P, P::Outcome>
-    ensures { IsPartOf world.now place result }
+fn body_of<'a, P: Program>(
+    world: &World,
+    program: &'a P,
+    place: usize,
+) -> ThreadBody<'a, P, P::Outcome>
+    ensures { IsBodyOf world.now place result }
 {
     let callers = world.shape().callers().len();
     if place < callers {
-        return Part::Caller {
+        return ThreadBody::Caller {
             program,
             outcome: None,
         };
     }
-    Part::Worker {
+    ThreadBody::Worker {
         turns: (place - callers) as u64,
     }
 }
@@ -65,11 +69,11 @@ fn task_of<'a, P: Program>(
     program: &'a P,
     pass: Pass,
     place: usize,
-) -> Task<Part<'a, P, P::Outcome>>
+) -> Task<ThreadBody<'a, P, P::Outcome>>
     requires { pass ≡ made_pass world.now place }
     ensures { IsReady world.now place result }
 {
-    let body = part_of(world, program, place);
+    let body = body_of(world, program, place);
     Task { body, pass }
 }
 
@@ -79,7 +83,7 @@ fn tasks_of<'a, P: Program>(
     world: &World,
     program: &'a P,
     passes: Passes,
-) -> Result<Vec<Task<Part<'a, P, P::Outcome>>>, NoMemory>
+) -> Result<Vec<Task<ThreadBody<'a, P, P::Outcome>>>, NoMemory>
     requires { EachAt (λ place pass. pass ≡ made_pass world.now place) passes.items }
     ensures ready { IfOk result (λ tasks. EachAt (IsReady world.now) tasks.items) }
     ensures count { IfOk result (λ tasks. length tasks.items ≡ length passes.items) }
@@ -97,11 +101,11 @@ fn run_slice<R: Threads + Wait + Sync, P: Program + Sync>(
     rt: &R,
     alloc: Global,
     world: &World,
-    tasks: &mut [Task<Part<'_, P, P::Outcome>>],
+    tasks: &mut [Task<ThreadBody<'_, P, P::Outcome>>],
 )
 where
     P::Outcome: Send,
-    requires { All (λ t. NeedsOf t.body world.now t.pass) tasks.old }
+    requires { All (λ t. BodyNeeds t.body world.now t.pass) tasks.old }
     ensures ran { HaveAllRun tasks.old tasks.new }
     ensures count { length tasks.new ≡ length tasks.old }
 {
@@ -113,31 +117,31 @@ fn run_tasks<R: Threads + Wait + Sync, P: Program + Sync>(
     rt: &R,
     alloc: Global,
     world: &World,
-    tasks: &mut Vec<Task<Part<'_, P, P::Outcome>>>,
+    tasks: &mut Vec<Task<ThreadBody<'_, P, P::Outcome>>>,
 )
 where
     P::Outcome: Send,
-    requires { All (λ t. NeedsOf t.body world.now t.pass) tasks.old.items }
+    requires { All (λ t. BodyNeeds t.body world.now t.pass) tasks.old.items }
     ensures ran { HaveAllRun tasks.old.items tasks.new.items }
     ensures count { length tasks.new.items ≡ length tasks.old.items }
 {
     run_slice(rt, alloc, world, tasks.as_mut_slice());
 }
 
-/// What the caller of a part came to, where it has run the program.
-fn outcome_of<P: Program>(part: Part<'_, P, P::Outcome>) -> Option<P::Outcome>
-    ensures { option_to_list result ≡ outcome_of part.entry }
+/// The outcome of the caller of a body that has run the program.
+fn outcome_of<P: Program>(body: ThreadBody<'_, P, P::Outcome>) -> Option<P::Outcome>
+    ensures { option_to_list result ≡ outcome_of body.entry }
 {
-    match part {
-        Part::Caller { outcome, .. } => outcome,
-        Part::Worker { .. } => None,
+    match body {
+        ThreadBody::Caller { outcome, .. } => outcome,
+        ThreadBody::Worker { .. } => None,
     }
 }
 
 /// The passes of the tasks, in their order, and what the callers came to.
 fn split<P: Program>(
     alloc: Global,
-    tasks: Vec<Task<Part<'_, P, P::Outcome>>>,
+    tasks: Vec<Task<ThreadBody<'_, P, P::Outcome>>>,
 ) -> Result<(Passes, Vec<P::Outcome>), NoMemory>
     ensures passes { IfOk result (λ split. split.0.items ≡ map (λ t. t.pass) tasks.entry.items) }
     ensures outcomes { IfOk result (λ split. split.1.items ≡ outcomes_in tasks.entry.items) }
@@ -154,7 +158,7 @@ fn split<P: Program>(
 }
 
 /// Runs the program for each caller, and workers, each on a thread of its own: the passes then, and what the callers came to.
-fn run_parts<R: Threads + Wait + Sync, P: Program + Sync>(
+fn run_bodies<R: Threads + Wait + Sync, P: Program + Sync>(
     rt: &R,
     alloc: Global,
     world: &World,
@@ -174,7 +178,7 @@ where
     split(alloc, tasks)
 }
 
-/// Ends a world whose parts have run, where these are all its passes.
+/// Ends a world whose bodies have run, where these are all its passes.
 fn closed(alloc: Global, world: World, passes: Passes) -> Result<Journal, RunFault>
     requires { HaveRun world passes.items }
     ensures legal { IfOk result (λ journal. is_legal world.start.shape journal ≡ true) }
@@ -201,7 +205,7 @@ pub fn run_program<R: Threads + Wait + Sync, P: Program + Sync>(
     shape: &Shape,
     program: &P,
     workers: u32,
-) -> Result<Ran<P::Outcome>, RunFault>
+) -> Result<ProgramResult<P::Outcome>, RunFault>
 where
     P::Outcome: Send,
     requires { (1 ≤ workers) × (workers ≤ 4) }
@@ -212,7 +216,7 @@ where
     ensures contributed { IfOk result (λ ran. ContributesOnce shape.now ran.journal) }
 {
     let Started { world, passes } = World::start(alloc, shape, workers)?;
-    let (passes, outcomes) = run_parts(rt, alloc, &world, program, passes)?;
+    let (passes, outcomes) = run_bodies(rt, alloc, &world, program, passes)?;
     let journal = closed(alloc, world, passes)?;
-    Ok(Ran { journal, outcomes })
+    Ok(ProgramResult { journal, outcomes })
 }

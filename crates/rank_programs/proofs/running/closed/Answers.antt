@@ -1,4 +1,4 @@
-use Rattle.rank_programs.proofs.RunParts.{run-drained}
+use Rattle.rank_programs.proofs.BodyRuns.{run-drained}
 use Rattle.rank_programs.proofs.running.closed.Goals as goal
 
 pub returns-in-Ok-clause-drained : goal.returns-in-Ok-clause-drained

@@ -3,14 +3,14 @@ use Rattle.gaspi_types.specs.World.{ShapeValue}
 use Rattle.gaspi_types.specs.declared.events.Event.{Event}
 use Rattle.commit_table.specs.Views.{new_pass}
 use Rattle.gaspi_world.specs.Callers.{IsPassOf}
-use Rattle.rank_programs.proofs.RunParts.{made-each}
+use Rattle.rank_programs.proofs.BodyRuns.{made-each}
 use Rattle.rank_programs.proofs.running.run_program.Goals as goal
 
-pub run_parts-requires-clause-passes : goal.run_parts-requires-clause-passes
-run_parts-requires-clause-passes g c κs within = made-each c.in_ok-world.field-0.world _ c.in_ok-world.field-0.passes.items c.in_ok-world.ensures.count c.in_ok-world.ensures.passes
+pub run_bodies-requires-clause-passes : goal.run_bodies-requires-clause-passes
+run_bodies-requires-clause-passes g c κs within = made-each c.in_ok-world.field-0.world _ c.in_ok-world.field-0.passes.items c.in_ok-world.ensures.count c.in_ok-world.ensures.passes
 
-pub run_parts-requires-clause-callers : goal.run_parts-requires-clause-callers
-run_parts-requires-clause-callers g c κs within = λ place less.
+pub run_bodies-requires-clause-callers : goal.run_bodies-requires-clause-callers
+run_bodies-requires-clause-callers g c κs within = λ place less.
     let world = c.in_ok-world.field-0.world in
     let start = c.in_ok-world.ensures.start in
     let same = ap (λ (w : ShapeValue). length w.callers) start in

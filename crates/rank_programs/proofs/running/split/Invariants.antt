@@ -1,5 +1,5 @@
 use Rattle.std.proofs.Common.{◌≡◌, ◌++◌, map}
-use Rattle.rank_programs.specs.Parts.{outcomes_in}
+use Rattle.rank_programs.specs.ThreadBodies.{outcomes_in}
 use Rattle.rank_programs.proofs.running.split.Given as goal
 
 abbrev pub invariant-loop-task : goal.invariant-loop-task

@@ -1,9 +1,9 @@
 use Rattle.std.proofs.Common.{◌≡◌, ℕ, ◌∷◌, ◌++◌, [], List, length, length-append, sym, ap, subst, arith}
 use Rattle.std.proofs.lemmas.Grind.{common_steps}
 use Rattle.gaspi_world.specs.declared.launching.Task.{Task}
-use Rattle.rank_programs.specs.Parts.{EachAt, IsReady}
-use Rattle.rank_programs.specs.declared.parts.Part.{Part}
-use Rattle.rank_programs.proofs.RunParts.{each-more, made-next}
+use Rattle.rank_programs.specs.ThreadBodies.{EachAt, IsReady}
+use Rattle.rank_programs.specs.declared.thread_bodies.ThreadBody.{ThreadBody}
+use Rattle.rank_programs.proofs.BodyRuns.{each-more, made-next}
 use Rattle.rank_programs.proofs.running.tasks_of.Goals as goal
 
 pub loop-pass-preserved : goal.loop-pass-preserved
@@ -15,7 +15,7 @@ loop-pass-preserved g c =
     let ready = subst (λ (n : ℕ). IsReady c.args.world.now n task) place c.task_of-task.ensures in
     let all = each-more (IsReady c.args.world.now) tasks task c.loop-pass.invariant.1 ready in (
       omega (arith, ap length more, length-append tasks (task ∷ []), length-append c.loop-pass.yielded (c.in-Some.pass ∷ []), c.loop-pass.invariant.0),
-      subst (λ (ts : List (Task (Part _ _))). EachAt (IsReady c.args.world.now) ts) (sym more) all,
+      subst (λ (ts : List (Task (ThreadBody _ _))). EachAt (IsReady c.args.world.now) ts) (sym more) all,
       grind (arith, common_steps),
     )
 

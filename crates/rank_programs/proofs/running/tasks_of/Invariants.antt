@@ -1,5 +1,5 @@
 use Rattle.std.proofs.Common.{◌≡◌, ◌++◌, length}
-use Rattle.rank_programs.specs.Parts.{EachAt, IsReady}
+use Rattle.rank_programs.specs.ThreadBodies.{EachAt, IsReady}
 use Rattle.rank_programs.proofs.running.tasks_of.Given as goal
 
 abbrev pub invariant-loop-pass : goal.invariant-loop-pass

@@ -10,8 +10,8 @@ use Rattle.gaspi_world.specs.Calling.{MayCall}
 use Rattle.gaspi_world.specs.declared.launching.Task.{Task}
 use Rattle.gaspi_world.specs.declared.starts.Start.{Start}
 use Rattle.transfer_worker.specs.Turns.{IsExtended, IsDrained}
-use Rattle.rank_programs.specs.declared.parts.Part.{Part}
-use Rattle.rank_programs.specs.declared.parts.Part.TheVariants.{Caller, Worker}
+use Rattle.rank_programs.specs.declared.thread_bodies.ThreadBody.{ThreadBody}
+use Rattle.rank_programs.specs.declared.thread_bodies.ThreadBody.TheVariants.{Caller, Worker}
 
 -- a fact of each item of a list and its place
 abbrev pub EachAt : {A : Type 0} → (ℕ → A → Type 0) → List A → Type 0
@@ -33,49 +33,49 @@ pub record HasWorked (p q : PassValue Start Event) : Type 0 where
   pub none_left : (start : Start) → p.known.start ≡ Some start → IsDrained start.shape q.known.seen
 
 module _ {P T : Type 0} where
-  -- what a part needs of its pass: it is that of a caller, or of a worker
-  abbrev pub NeedsOf : Part P T → TableValue Start → PassValue Start Event → Type 0
-  NeedsOf (Caller program outcome) world pass = MayCall world pass
-  NeedsOf (Worker turns) world pass = IsOf world pass × HoldsNone pass.known × IsWorkers world.start.shape pass.known
+  -- what a body needs of its pass: it is that of a caller, or of a worker
+  abbrev pub BodyNeeds : ThreadBody P T → TableValue Start → PassValue Start Event → Type 0
+  BodyNeeds (Caller program outcome) world pass = MayCall world pass
+  BodyNeeds (Worker turns) world pass = IsOf world pass × HoldsNone pass.known × IsWorkers world.start.shape pass.known
 
-  -- what the caller of a part came to, where it has run the program
-  abbrev pub outcome_of : Part P T → List T
+  -- the outcome of the caller of a body that has run the program
+  abbrev pub outcome_of : ThreadBody P T → List T
   outcome_of (Caller program None) = []
   outcome_of (Caller program (Some outcome)) = outcome ∷ []
   outcome_of (Worker turns) = []
 
   -- what the callers came to, in the order of the tasks
-  abbrev pub outcomes_in : List (Task (Part P T)) → List T
-  outcomes_in tasks = flat_map (λ (task : Task (Part P T)). outcome_of task.body) tasks
+  abbrev pub outcomes_in : List (Task (ThreadBody P T)) → List T
+  outcomes_in tasks = flat_map (λ (task : Task (ThreadBody P T)). outcome_of task.body) tasks
 
-  -- what a part makes of itself and of its pass: a caller's has come to something, and the caller may make calls still; a worker's has
+  -- how a body leaves itself and its pass: a caller's has an outcome, and the caller may still make calls; a worker's has
   -- made all transfers
-  abbrev pub DidOf : Part P T → PassValue Start Event → Part P T → PassValue Start Event → Type 0
-  DidOf (Caller program outcome) p next q = (length (outcome_of next) ≡ 1) × ((world : TableValue Start) → MayCall world p → MayCall world q)
-  DidOf (Worker turns) p next q = (length (outcome_of next) ≡ 0) × HasWorked p q
+  abbrev pub BodyDid : ThreadBody P T → PassValue Start Event → ThreadBody P T → PassValue Start Event → Type 0
+  BodyDid (Caller program outcome) p next q = (length (outcome_of next) ≡ 1) × ((world : TableValue Start) → MayCall world p → MayCall world q)
+  BodyDid (Worker turns) p next q = (length (outcome_of next) ≡ 0) × HasWorked p q
 
-  -- each part has run with its pass: it is what a part at its place made of itself and of its pass
-  abbrev pub HaveAllRun : List (Task (Part P T)) → List (Task (Part P T)) → Type 0
-  HaveAllRun old new = EachAt (λ place task. (before : Task (Part P T)) × (slice_get old place ≡ Some before) × DidOf before.body before.pass task.body task.pass) new
+  -- each body has run with its pass: it is as a body at its place leaves itself and its pass
+  abbrev pub HaveAllRun : List (Task (ThreadBody P T)) → List (Task (ThreadBody P T)) → Type 0
+  HaveAllRun old new = EachAt (λ place task. (before : Task (ThreadBody P T)) × (slice_get old place ≡ Some before) × BodyDid before.body before.pass task.body task.pass) new
 
 module _ {P T : Type 0} (world : TableValue Start) where
-  -- the parts of callers stand first
-  abbrev pub IsPartOf : ℕ → Part P T → Type 0
-  IsPartOf place (Caller program outcome) = place < length world.start.shape.callers
-  IsPartOf place (Worker turns) = length world.start.shape.callers ≤ place
+  -- the bodies of callers stand first
+  abbrev pub IsBodyOf : ℕ → ThreadBody P T → Type 0
+  IsBodyOf place (Caller program outcome) = place < length world.start.shape.callers
+  IsBodyOf place (Worker turns) = length world.start.shape.callers ≤ place
 
-  -- a part and its pass, before it runs
-  abbrev pub IsReady : ℕ → Task (Part P T) → Type 0
-  IsReady place task = (task.pass ≡ made_pass world place) × IsPartOf place task.body
+  -- a body and its pass, before it runs
+  abbrev pub IsReady : ℕ → Task (ThreadBody P T) → Type 0
+  IsReady place task = (task.pass ≡ made_pass world place) × IsBodyOf place task.body
 
 module _ (world : TableValue Start) where
-  -- A part has run. Its pass is still one of its world and holds no shard, and a worker's has left no transfer.
+  -- A body has run. Its pass is still one of its world and holds no shard, and a worker's has left no transfer.
   pub record HasRunPass (place : ℕ) (p : PassValue Start Event) : Type 0 where
     pub of_table : IsOf world p
     pub free : HoldsNone p.known
     pub none_left : length world.start.shape.callers ≤ place → IsDrained world.start.shape p.known.seen
 
-  -- All parts of a world have run, a worker's among them.
+  -- All bodies of a world have run, a worker's among them.
   pub record HaveRun (passes : List (PassValue Start Event)) : Type 0 where
     pub each : EachAt HasRunPass passes
     pub worker : length world.start.shape.callers < length passes

@@ -1,4 +1,4 @@
--- What parts need before they run, and what is known of their passes then.
+-- What bodies need before they run, and what is known of their passes then.
 use Rattle.std.proofs.Common.{◌≡◌, ℕ, zero, suc, ◌<◌, ◌≤◌, List, [], ◌∷◌, ◌++◌, length, length-append, take, map, get_or, Some, Option, Result, Ok, Err, IfOk, true, refl, sym, ap, ◌∙◌, subst, arith}
 use Rattle.std.specs.List.{All, slice_get}
 use Rattle.std.proofs.lemmas.List.{length-map}
@@ -18,9 +18,9 @@ use Rattle.gaspi_world.specs.Closing.{HaveSeen}
 use Rattle.gaspi_world.specs.declared.launching.Task.{Task}
 use Rattle.gaspi_world.specs.declared.starts.Start.{Start}
 use Rattle.transfer_worker.specs.Turns.{IsDrained}
-use Rattle.rank_programs.specs.Parts.{EachAt, made_pass, AreCallersThere, NeedsOf, outcome_of, outcomes_in, DidOf, HaveAllRun, IsPartOf, IsReady, HasRunPass, HaveRun}
-use Rattle.rank_programs.specs.declared.parts.Part.{Part}
-use Rattle.rank_programs.specs.declared.parts.Part.TheVariants.{Caller, Worker}
+use Rattle.rank_programs.specs.ThreadBodies.{EachAt, made_pass, AreCallersThere, BodyNeeds, outcome_of, outcomes_in, BodyDid, HaveAllRun, IsBodyOf, IsReady, HasRunPass, HaveRun}
+use Rattle.rank_programs.specs.declared.thread_bodies.ThreadBody.{ThreadBody}
+use Rattle.rank_programs.specs.declared.thread_bodies.ThreadBody.TheVariants.{Caller, Worker}
 
 -- a fact of each item of a list and its place, and of one more
 pub each-more : {A : Type 0} (Is : ℕ → A → Type 0) (xs : List A) (x : A) → EachAt Is xs → Is (length xs) x → EachAt Is (xs ++ x ∷ [])
@@ -58,7 +58,7 @@ if_ok-more Is More (Ok a) more is = more a is
 if_ok-more Is More (Err e) more is = is
 
 -- the first of tasks have one outcome each, and the others none
-outcomes-many : {P T : Type 0} (n : ℕ) (tasks : List (Task (Part P T))) → n ≤ length tasks
+outcomes-many : {P T : Type 0} (n : ℕ) (tasks : List (Task (ThreadBody P T))) → n ≤ length tasks
     → EachAt (λ place t. (place < n → length (outcome_of t.body) ≡ 1) × (n ≤ place → length (outcome_of t.body) ≡ 0)) tasks → length (outcomes_in tasks) ≡ n
 outcomes-many zero [] less each = refl
 outcomes-many (suc n) [] less each = absurd (omega arith)
@@ -74,52 +74,52 @@ outcomes-many {P} {T} (suc n) (t ∷ tasks) less each =
     omega (arith, rest, one, whole)
 
 module _ {P T : Type 0} (world : TableValue Start) (there : AreCallersThere world) where
-  needs-made : (place : ℕ) (part : Part P T) → IsPartOf world place part → NeedsOf part world (made_pass world place)
+  needs-made : (place : ℕ) (body : ThreadBody P T) → IsBodyOf world place body → BodyNeeds body world (made_pass world place)
   needs-made place (Caller program outcome) is = ((refl, refl), (λ i. refl), there place is)
   needs-made place (Worker turns) is = ((refl, refl), (λ i. refl), (place, refl, is))
 
-  needs : (place : ℕ) (task : Task (Part P T)) → IsReady world place task → NeedsOf task.body world task.pass
-  needs place task ready = subst (NeedsOf task.body world) (sym ready.0) (needs-made place task.body ready.1)
+  needs : (place : ℕ) (task : Task (ThreadBody P T)) → IsReady world place task → BodyNeeds task.body world task.pass
+  needs place task ready = subst (BodyNeeds task.body world) (sym ready.0) (needs-made place task.body ready.1)
 
-  pub all-need : (tasks : List (Task (Part P T))) → EachAt (IsReady world) tasks → All (λ (t : Task (Part P T)). NeedsOf t.body world t.pass) tasks
+  pub all-need : (tasks : List (Task (ThreadBody P T))) → EachAt (IsReady world) tasks → All (λ (t : Task (ThreadBody P T)). BodyNeeds t.body world t.pass) tasks
   all-need tasks ready = λ k d less. needs k (get_or tasks k d) (ready k (get_or tasks k d) (slice_get-get_or tasks k d less))
 
-  ran-made : (place : ℕ) (part next : Part P T) (q : PassValue Start Event) → IsPartOf world place part → DidOf part (made_pass world place) next q → HasRunPass world place q
+  ran-made : (place : ℕ) (body next : ThreadBody P T) (q : PassValue Start Event) → IsBodyOf world place body → BodyDid body (made_pass world place) next q → HasRunPass world place q
   ran-made place (Caller program outcome) next q is did =
       let may = did.1 world (needs-made place (Caller program outcome) is) in
       record { of_table = may.0; free = may.1; none_left = λ behind. absurd (omega arith) }
   ran-made place (Worker turns) next q is did = record { of_table = (did.1.table, did.1.goes_on.start); free = did.1.free; none_left = λ behind. did.1.none_left world.start refl }
 
-  ran : (place : ℕ) (task next : Task (Part P T)) → IsReady world place task → DidOf task.body task.pass next.body next.pass → HasRunPass world place next.pass
+  ran : (place : ℕ) (task next : Task (ThreadBody P T)) → IsReady world place task → BodyDid task.body task.pass next.body next.pass → HasRunPass world place next.pass
   ran place task next ready did =
-      ran-made place task.body next.body next.pass ready.1 (subst (λ (p : PassValue Start Event). DidOf task.body p next.body next.pass) ready.0 did)
+      ran-made place task.body next.body next.pass ready.1 (subst (λ (p : PassValue Start Event). BodyDid task.body p next.body next.pass) ready.0 did)
 
   -- what is known of the passes of tasks that have run
-  pub have-run : (old new : List (Task (Part P T))) (passes : List (PassValue Start Event)) → EachAt (IsReady world) old → HaveAllRun old new → passes ≡ map (λ (t : Task (Part P T)). t.pass) new
+  pub have-run : (old new : List (Task (ThreadBody P T))) (passes : List (PassValue Start Event)) → EachAt (IsReady world) old → HaveAllRun old new → passes ≡ map (λ (t : Task (ThreadBody P T)). t.pass) new
       → length new ≡ length old → length world.start.shape.callers < length old → HaveRun world passes
   have-run old new passes ready all are count more = record { each = each; worker = worker }
     where
       each : EachAt (HasRunPass world) passes
       each place p at =
-          let from = map-at (λ (t : Task (Part P T)). t.pass) new place p (subst (λ (ps : List (PassValue Start Event)). slice_get ps place ≡ Some p) are at) in
+          let from = map-at (λ (t : Task (ThreadBody P T)). t.pass) new place p (subst (λ (ps : List (PassValue Start Event)). slice_get ps place ≡ Some p) are at) in
           let did = all place from.0 from.1 in
           subst (HasRunPass world place) (sym from.2) (ran place did.0 from.0 (ready place did.0 did.1) did.2)
 
       worker : length world.start.shape.callers < length passes
-      worker = (let same = ap length are in let many = length-map new (λ (t : Task (Part P T)). t.pass) in omega (arith, same, many, count, more))
+      worker = (let same = ap length are in let many = length-map new (λ (t : Task (ThreadBody P T)). t.pass) in omega (arith, same, many, count, more))
 
   -- how many outcomes a task has that has run
-  outcome-many : (place : ℕ) (task next : Task (Part P T)) → IsReady world place task → DidOf task.body task.pass next.body next.pass
+  outcome-many : (place : ℕ) (task next : Task (ThreadBody P T)) → IsReady world place task → BodyDid task.body task.pass next.body next.pass
       → (place < length world.start.shape.callers → length (outcome_of next.body) ≡ 1) × (length world.start.shape.callers ≤ place → length (outcome_of next.body) ≡ 0)
   outcome-many place task next ready did = go task.body ready.1 did
     where
-      go : (part : Part P T) → IsPartOf world place part → DidOf part task.pass next.body next.pass
+      go : (body : ThreadBody P T) → IsBodyOf world place body → BodyDid body task.pass next.body next.pass
           → (place < length world.start.shape.callers → length (outcome_of next.body) ≡ 1) × (length world.start.shape.callers ≤ place → length (outcome_of next.body) ≡ 0)
       go (Caller program outcome) is did = ((λ less. did.0), (λ behind. absurd (omega arith)))
       go (Worker turns) is did = ((λ less. absurd (omega arith)), (λ behind. did.0))
 
   -- each caller has come to something
-  pub outcomes-all : (old new : List (Task (Part P T))) → EachAt (IsReady world) old → HaveAllRun old new → length new ≡ length old → length world.start.shape.callers < length old
+  pub outcomes-all : (old new : List (Task (ThreadBody P T))) → EachAt (IsReady world) old → HaveAllRun old new → length new ≡ length old → length world.start.shape.callers < length old
       → length (outcomes_in new) ≡ length world.start.shape.callers
   outcomes-all old new ready all count more =
       outcomes-many (length world.start.shape.callers) new (omega (arith, count, more))
@@ -129,10 +129,10 @@ module _ {P T : Type 0} (world : TableValue Start) (there : AreCallersThere worl
 pub drained-later : ((s t : State) (events : List Event) → IsSettled s → after s events ≡ Ok t → IsSettled t) → (w : ShapeValue) (seen journal : List Event) → is_legal w journal ≡ true → IsPrefix seen journal → IsDrained w seen → IsDrained w journal
 drained-later stays w seen journal legal more drained =
     let all = leads (reached w journal) legal in
-    let parts = after-both (opening w) all.0 seen more.0 (ap (reached w) more.1 ∙ all.1) in
-    let same : ◌≡◌ {A = Result State _} (Ok drained.0) (Ok parts.0) = sym drained.1 ∙ parts.1 in
-    let is : drained.0 ≡ parts.0 = cc in
-    (all.0, all.1, stays parts.0 all.0 more.0 (subst IsSettled is drained.2) parts.2)
+    let bodies = after-both (opening w) all.0 seen more.0 (ap (reached w) more.1 ∙ all.1) in
+    let same : ◌≡◌ {A = Result State _} (Ok drained.0) (Ok bodies.0) = sym drained.1 ∙ bodies.1 in
+    let is : drained.0 ≡ bodies.0 = cc in
+    (all.0, all.1, stays bodies.0 all.0 more.0 (subst IsSettled is drained.2) bodies.2)
 
 -- a worker has left no transfer, so none is left in the journal
 pub run-drained : ((s t : State) (events : List Event) → IsSettled s → after s events ≡ Ok t → IsSettled t) → (world : TableValue Start) (passes : List (PassValue Start Event)) (journal : List Event) → HaveRun world passes

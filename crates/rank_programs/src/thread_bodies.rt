@@ -16,7 +16,7 @@ use transfer_worker::Worker;
 
 /// What a thread of a world does.
 #[derive(Drop)]
-pub(crate) enum Part<'a, P, T> {
+pub(crate) enum ThreadBody<'a, P, T> {
     /// It runs the program for a caller, which comes to this once it has.
     Caller { program: &'a P, outcome: Option<T> },
     /// It makes transfers until none is left. Its first turn begins at the rank of that number.
@@ -54,20 +54,20 @@ fn drain<R: Wait>(rt: &R, world: &World, pass: &mut Pass, turns: u64)
     Worker { world, pass, turns }.drain(rt);
 }
 
-impl<'a, P: Program> Body for Part<'a, P, P::Outcome> {
-    ghost use Rattle.rank_programs.specs.Parts.{NeedsOf, DidOf};
+impl<'a, P: Program> Body for ThreadBody<'a, P, P::Outcome> {
+    ghost use Rattle.rank_programs.specs.ThreadBodies.{BodyNeeds, BodyDid};
 
-    ghost needs = { NeedsOf };
+    ghost needs = { BodyNeeds };
 
-    ghost did = { DidOf };
+    ghost did = { BodyDid };
 
     /// Runs the program, or makes the transfers.
     fn run<R: Wait>(&mut self, rt: &R, alloc: Global, world: &World, pass: &mut Pass) {
         match self {
-            Part::Caller { program, outcome } => {
+            ThreadBody::Caller { program, outcome } => {
                 *outcome = Some(run_caller(rt, alloc, world, pass, *program));
             }
-            Part::Worker { turns } => drain(rt, world, pass, *turns),
+            ThreadBody::Worker { turns } => drain(rt, world, pass, *turns),
         }
     }
 }

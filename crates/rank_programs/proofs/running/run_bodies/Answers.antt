@@ -1,7 +1,7 @@
 use Rattle.std.proofs.Common.{◌≡◌, length, map, ap, ◌∙◌, arith}
-use Rattle.rank_programs.specs.Parts.{HaveRun, outcomes_in}
-use Rattle.rank_programs.proofs.RunParts.{all-need, have-run, outcomes-all, if_ok-more}
-use Rattle.rank_programs.proofs.running.run_parts.Goals as goal
+use Rattle.rank_programs.specs.ThreadBodies.{HaveRun, outcomes_in}
+use Rattle.rank_programs.proofs.BodyRuns.{all-need, have-run, outcomes-all, if_ok-more}
+use Rattle.rank_programs.proofs.running.run_bodies.Goals as goal
 
 pub run_tasks-requires-after_bounds : goal.run_tasks-requires-after_bounds
 run_tasks-requires-after_bounds g c κs within = all-need c.args.world.now c.requires.callers c.in_ok-tasks.tasks.items c.in_ok-tasks.ensures.ready
