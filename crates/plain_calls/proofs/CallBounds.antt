@@ -143,7 +143,7 @@ posting_room limits me posts memory thread call reply kinds (Some posting) is as
 plain_room : (limits : Limits) (me : ℕ) (posts : Posts) (memory : Memory) (thread : ℕ) (call : Call) (reply : Reply)
     → are_limits limits ≡ true → IsSoundPosts limits posts → IsFound limits me posts memory thread call reply → PlainCallIsBounded posts call
 plain_room limits me posts memory thread (Alloc call) reply limited sound f = alloc_room limits posts call f.reply_found limited sound f.finds
-plain_room limits me posts memory thread GroupCreate reply limited sound f = let few = sound.groups.last_id in grind (arith, nat_tests)
+plain_room limits me posts memory thread GroupCreate reply limited sound f = let few = sound.groups.made in grind (arith, nat_tests)
 plain_room limits me posts memory thread (GroupAdd call) reply limited sound f =
     let ok_or = add-found limits posts call f.reply_found f.finds in
     let ranked = ok_or.ranked in

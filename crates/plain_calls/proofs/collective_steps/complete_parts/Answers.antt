@@ -3,7 +3,7 @@ use Rattle.gaspi_model.specs.CollectiveCalls.{with_pending, completed_posts}
 use Rattle.gaspi_model.specs.declared.states.Posts.{Posts}
 use Rattle.plain_calls.proofs.Completed.{completed-even}
 use Rattle.plain_calls.proofs.collective_steps.complete_parts.Goals as goal
-use Rattle.plain_calls.proofs.collective_steps.complete_parts.Goals.{then-not-is_idle, else-not-is_idle}
+use Rattle.plain_calls.proofs.collective_steps.complete_parts.Goals.{then-not-is_refused_or_timeout, else-not-is_refused_or_timeout}
 
 pub overflow_add-posts : goal.overflow_add-posts
 overflow_add-posts c =
