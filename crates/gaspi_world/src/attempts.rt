@@ -9,6 +9,7 @@ ghost use Rattle.gaspi_model.specs.Calls.{recorded_reply};
 ghost use Rattle.gaspi_model.specs.CollectiveCalls.{is_joining, join_event};
 ghost use Rattle.commit_table.specs.Calls.{IsOf, HoldsNone};
 ghost use Rattle.rank_node.specs.Rooms.{IsRecordRoom, IsRoomFor, FitsReserved};
+ghost use Rattle.timeout_state.specs.declared.budget.Look.{Look};
 ghost use Rattle.gaspi_world.specs.Attempts.{Attempted};
 ghost use Rattle.gaspi_world.specs.Callers.{IsPassOf};
 ghost use Rattle.gaspi_world.specs.HeldShards.{Holds, IsCommitted};
@@ -96,6 +97,36 @@ fn record_with(
     told
 }
 
+/// Records a call as it was found, and commits it. All memory is taken before anything changes, into a room that stays in its place: it
+/// is large.
+fn record_found(
+    table: &CommitTable<Start>,
+    pass: &mut Pass,
+    alloc: Global,
+    held: &mut HeldShards,
+    invocation: &Invocation<'_>,
+    found: Ready,
+) -> Result<Reply, Halt>
+    requires world { IsShape table.now.start.shape }
+    requires holder { IsHolder table.now invocation.now.caller invocation.now.call.now held.old pass.old }
+    requires found { MayRecord table.now.start.shape invocation.now.caller invocation.now.call.now found pass.old.known.seen }
+    requires fits { FitsMemory table.now.start.shape invocation.now.caller invocation.now.call.now found held.old }
+    ensures table { pass.new.table ≡ pass.old.table }
+    ensures held { Holds table.now.start.shape held.new pass.new.known }
+    ensures recorded { (look : Look) → waits_for_later_look found look ≡ false
+        → IsDecided table.now.start.shape invocation.now.caller invocation.now.call.now found look pass.old.known result pass.new.known }
+    ensures ample { (row_of invocation.now.call.now).takes_memory ≡ false → result ≢ Err halts.NoMemory }
+{
+    let mut reserved = held.nodes.room(alloc, invocation);
+    let Ok(room) = &mut reserved else {
+        return Err(Halt::NoMemory);
+    };
+    let Ok(call) = invocation.call.copy(alloc) else {
+        return Err(Halt::NoMemory);
+    };
+    Ok(record_with(table, pass, held, invocation, call, found, room))
+}
+
 /// Records a call as it was found, and commits it; or leaves it for another look, where it is not ready and there may be one. All memory
 /// is taken before anything changes.
 fn decide(
@@ -119,13 +150,7 @@ fn decide(
     if is_early(&found, look) {
         return Err(Halt::NotYet);
     }
-    let Ok(mut room) = held.nodes.room(alloc, invocation) else {
-        return Err(Halt::NoMemory);
-    };
-    let Ok(call) = invocation.call.copy(alloc) else {
-        return Err(Halt::NoMemory);
-    };
-    Ok(record_with(table, pass, held, invocation, call, found, &mut room))
+    record_found(table, pass, alloc, held, invocation, found)
 }
 
 /// The number of the group that a collective names.
@@ -188,17 +213,18 @@ fn join_first(
     ensures worked { AttemptedWhileHeld table.now.start.shape invocation.now.caller invocation.now.call.now look pass.old.known result pass.new.known }
     ensures ample { (row_of invocation.now.call.now).takes_memory ≡ false → result ≢ Err halts.NoMemory }
 {
-    let Ok(mut room) = held.nodes.room(alloc, invocation) else {
+    let mut reserved = held.nodes.room(alloc, invocation);
+    let Ok(room) = &mut reserved else {
         return Err(Halt::NoMemory);
     };
     let Ok(call) = invocation.call.copy(alloc) else {
         return Err(Halt::NoMemory);
     };
-    let found = join(table, pass, held, invocation, &call, args, &mut room);
+    let found = join(table, pass, held, invocation, &call, args, room);
     if is_early(&found, look) {
         return Err(Halt::NotYet);
     }
-    Ok(record_with(table, pass, held, invocation, call, found, &mut room))
+    Ok(record_with(table, pass, held, invocation, call, found, room))
 }
 
 /// Whether the caller's rank has no room for the events that a call needs. (own choice)

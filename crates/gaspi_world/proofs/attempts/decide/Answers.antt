@@ -1,18 +1,5 @@
-use Rattle.std.proofs.Common.{sym, ◌∙◌, subst}
-use Rattle.gaspi_types.specs.declared.calls.Call.{Call}
-use Rattle.gaspi_types.specs.declared.events.Event.TheVariants.{Called}
-use Rattle.gaspi_world.specs.HeldShards.{IsCommitted}
-use Rattle.gaspi_world.proofs.AttemptedCalls.{lent-call}
+use Rattle.std.proofs.Common.{sym, ◌∙◌}
 use Rattle.gaspi_world.proofs.attempts.decide.Goals as goal
 
-pub room-requires : goal.room-requires
-room-requires c =
-    let on = c.requires.holder in
-    record { lent = lent-call c.args.table.now.start.shape c.requires.world c.args.invocation.now.caller c.args.invocation.now.call.now c.args.held.now c.args.pass.now.known on.held on.own on.other }
-
 pub returns-clause-settled : goal.returns-clause-settled
-returns-clause-settled c = (
-  c.record_with.ensures.reply,
-  sym c.is_early.ensures ∙ c.if-is_early.false,
-  subst (λ (x : Call). IsCommitted c.args.table.now.start.shape c.args.pass.now.known (Called c.args.invocation.now.caller x c.record_with.result) c.record_with.new.pass.known) c.in-Ok-copy.ensures.ok c.record_with.ensures.added,
-)
+returns-clause-settled c = c.record_found.ensures.recorded c.args.look (sym c.is_early.ensures ∙ c.if-is_early.false)
