@@ -99,7 +99,7 @@ together-in s me id posts g sound hp hg =
     let limit = few-events s.limits sound.limits in
     let room = mine.room in
     let ranks = sound.ranks in
-    let parts = group.contributions in
+    let parts = group.parts in
     record {
       few = (omega arith);
       ranked = (omega arith);

@@ -3,7 +3,7 @@
 ghost use Rattle.std.specs.Prelude.{◌≡◌, ◌≤◌, true, length, Option, None, Some, IfSome};
 ghost use Rattle.gaspi_types.specs.Tables.{item_at};
 ghost use Rattle.gaspi_types.specs.declared.events.Event.TheVariants.{Joined};
-ghost use Rattle.collective_engine.specs.Slots.{HasItsValues};
+ghost use Rattle.collective_engine.specs.KeptContributions.{HasItsValues};
 ghost use Rattle.collective_engine.specs.RoundBuffers.{may_join};
 ghost use Rattle.gaspi_model.specs.CollectiveCalls.{joined_posts, joining_call, contribution_of, made_generation, made_posts, made_memory};
 ghost use Rattle.gaspi_model.specs.declared.states.State.{State};

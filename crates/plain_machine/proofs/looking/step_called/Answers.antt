@@ -36,7 +36,7 @@ event_charge-charge-requires c =
     (declared_there (state_in c.args.ranks.now c.args.memories.now) c.args.invocation.now.caller.rank c.args.invocation.now.caller.thread (sym (c.has_section.ensures c.args.memories.now) ∙ c.if-not-has_section.false)).within
 
 pub has_room-requires-clause-whole : goal.has_room-requires-clause-whole
-has_room-requires-clause-whole c = (c.args.memories.now, record { sound = c.requires.sound; fitting = c.requires.fitting; used = c.requires.taken })
+has_room-requires-clause-whole c = (c.args.memories.now, record { sound = c.requires.sound; fitting = c.requires.fitting; used = c.requires.used })
 
 pub has_room-requires-clause-there : goal.has_room-requires-clause-there
 has_room-requires-clause-there c =

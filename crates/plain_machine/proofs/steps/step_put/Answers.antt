@@ -38,7 +38,7 @@ returns-in-Ok-put_at-clause-taken c =
     let old = state_in c.args.ranks.now c.args.memories.now in
     let new = state_in (record c.args.ranks.now { posts = slice_set c.args.ranks.now.posts c.index-rank.result c.set_put.new.posts }) c.put_at.new.memories in
     let made = subst (λ (e : Event). step old e ≡ Ok new) (returns-in-Ok-put_at-clause-outcome c) (returns-in-Ok-put_at-clause-step c) in
-    c.requires.taken ∙ sym (put_keeps_used old new c.args.id.now.origin c.args.id.now.queue c.args.id.now.target c.args.number c.in-Ok-put_at.outcome made)
+    c.requires.used ∙ sym (put_keeps_used old new c.args.id.now.origin c.args.id.now.queue c.args.id.now.target c.args.number c.in-Ok-put_at.outcome made)
 
 pub returns-in-Err-put_at-clause-step : goal.returns-in-Err-put_at-clause-step
 returns-in-Err-put_at-clause-step c =

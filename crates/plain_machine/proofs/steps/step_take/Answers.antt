@@ -36,7 +36,7 @@ returns-in-Ok-take_bytes-clause-step c =
     c.accessed_memory-memory.ensures
     ∙ ap (memory_at c.args.memories.now c.args.id.now.origin) (c.footprint-footprint.ensures ∙ ap (footprint_of c.args.ranks.now.limits.ranks c.args.id.now.origin) c.take_footprint.ensures) in
     rw c.index-rank.ensures.value
-    (take_done (state_in c.args.ranks.now c.args.memories.now) c.args.id.now c.args.number c.args.given c.at_mut.result.now c.set_take.new.posts (found_at c.in-Ok.at) c.accessed_memory-memory.result.now c.in-Ok-take_bytes.used
+    (take_done (state_in c.args.ranks.now c.args.memories.now) c.args.id.now c.args.number c.args.given c.at_mut.result.now c.set_take.new.posts (found_at c.in-Ok.at) c.accessed_memory-memory.result.now c.in-Ok-take_bytes.taken
     c.requires.sound.memories there found memory c.in-Ok-take_bytes.ensures.outcome c.in-Ok-take_bytes.ensures.bytes c.set_take.ensures)
 
 pub returns-in-Ok-take_bytes-clause-taken : goal.returns-in-Ok-take_bytes-clause-taken
