@@ -97,8 +97,7 @@ fn record_with(
     told
 }
 
-/// Records a call as it was found, and commits it. All memory is taken before anything changes, into a room that stays in its place: it
-/// is large.
+/// Records a call as it was found, and commits it. All memory is taken before anything changes.
 fn record_found(
     table: &CommitTable<Start>,
     pass: &mut Pass,
@@ -117,14 +116,13 @@ fn record_found(
         → IsDecided table.now.start.shape invocation.now.caller invocation.now.call.now found look pass.old.known result pass.new.known }
     ensures ample { (row_of invocation.now.call.now).takes_memory ≡ false → result ≢ Err halts.NoMemory }
 {
-    let mut reserved = held.nodes.room(alloc, invocation);
-    let Ok(room) = &mut reserved else {
+    let Ok(mut room) = held.nodes.room(alloc, invocation) else {
         return Err(Halt::NoMemory);
     };
     let Ok(call) = invocation.call.copy(alloc) else {
         return Err(Halt::NoMemory);
     };
-    Ok(record_with(table, pass, held, invocation, call, found, room))
+    Ok(record_with(table, pass, held, invocation, call, found, &mut room))
 }
 
 /// Records a call as it was found, and commits it; or leaves it for another look, where it is not ready and there may be one. All memory
@@ -213,18 +211,17 @@ fn join_first(
     ensures worked { AttemptedWhileHeld table.now.start.shape invocation.now.caller invocation.now.call.now look pass.old.known result pass.new.known }
     ensures ample { (row_of invocation.now.call.now).takes_memory ≡ false → result ≢ Err halts.NoMemory }
 {
-    let mut reserved = held.nodes.room(alloc, invocation);
-    let Ok(room) = &mut reserved else {
+    let Ok(mut room) = held.nodes.room(alloc, invocation) else {
         return Err(Halt::NoMemory);
     };
     let Ok(call) = invocation.call.copy(alloc) else {
         return Err(Halt::NoMemory);
     };
-    let found = join(table, pass, held, invocation, &call, args, room);
+    let found = join(table, pass, held, invocation, &call, args, &mut room);
     if is_early(&found, look) {
         return Err(Halt::NotYet);
     }
-    Ok(record_with(table, pass, held, invocation, call, found, room))
+    Ok(record_with(table, pass, held, invocation, call, found, &mut room))
 }
 
 /// Whether the caller's rank has no room for the events that a call needs. (own choice)

@@ -28,6 +28,25 @@ pub enum Stop {
     EventLimit,
 }
 
+/// How often a call pauses at most between two looks, while it has pauses to spare.
+const MOST_PAUSES: u32 = 4;
+
+/// How many pauses a call has to spare, beside one after each look: enough for a hundred looks. Its later pauses are sleeps.
+const SPARE_PAUSES: u32 = 300;
+
+/// Pauses after a look at a call that was not ready, until a change at its shards is counted: at most four times, and once where there
+/// are no pauses to spare. A look takes the shards from the threads that the call waits for, so few are made. But not every change is
+/// counted, so one is made in the end.
+fn pause<R: Wait>(rt: &R, pauses: &mut BackOff, change: &Change<'_>, spare: &mut u32) {
+    for _ in 1..MOST_PAUSES {
+        if pauses.pause_watching(rt, change) || *spare == 0 {
+            return;
+        }
+        *spare -= 1;
+    }
+    pauses.pause_watching(rt, change);
+}
+
 /// Makes a call: it looks until the call is recorded, pausing between looks, and never holds a shard meanwhile. A missed shard is
 /// no look. The call's row is computed once for all of its looks. (GASPI: timeouts)
 pub fn call<R: Wait>(
@@ -55,6 +74,7 @@ pub fn call<R: Wait>(
     let mut pauses = BackOff::new();
     let mut budget = Budget::new(timeout);
     let mut look = budget.next();
+    let mut spare = SPARE_PAUSES;
     for _ in rt.forever() {
         let change = Change::of(&start.changes, own.number(), other);
         match attempt(table, pass, alloc, invocation, look) {
@@ -62,7 +82,7 @@ pub fn call<R: Wait>(
             Err(Halt::Busy) => pauses.pause(rt),
             Err(Halt::NotYet) => {
                 look = budget.next();
-                pauses.pause_watching(rt, &change);
+                pause(rt, &mut pauses, &change, &mut spare);
             }
             Err(Halt::EventLimit) => return Err(Stop::EventLimit),
             Err(Halt::NoMemory) => return Err(Stop::NoMemory),
