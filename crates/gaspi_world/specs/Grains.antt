@@ -64,8 +64,8 @@ footprint-parts ranks me (touches.GroupAndMemory id) lt = go (nat_lt id 8) refl
     go true is = (lt, (lt, (ltb-true id 8 is, tt)))
     go false is = (lt, tt)
 
-footprint-parts : (s : State) (e : Event) → owner_of e < s.limits.ranks → AreParts s.limits.ranks (event_shards s e)
-footprint-parts s e lt = go (slice_get s.posts (owner_of e)) refl
+event-parts : (s : State) (e : Event) → owner_of e < s.limits.ranks → AreParts s.limits.ranks (event_shards s e)
+event-parts s e lt = go (slice_get s.posts (owner_of e)) refl
   where
     go : (o : Option Posts) → slice_get s.posts (owner_of e) ≡ o → AreParts s.limits.ranks (event_shards s e)
     go None at = rw at (lt, tt)
@@ -91,7 +91,7 @@ pub shards-within : (w : ShapeValue) (n : Numbering) (h : List Event) (e : Event
     → list_any (eqb i) (numbers_of n.number (state_after w h) e) ≡ true → i < n.shards
 shards-within w n h e i numbers legal lt among =
     let same : (state_after w h).limits.ranks ≡ w.limits.ranks = ap (λ (l : _). l.ranks) (limits-are w h legal) in
-    let are = subst (λ (r : ℕ). AreParts r (event_shards (state_after w h) e)) same (footprint-parts (state_after w h) e (subst (λ (r : ℕ). owner_of e < r) (sym same) lt)) in
+    let are = subst (λ (r : ℕ). AreParts r (event_shards (state_after w h) e)) same (event-parts (state_after w h) e (subst (λ (r : ℕ). owner_of e < r) (sym same) lt)) in
     below w.limits.ranks n numbers (event_shards (state_after w h) e) i are among
 
 pub ranks-number : (w : ShapeValue) → Numbers w.limits.ranks (by_ranks w)
