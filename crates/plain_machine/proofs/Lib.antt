@@ -15,3 +15,5 @@ pub mod Running
 pub mod Recorded
 pub mod AtFootprints
 pub mod Walked
+pub mod OwnLanes
+pub mod Halves

@@ -7,6 +7,8 @@ use Rattle.gaspi_types.specs.declared.entries.Queue.{Queue}
 use Rattle.gaspi_model.specs.declared.states.Posts.{Posts}
 use Rattle.plain_machine.specs.NonemptyLanes.{lane_id, lane_if_nonempty, queue_nonempty_lanes, rank_nonempty_lanes, nonempty_lanes, is_before}
 use Rattle.plain_machine.specs.declared.nonempty_lanes.LaneId.{LaneId}
+use Rattle.plain_machine.proofs.Halves.{Answer, joined, parted}
+use Rattle.std.specs.List.Sorted.{IsPartitionedBy}
 
 -- each of the lanes is before one, or none is
 abbrev pub AreBefore : LaneId → Bool → List LaneId → Type 0
@@ -48,14 +50,14 @@ parted_behind : (id : LaneId) (old new part part' rest : List LaneId) → IsPart
 parted_behind id old new part part' rest p later = record {
   front = p.front;
   back = p.back ++ rest;
-  was = ap (λ (ys : List LaneId). ys ++ rest) p.was ∙ joined p.front part p.back rest;
-  is = ap (λ (ys : List LaneId). ys ++ rest) p.is ∙ joined p.front part' p.back rest;
+  was = ap (λ (ys : List LaneId). ys ++ rest) p.was ∙ regrouped p.front part p.back rest;
+  is = ap (λ (ys : List LaneId). ys ++ rest) p.is ∙ regrouped p.front part' p.back rest;
   earlier = p.earlier;
   later = are_joined id false p.back rest p.later later;
 }
   where
-    joined : (a b c d : List LaneId) → (a ++ (b ++ c)) ++ d ≡ a ++ (b ++ (c ++ d))
-    joined a b c d = append_assoc a (b ++ c) d ∙ ap (λ (ys : List LaneId). a ++ ys) (append_assoc b c d)
+    regrouped : (a b c d : List LaneId) → (a ++ (b ++ c)) ++ d ≡ a ++ (b ++ (c ++ d))
+    regrouped a b c d = append_assoc a (b ++ c) d ∙ ap (λ (ys : List LaneId). a ++ ys) (append_assoc b c d)
 
 parted_front : (id : LaneId) (old new part part' first : List LaneId) → IsParted id old new part part' → AreBefore id true first → IsParted id (first ++ old) (first ++ new) part part'
 parted_front id old new part part' first p earlier = record {
@@ -114,7 +116,7 @@ before_target o q t t' less =
     let here_q = le-ltb q q (omega arith) in let same_q = eq-eqb q q refl in
     let there = lt-ltb t t' less in rw here rw same rw here_q rw same_q rw there refl
 
-behind_target : (o q t t' : ℕ) → t' ≤ t → is_before (lane_id o q t) (lane_id o q t') ≡ false
+pub behind_target : (o q t t' : ℕ) → t' ≤ t → is_before (lane_id o q t) (lane_id o q t') ≡ false
 behind_target o q t t' less =
     let here = le-ltb o o (omega arith) in let same = eq-eqb o o refl in
     let here_q = le-ltb q q (omega arith) in let same_q = eq-eqb q q refl in
@@ -200,3 +202,13 @@ unnamed_by id old new p =
 -- the same name before and after
 pub kept_by : (id : LaneId) (old new part : List LaneId) → IsParted id old new part part → new ≡ old
 kept_by id old new part p = p.is ∙ sym p.was
+
+-- the names before it stand in front of all others
+pub parted_names : (id : LaneId) (old new part part' : List LaneId) → AreBefore id false part → IsParted id old new part part' → IsPartitionedBy (λ x. is_before x id) old
+parted_names id old new part part' behind p =
+    subst (IsPartitionedBy (λ (x : LaneId). is_before x id)) (sym p.was)
+    (parted (λ x. is_before x id) p.front (part ++ p.back) (answers true p.front p.earlier) (joined (λ x. is_before x id) false part p.back (answers false part behind) (answers false p.back p.later)))
+  where
+    answers : (b : Bool) (xs : List LaneId) → AreBefore id b xs → Answer (λ x. is_before x id) b xs
+    answers b [] are = tt
+    answers b (x ∷ xs) are = (are.0, answers b xs are.1)

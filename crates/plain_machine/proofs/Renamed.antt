@@ -1,6 +1,7 @@
 -- What a step does to the names of the lanes that have an entry.
 use Rattle.std.proofs.Common.{◌≡◌, ℕ, zero, suc, ◌+◌, ◌<◌, ◌≤◌, Bool, true, false, ◌&&◌, nat_le, nat_lt, List, [], ◌∷◌, ◌++◌, Option, None, Some, Result, Ok, Err, length, slice_get, slice_set, remove, refl, sym, ap, inl, inr, ◌∙◌, arith, if◌then◌else◌}
 use Rattle.std.specs.List.{flat_map, enumerate_from, prefix_len, insert}
+use Rattle.std.specs.List.Sorted.{IsPartitionedBy}
 use Rattle.std.proofs.lemmas.Bool.{lt-ltb}
 use Rattle.std.proofs.lemmas.Bool.Decides.{nat_tests}
 use Rattle.std.proofs.lemmas.Option.{slice_get_within}
@@ -56,7 +57,7 @@ use Rattle.plain_machine.proofs.Lists.{same_in, same_changed}
 use Rattle.gaspi_model.proofs.CollectivePosts.{IsMet, on_group-called, on_group-joined}
 use Rattle.plain_machine.proofs.OnGroups.{posts_plain}
 use Rattle.plain_machine.proofs.AtFootprints.{called_back, used_back, put_back, registered_by}
-use Rattle.plain_machine.proofs.Parted.{IsParted, parted_by, kept_by, named_by, unnamed_by}
+use Rattle.plain_machine.proofs.Parted.{IsParted, parted_by, kept_by, named_by, unnamed_by, parted_names, behind_target}
 
 -- posts that differ in one lane and in nothing else that names lanes
 record IsRelaned (p p' : Posts) (queue target : ℕ) (lane lane' : List Entry) : Type 0 where
@@ -372,6 +373,12 @@ pub posting_first : (s t : State) (e : Event) (id : LaneId) → IsSound s → ev
 posting_first s t e id sound lane puts none steps =
     named_by id (nonempty_lanes s.posts) (nonempty_lanes t.posts) (rw none at (posting s t e id sound lane puts steps))
 
+-- the names stand in the order in which that one is sought
+pub posting_parted : (s t : State) (e : Event) (id : LaneId) → IsSound s → event_lane e ≡ Some id → is_put e ≡ false → lane_entries s.posts id ≡ []
+    → step s e ≡ Ok t → IsPartitionedBy (λ x. is_before x id) (nonempty_lanes s.posts)
+posting_parted s t e id sound lane puts none steps =
+    parted_names id (nonempty_lanes s.posts) (nonempty_lanes t.posts) [] (id ∷ []) tt (rw none at (posting s t e id sound lane puts steps))
+
 -- a put that leaves an entry in its lane
 pub leaving_some : (s t : State) (e : Event) (id : LaneId) → event_lane e ≡ Some id → is_put e ≡ true → (lane_entries t.posts id ≡ [] → ⊥) → step s e ≡ Ok t
     → nonempty_lanes t.posts ≡ nonempty_lanes s.posts
@@ -384,3 +391,9 @@ pub leaving_none : (s t : State) (e : Event) (id : LaneId) → event_lane e ≡ 
     × (remove (nonempty_lanes s.posts) (prefix_len (λ x. is_before x id) (nonempty_lanes s.posts)) ≡ nonempty_lanes t.posts)
 leaving_none s t e id lane puts none steps =
     unnamed_by id (nonempty_lanes s.posts) (nonempty_lanes t.posts) (rw none at (leaving s t e id lane puts steps))
+
+-- the names stand in the order in which that one is sought
+pub leaving_parted : (s t : State) (e : Event) (id : LaneId) → event_lane e ≡ Some id → is_put e ≡ true → step s e ≡ Ok t → IsPartitionedBy (λ x. is_before x id) (nonempty_lanes s.posts)
+leaving_parted s t e id lane puts steps =
+    parted_names id (nonempty_lanes s.posts) (nonempty_lanes t.posts) (id ∷ []) (lane_if_nonempty id.origin id.queue (id.target, lane_entries t.posts id))
+    (behind_target id.origin id.queue id.target id.target (omega arith), tt) (leaving s t e id lane puts steps)

@@ -1,9 +1,10 @@
--- Lists made of one list for each item, read at a place; and the transfers of all lanes by those that have an entry.
-use Rattle.std.proofs.Common.{◌≡◌, ℕ, zero, suc, ◌+◌, ◌*◌, ◌<◌, ◌≤◌, ◌^◌, Bool, true, false, List, [], ◌∷◌, ◌++◌, Option, None, Some, length, take, get_or, slice_get, sum_by, is_none, ◌&&◌, refl, sym, ap, subst, ◌∙◌, arith, length-append}
-use Rattle.std.specs.List.{flat_map, enumerate_from}
+-- Lists made of one list for each item, read at a place; and the transfers of all lanes by those that have an entry, and by rank.
+use Rattle.std.proofs.Common.{◌≡◌, ℕ, zero, suc, ◌+◌, ◌<◌, ◌≤◌, Bool, true, false, List, [], ◌∷◌, ◌++◌, Option, None, Some, length, take, get_or, slice_get, sum_by, is_none, ◌&&◌, refl, sym, ap, subst, ◌∙◌, arith, length-append}
+use Rattle.std.specs.List.{flat_map, enumerate_from, range_with_len}
 use Rattle.std.specs.Option.{option_to_list}
 use Rattle.std.proofs.lemmas.List.{append-nil, take_all}
 use Rattle.std.proofs.lemmas.List.Folds.{length-flat_map-take}
+use Rattle.std.proofs.lemmas.List.FromFn.{length-range_with_len, get_or-range_with_len}
 use Rattle.std.proofs.lemmas.Option.{slice_get_within, slice_get_past}
 use Rattle.std.proofs.lemmas.List.Concat.{flat_map-append}
 use Rattle.std.proofs.lemmas.List.Sums.{sum_by-cons}
@@ -21,7 +22,9 @@ use Rattle.gaspi_model.specs.Sound.{IsSoundPosts}
 use Rattle.gaspi_model.specs.Transfers.{transfer_of, lane_transfers, queue_transfers, rank_transfers, transfers}
 use Rattle.gaspi_types.specs.declared.entries.Queue.{Queue}
 use Rattle.gaspi_model.specs.declared.states.Posts.{Posts}
-use Rattle.plain_machine.specs.NonemptyLanes.{lane_id, lane_if_nonempty, queue_nonempty_lanes, rank_nonempty_lanes, nonempty_lanes, unbroken_entries, unbroken_transfers, entries_transfers}
+use Rattle.plain_machine.specs.NonemptyLanes.{lane_id, lane_if_nonempty, queue_nonempty_lanes, rank_nonempty_lanes, nonempty_lanes, nonempty_lanes_of, unbroken_entries, unbroken_transfers, entries_transfers}
+use Rattle.plain_machine.specs.RankCounts.{transfers_of, HaveFewTransfers}
+use Rattle.plain_machine.specs.declared.nonempty_lanes.LaneId.{LaneId}
 
 -- Places in such a list.
 
@@ -96,13 +99,13 @@ nested {X} {A} {B} f g h n (x ∷ xs) each =
 abbrev no_transfers : ℕ × List Entry → List Transfer
 no_transfers x = []
 
--- the transfers of all lanes are those of the lanes that have an entry
-pub transfers-nonempty : (limits : Limits) (posts : List Posts) → transfers limits posts ≡ flat_map (unbroken_transfers limits posts) (nonempty_lanes posts)
-transfers-nonempty limits posts = nested (rank_transfers limits) (unbroken_transfers limits posts) rank_nonempty_lanes 0 posts (λ origin k p at there. of_rank origin p (place posts origin k p at there))
-  where
-    place : {X : Type 0} (xs : List X) (j k : ℕ) (x : X) → j ≡ 0 + k → slice_get xs k ≡ Some x → slice_get xs j ≡ Some x
-    place xs j k x at there = let same : j ≡ k = omega (arith, at) in rw same there
+place : {X : Type 0} (xs : List X) (j k : ℕ) (x : X) → j ≡ 0 + k → slice_get xs k ≡ Some x → slice_get xs j ≡ Some x
+place xs j k x at there = let same : j ≡ k = omega (arith, at) in rw same there
 
+-- the transfers of all lanes of a rank are those of its lanes that have an entry
+rank-nonempty : (limits : Limits) (posts : List Posts) (origin : ℕ) (p : Posts) → slice_get posts origin ≡ Some p → rank_transfers limits (origin, p) ≡ flat_map (unbroken_transfers limits posts) (rank_nonempty_lanes (origin, p))
+rank-nonempty limits posts = of_rank
+  where
     of_lane : (origin queue target : ℕ) (p : Posts) (q : Queue) (lane : List Entry) → slice_get posts origin ≡ Some p → slice_get p.queues queue ≡ Some q → is_none q.broken ≡ true
         → slice_get q.lanes target ≡ Some lane
         → lane_transfers origin queue limits (target, lane) ≡ flat_map (unbroken_transfers limits posts) (lane_if_nonempty origin queue (target, lane))
@@ -136,6 +139,72 @@ transfers-nonempty limits posts = nested (rank_transfers limits) (unbroken_trans
     of_rank origin p there =
         nested (queue_transfers origin limits) (unbroken_transfers limits posts) (queue_nonempty_lanes origin) 0 p.queues
         (λ queue k q at q_there. of_queue origin queue p q there (place p.queues queue k q at q_there))
+
+-- and so are those of all ranks
+pub transfers-nonempty : (limits : Limits) (posts : List Posts) → transfers limits posts ≡ flat_map (unbroken_transfers limits posts) (nonempty_lanes posts)
+transfers-nonempty limits posts = nested (rank_transfers limits) (unbroken_transfers limits posts) rank_nonempty_lanes 0 posts (λ origin k p at there. rank-nonempty limits posts origin p (place posts origin k p at there))
+
+transfers_of-nonempty : (limits : Limits) (posts : List Posts) (rank : ℕ) → transfers_of limits posts rank ≡ flat_map (unbroken_transfers limits posts) (nonempty_lanes_of posts rank)
+transfers_of-nonempty limits posts rank = by_item (slice_get posts rank) refl
+  where
+    by_item : (o : Option Posts) → slice_get posts rank ≡ o → transfers_of limits posts rank ≡ flat_map (unbroken_transfers limits posts) (nonempty_lanes_of posts rank)
+    by_item None there = rw there refl
+    by_item (Some p) there = rw there (rank-nonempty limits posts rank p there)
+
+pub own_transfers : (limits : Limits) (posts : List Posts) (rank : ℕ) (lanes : List LaneId) → lanes ≡ nonempty_lanes_of posts rank
+    → transfers_of limits posts rank ≡ flat_map (unbroken_transfers limits posts) lanes
+own_transfers limits posts rank lanes is = transfers_of-nonempty limits posts rank ∙ ap (flat_map (unbroken_transfers limits posts)) (sym is)
+
+-- All transfers are those of the ranks, one after another.
+
+by_number : {X A : Type 0} (f : ℕ × X → List A) (g : ℕ → List A) (n : ℕ) (xs : List X) → ((j k : ℕ) (x : X) → j ≡ n + k → slice_get xs k ≡ Some x → f (j, x) ≡ g j)
+    → flat_map f (enumerate_from n xs) ≡ flat_map g (range_with_len n (length xs))
+by_number f g n [] each = refl
+by_number {X} {A} f g n (x ∷ xs) each =
+    ap (λ (ys : List A). ys ++ flat_map f (enumerate_from (n + 1) xs)) (each n 0 x (omega arith) refl)
+    ∙ ap (λ (ys : List A). g n ++ ys) (by_number f g (n + 1) xs (λ j k y at there. each j (suc k) y (omega (arith, at)) there))
+
+pub transfers-by_rank : (limits : Limits) (posts : List Posts) → transfers limits posts ≡ flat_map (transfers_of limits posts) (range_with_len 0 (length posts))
+transfers-by_rank limits posts = by_number (rank_transfers limits) (transfers_of limits posts) 0 posts (λ origin k p at there. of_rank origin p (place posts origin k p at there))
+  where
+    of_rank : (origin : ℕ) (p : Posts) → slice_get posts origin ≡ Some p → rank_transfers limits (origin, p) ≡ transfers_of limits posts origin
+    of_rank origin p there = rw there refl
+
+take-range : (a n k : ℕ) → k ≤ n → take k (range_with_len a n) ≡ range_with_len a k
+take-range a n zero few = refl
+take-range a zero (suc k) few = absurd (let no : ⊥ = omega (arith, few) in no)
+take-range a (suc n) (suc k) few = ap (λ (ys : List ℕ). a ∷ ys) (take-range (a + 1) n k (omega (arith, few)))
+
+-- one rank more
+counted_from : {A : Type 0} (f : ℕ → List A) (a n : ℕ) → length (flat_map f (range_with_len a (suc n))) ≡ length (flat_map f (range_with_len a n)) + length (f (a + n))
+counted_from f a zero =
+    let e : a + 0 ≡ a = omega arith in
+    let long : length (f a ++ []) ≡ length (f a) + 0 = length-append (f a) [] in
+    rw e (omega (arith, long))
+counted_from f a (suc n) =
+    let e : a + suc n ≡ (a + 1) + n = omega arith in
+    let more : length (flat_map f (range_with_len (a + 1) (suc n))) ≡ length (flat_map f (range_with_len (a + 1) n)) + length (f ((a + 1) + n)) = counted_from f (a + 1) n in
+    let whole : length (flat_map f (range_with_len a (suc (suc n)))) ≡ length (f a) + length (flat_map f (range_with_len (a + 1) (suc n))) = length-append (f a) (flat_map f (range_with_len (a + 1) (suc n))) in
+    let part : length (flat_map f (range_with_len a (suc n))) ≡ length (f a) + length (flat_map f (range_with_len (a + 1) n)) = length-append (f a) (flat_map f (range_with_len (a + 1) n)) in
+    rw e (omega (arith, more, whole, part))
+
+pub counted_more : {A : Type 0} (f : ℕ → List A) (n : ℕ) → length (flat_map f (range_with_len 0 (n + 1))) ≡ length (flat_map f (range_with_len 0 n)) + length (f n)
+counted_more f n =
+    let e : n + 1 ≡ suc n = omega arith in
+    let z : 0 + n ≡ n = omega arith in
+    ap (λ (k : ℕ). length (flat_map f (range_with_len 0 k))) e ∙ (counted_from f 0 n ∙ ap (λ (k : ℕ). length (flat_map f (range_with_len 0 n)) + length (f k)) z)
+
+-- an item that is sought by its place, in the list of a number
+pub sought_at : {A : Type 0} (f : ℕ → List A) (n i place left : ℕ) (y : A) → i < n → place ≡ length (flat_map f (range_with_len 0 i)) + left → slice_get (f i) left ≡ Some y
+    → slice_get (flat_map f (range_with_len 0 n)) place ≡ Some y
+sought_at f n i place left y within at there =
+    let long = length-range_with_len 0 n in
+    let here : get_or (range_with_len 0 n) i i ≡ i = get_or-range_with_len 0 n i i within ∙ (let z : 0 + i ≡ i = omega arith in z) in
+    sought_here f (range_with_len 0 n) i place left i y (omega (arith, long, within)) (sym here)
+    (at ∙ ap (λ (ks : List ℕ). length (flat_map f ks) + left) (sym (take-range 0 n i (omega (arith, within))))) there
+
+pub sought_behind : {A : Type 0} (f : ℕ → List A) (n place left : ℕ) → place ≡ length (flat_map f (range_with_len 0 n)) + left → None ≡ slice_get (flat_map f (range_with_len 0 n)) place
+sought_behind f n place left at = sym (slice_get_past (flat_map f (range_with_len 0 n)) place (omega (arith, at)))
 
 -- How many there are: each entry that may move owes an event.
 
@@ -191,25 +260,18 @@ queue_few origin queue limits q = by_broken (is_none q.broken) refl
 rank_few : (origin : ℕ) (limits : Limits) (p : Posts) → length (rank_transfers limits (origin, p)) ≤ entries_owed p
 rank_few origin limits p = bounded (queue_transfers origin limits) queue_owed 0 p.queues (λ queue k q there. queue_few origin queue limits q)
 
-sum_by-same : {X : Type 0} (xs : List X) → sum_by (λ (x : X). 65536) xs ≡ length xs * 65536
-sum_by-same [] = omega arith
-sum_by-same {X} (x ∷ xs) =
-    let rest = sum_by-same xs in
-    let sum : sum_by (λ (x : X). 65536) (x ∷ xs) ≡ 65536 + sum_by (λ (x : X). 65536) xs = sum_by-cons (λ (x : X). 65536) x xs in
-    omega (arith, rest, sum)
-
-pub few_transfers : (limits : Limits) (posts : List Posts) → are_limits limits ≡ true → length posts ≤ 16
-    → ((rank : ℕ) (p : Posts) → slice_get posts rank ≡ Some p → IsSoundPosts limits p)
-    → length (flat_map (unbroken_transfers limits posts) (nonempty_lanes posts)) < 2 ^ 32
-few_transfers limits posts limited ranks sound =
-    rw (← transfers-nonempty limits posts)
-    (let events : limits.events ≤ 65536 = grind (arith, nat_tests) in
-    let all = bounded (rank_transfers limits) (λ (p : Posts). 65536) 0 posts (λ origin k p there. of_rank origin p events (sound k p there)) in
-    let sum = sum_by-same posts in
-    omega (arith, all, sum, ranks))
+-- no rank has more of them than it can have events
+pub few_transfers : (limits : Limits) (posts : List Posts) → are_limits limits ≡ true → ((rank : ℕ) (p : Posts) → slice_get posts rank ≡ Some p → IsSoundPosts limits p) → HaveFewTransfers limits posts
+few_transfers limits posts limited sound = λ rank. by_item rank (slice_get posts rank) refl
   where
     of_rank : (origin : ℕ) (p : Posts) → limits.events ≤ 65536 → IsSoundPosts limits p → length (rank_transfers limits (origin, p)) ≤ 65536
     of_rank origin p events posts =
         let few = rank_few origin limits p in
         let room = posts.room in
         omega (arith, few, room, events)
+
+    by_item : (rank : ℕ) (o : Option Posts) → slice_get posts rank ≡ o → length (transfers_of limits posts rank) ≤ 65536
+    by_item rank None there = rw there (omega arith)
+    by_item rank (Some p) there =
+        let events : limits.events ≤ 65536 = grind (arith, nat_tests) in
+        rw there (of_rank rank p events (sound rank p there))

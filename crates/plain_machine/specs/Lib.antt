@@ -4,3 +4,4 @@ pub mod Machine
 pub mod Footprints
 pub mod NonemptyLanes
 pub mod Words
+pub mod RankCounts

@@ -9,7 +9,6 @@ use Rattle.gaspi_types.specs.declared.events.Outcome.{Outcome}
 use Rattle.gaspi_model.specs.State.{owed}
 use Rattle.gaspi_model.specs.Sound.{IsSound}
 use Rattle.gaspi_model.specs.Step.{Steps, step, transfer_event}
-use Rattle.gaspi_model.specs.Transfers.{transfers}
 use Rattle.gaspi_types.specs.declared.groups.Group.{Group}
 use Rattle.gaspi_model.specs.declared.states.Posts.{Posts}
 use Rattle.gaspi_model.specs.declared.states.Memory.{Memory}
@@ -62,11 +61,6 @@ take_event s id number None = transfer_event s (record { origin = id.origin; que
 abbrev pub put_event : State → LaneId → ℕ → Option Outcome → Event
 put_event s id number (Some outcome) = Put id.origin id.queue id.target number outcome
 put_event s id number None = transfer_event s (record { origin = id.origin; queue = id.queue; target = id.target; number = number; put = true })
-
--- how many transfers may come next, where that is kept
-abbrev pub IsCounted : State → Option ℕ → Type 0
-IsCounted s None = Unit {0}
-IsCounted s (Some count) = count ≡ length (transfers s.limits s.posts)
 
 -- a call that posts nothing and purges nothing: it leaves the transfers as they are
 abbrev pub is_still : Call → Bool

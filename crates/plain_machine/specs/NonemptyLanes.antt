@@ -39,6 +39,14 @@ rank_nonempty_lanes (origin, posts) = flat_map (queue_nonempty_lanes origin) (en
 abbrev pub nonempty_lanes : List Posts → List LaneId
 nonempty_lanes posts = flat_map rank_nonempty_lanes (enumerate_from 0 posts)
 
+-- those of a rank: of one that is not there, none
+abbrev pub nonempty_lanes_of : List Posts → ℕ → List LaneId
+nonempty_lanes_of posts rank = of_rank (slice_get posts rank)
+  where
+    of_rank : Option Posts → List LaneId
+    of_rank None = []
+    of_rank (Some p) = rank_nonempty_lanes (rank, p)
+
 -- that order
 abbrev pub is_before : LaneId → LaneId → Bool
 is_before a b =

@@ -7,6 +7,7 @@ mod looking;
 mod machine;
 mod nonempty_lanes;
 mod opening;
+mod rank_counts;
 mod ranks;
 mod steps;
 mod transfers;

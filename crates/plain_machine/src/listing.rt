@@ -156,7 +156,7 @@ fn push_transfers(
 }
 
 /// How many transfers may come next in lanes.
-pub fn transfer_count(limits: &Limits, posts: &Sequence<Posts>, lanes: &[LaneId]) -> usize
+pub fn lanes_count(limits: &Limits, posts: &Sequence<Posts>, lanes: &[LaneId]) -> usize
     requires { length (flat_map (unbroken_transfers limits.now posts.now) lanes.now) < 2 ^ 32 }
     ensures { result ≡ length (flat_map (unbroken_transfers limits.now posts.now) lanes.now) }
 {
@@ -167,23 +167,23 @@ pub fn transfer_count(limits: &Limits, posts: &Sequence<Posts>, lanes: &[LaneId]
     count
 }
 
-/// The transfer at a place among those that may come next in lanes.
-pub fn transfer_at(
+/// Seeks the transfer at a place among those that may come next in lanes.
+pub fn lanes_transfer(
     limits: &Limits,
     posts: &Sequence<Posts>,
     lanes: &[LaneId],
     place: usize,
-) -> Option<Transfer>
-    ensures { result ≡ slice_get (flat_map (unbroken_transfers limits.now posts.now) lanes.now) place }
+) -> TransferSearch
+    ensures { IsSearchOf result (flat_map (unbroken_transfers limits.now posts.now) lanes.now) place }
 {
     let mut left = place;
     for id in lanes {
         match entries_transfer(limits, id, open_entries(posts, id), left) {
-            TransferSearch::Found(transfer) => return Some(transfer),
+            TransferSearch::Found(transfer) => return TransferSearch::Found(transfer),
             TransferSearch::Left(rest) => left = rest,
         }
     }
-    None
+    TransferSearch::Left(left)
 }
 
 /// All transfers that may come next in lanes.

@@ -1,6 +1,6 @@
 //! The machine: a state that is sound, its steps, and what it answers.
 
-ghost use Rattle.std.specs.Prelude.{◌≡◌, ◌≢◌, ℕ, ◌+◌, ◌<◌, ◌↔◌, IfOk, IsOk, IsTrue, Some, None, Err, if◌then◌else◌, true, false, not, length, slice_get};
+ghost use Rattle.std.specs.Prelude.{◌≡◌, ◌≢◌, ℕ, ◌+◌, ◌<◌, ◌↔◌, IfOk, IsOk, IsTrue, Some, Err, true, false, not, length, slice_get};
 ghost use Rattle.gaspi_types.specs.CallRows.{need_of};
 ghost use Rattle.gaspi_model.specs.CollectiveCalls.{is_joining, join_event};
 ghost use Rattle.gaspi_model.specs.Sound.{IsSound};
@@ -15,15 +15,18 @@ ghost use Rattle.gaspi_model.specs.Calls.{recorded_reply};
 ghost use Rattle.plain_calls.specs.Looks.{made_of, recorded_of};
 ghost use Rattle.plain_calls.specs.Memory.{is_send, looks_with_memory, keeps_memory, takes_memory};
 ghost use Rattle.plain_machine.specs.Looking.{IsEvaluationIn};
-ghost use Rattle.plain_machine.specs.Machine.{is_still};
 ghost use Rattle.plain_machine.specs.Words.{word_in};
 
-use crate::listing::{transfer_at, transfer_count, transfers};
+use crate::listing::transfers;
 use crate::looking::{
     event_charge, has_section, is_pending_in, join_found, look_in, record_with_lanes,
 };
 use crate::nonempty_lanes::LaneId;
 use crate::opening::{all_groups, all_memories, all_posts, all_used};
+use crate::rank_counts::{
+    TransferCounts, forget_count, forget_moved, forget_owner, opening_counts, transfer_at,
+    transfer_count,
+};
 use crate::ranks::RankTables;
 use crate::steps::{make, step};
 use gaspi_model::{Memory, StepFault, soundness};
@@ -47,7 +50,7 @@ pub struct Machine {
     /// The lanes that have an entry, by origin, queue and target.
     standing: Vec<LaneId>,
     /// How many transfers may come next, where they were counted since they last changed.
-    counted: Option<usize>,
+    counts: TransferCounts,
 }
 
 impl Model for Machine {
@@ -55,30 +58,12 @@ impl Model for Machine {
 
     ghost Value = { State };
 
-    ghost use Rattle.plain_machine.specs.Machine.{IsMachine, IsCounted, state_in};
+    ghost use Rattle.plain_machine.specs.Machine.{IsMachine, state_in};
+    ghost use Rattle.plain_machine.specs.RankCounts.{AreCounts};
 
     ghost view = { λ m. state_in m.ranks m.memories };
 
-    ghost invariant = { λ m. IsMachine (state_in m.ranks m.memories) m.ranks.used m.standing.items × IsCounted (state_in m.ranks m.memories) m.counted };
-}
-
-/// What is left of a count of transfers where a call is recorded: all, where the call posts nothing and purges nothing.
-fn kept_count(counted: Option<usize>, call: &Call) -> Option<usize>
-    ensures { result ≡ (if is_still call.now then counted else None) }
-{
-    match call {
-        Call::Write(_)
-        | Call::Read(_)
-        | Call::Notify(_)
-        | Call::WriteNotify(_)
-        | Call::ReadNotify(_)
-        | Call::WriteList(_)
-        | Call::WriteListNotify(_)
-        | Call::ReadList(_)
-        | Call::ReadListNotify(_)
-        | Call::Purge(_) => None,
-        _ => counted,
-    }
+    ghost invariant = { λ m. IsMachine (state_in m.ranks m.memories) m.ranks.used m.standing.items × AreCounts m.ranks.limits m.ranks.posts m.counts };
 }
 
 impl Machine {
@@ -97,7 +82,7 @@ impl Machine {
             },
             memories: all_memories(alloc, shape)?,
             standing: Vec::new(alloc),
-            counted: None,
+            counts: opening_counts(alloc, limits.ranks)?,
         })
     }
 
@@ -109,7 +94,7 @@ impl Machine {
         ensures ample { takes_memory event.now ≡ false → result ≢ Err StepFault.NoMemory }
     {
         soundness();
-        self.counted = None;
+        forget_owner(&mut self.counts, event);
         step(
             &mut self.ranks,
             &mut self.memories,
@@ -153,7 +138,7 @@ impl Machine {
         ensures ample { keeps_memory invocation.now.call.now ≡ false → IsOk result }
     {
         soundness();
-        self.counted = kept_count(self.counted, invocation.call);
+        forget_moved(&mut self.counts, invocation.caller.rank, invocation.call);
         let charge = event_charge(&self.ranks, invocation, &look.ready);
         record_with_lanes(
             &mut self.ranks,
@@ -205,32 +190,31 @@ impl Machine {
         transfers(alloc, &self.ranks.limits, &self.ranks.posts, &self.standing)
     }
 
-    /// Counts the transfers that may come next.
-    fn count_transfers(&self) -> usize
-        ensures { result ≡ length (transfers self.now.limits self.now.posts) }
-    {
-        transfer_count(&self.ranks.limits, &self.ranks.posts, &self.standing)
-    }
-
-    /// How many transfers may come next. They are counted where they may have changed since they were counted last; the
-    /// state stays. It takes no memory.
+    /// How many transfers may come next. Those of a rank are counted where they may have changed since they were counted last;
+    /// the state stays. It takes no memory.
     pub fn transfer_count(&mut self) -> usize
         ensures count { result ≡ length (transfers self.old.limits self.old.posts) }
         ensures same { self.new ≡ self.old }
     {
-        if let Some(count) = self.counted {
-            return count;
-        }
-        let count = self.count_transfers();
-        self.counted = Some(count);
-        count
+        transfer_count(
+            &self.ranks.limits,
+            &self.ranks.posts,
+            &self.standing,
+            &mut self.counts,
+        )
     }
 
     /// The transfer at a place of those that may come next, by origin, queue, target and number. It takes no memory.
     pub fn transfer_at(&self, place: usize) -> Option<Transfer>
         ensures { result ≡ slice_get (transfers self.now.limits self.now.posts) place }
     {
-        transfer_at(&self.ranks.limits, &self.ranks.posts, &self.standing, place)
+        transfer_at(
+            &self.ranks.limits,
+            &self.ranks.posts,
+            &self.standing,
+            &self.counts,
+            place,
+        )
     }
 
     /// Makes a transfer that may come next: the step by its take or put, with the machine's outcome. It gives the event. Its
@@ -242,7 +226,7 @@ impl Machine {
         ensures ample { transfer.now.put ≡ true → result ≢ Err StepFault.NoMemory }
     {
         soundness();
-        self.counted = None;
+        forget_count(&mut self.counts, transfer.origin);
         make(
             &mut self.ranks,
             &mut self.memories,

@@ -1,9 +1,11 @@
 //! The lanes that have an entry, by their names. (GASPI: one-sided communication)
 
-ghost use Rattle.std.specs.Prelude.{◌≡◌, ◌≢◌, ◌<◌, ◌≤◌, [], length, true, false, vec_len, vec_capacity};
+ghost use Rattle.std.specs.Prelude.{◌≡◌, ◌≢◌, ◌<◌, ◌≤◌, List, [], length, true, false, vec_len, vec_capacity};
 ghost use Rattle.std.specs.List.{filter, insert, remove, prefix_len};
+ghost use Rattle.std.specs.List.Sorted.{IsPartitionedBy};
 ghost use Rattle.std.specs.Option.{option_copied};
-ghost use Rattle.plain_machine.specs.NonemptyLanes.{is_before, is_elsewhere, lane_queue, queue_entries, lane_entries, unbroken_entries, post_lane};
+ghost use Rattle.gaspi_model.specs.declared.states.Posts.{Posts};
+ghost use Rattle.plain_machine.specs.NonemptyLanes.{is_before, is_elsewhere, lane_queue, queue_entries, lane_entries, unbroken_entries, post_lane, nonempty_lanes, nonempty_lanes_of};
 ghost use Rattle.plain_machine.specs.Looking.{look_lane, look_purge};
 
 use gaspi_model::Posts;
@@ -31,17 +33,24 @@ fn is_before(a: &LaneId, b: &LaneId) -> bool
     a.target.number() < b.target.number()
 }
 
-/// How many of the lanes stand before a lane, up to the first that does not.
+/// How many of the lanes stand before a lane, found by halves.
 fn place_among(lanes: &[LaneId], id: &LaneId) -> usize
+    requires { IsPartitionedBy (λ x. is_before x id.now) lanes.now }
     ensures place { result ≡ prefix_len (λ x. is_before x id.now) lanes.now }
     ensures bound { result ≤ length lanes.now }
 {
-    for (place, named) in lanes.iter().enumerate() {
-        if !is_before(named, id) {
-            return place;
-        }
-    }
-    lanes.len()
+    lanes.partition_point(|named| is_before(named, id))
+}
+
+/// The lanes of a rank among all that have an entry, found by halves.
+pub fn lanes_of_rank(lanes: &[LaneId], rank: RankId) -> &[LaneId]
+    ensures { (posts : List Posts) → lanes.now ≡ nonempty_lanes posts → result.now ≡ nonempty_lanes_of posts rank }
+{
+    let earlier = lanes.partition_point(|id| id.origin.number() < rank.number());
+    let (_, others) = lanes.split_at(earlier);
+    let count = others.partition_point(|id| id.origin.number() <= rank.number());
+    let (own, _) = others.split_at(count);
+    own
 }
 
 /// The queue of a lane, if it is there.
@@ -122,7 +131,8 @@ pub fn look_purge(call: &Call, look: &Evaluation) -> Option<u64>
 
 /// Names a lane at its place. There is room for it.
 pub fn insert_lane(standing: &mut Vec<LaneId>, id: LaneId)
-    requires { vec_len standing.old < vec_capacity standing.old }
+    requires parted { IsPartitionedBy (λ x. is_before x id) standing.old.items }
+    requires room { vec_len standing.old < vec_capacity standing.old }
     ensures { standing.new.items ≡ insert standing.old.items (prefix_len (λ x. is_before x id) standing.old.items) id }
 {
     let place = place_among(standing, &id);
@@ -131,7 +141,8 @@ pub fn insert_lane(standing: &mut Vec<LaneId>, id: LaneId)
 
 /// Takes the name of a lane out, where it stands at its place.
 pub fn remove_lane(standing: &mut Vec<LaneId>, id: &LaneId)
-    requires { prefix_len (λ x. is_before x id.now) standing.old.items < length standing.old.items }
+    requires parted { IsPartitionedBy (λ x. is_before x id.now) standing.old.items }
+    requires there { prefix_len (λ x. is_before x id.now) standing.old.items < length standing.old.items }
     ensures { standing.new.items ≡ remove standing.old.items (prefix_len (λ x. is_before x id.now) standing.old.items) }
 {
     let place = place_among(standing, id);

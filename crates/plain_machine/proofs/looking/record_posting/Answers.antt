@@ -3,7 +3,7 @@ use Rattle.gaspi_types.specs.declared.events.Event.TheVariants.{Called}
 use Rattle.gaspi_model.specs.Calls.{recorded_reply}
 use Rattle.plain_calls.specs.Looks.{recorded_of}
 use Rattle.plain_machine.specs.Machine.{state_in}
-use Rattle.plain_machine.proofs.Renamed.{quiet_steps, posting_first, posting_more}
+use Rattle.plain_machine.proofs.Renamed.{quiet_steps, posting_first, posting_more, posting_parted}
 use Rattle.plain_machine.proofs.looking.record_posting.Goals as goal
 
 pub returns-in_default-clause-named : goal.returns-in_default-clause-named
@@ -24,3 +24,9 @@ returns-clause-named c =
     ∙ (rw (c.reserve.ensures.items, c.requires.machine.named)
     (posting_first (state_in c.args.ranks.now c.args.memories.now) (state_in c.record_plain-2.new.ranks c.record_plain-2.new.memories) (Called c.args.invocation.now.caller c.args.invocation.now.call.now (recorded_reply c.args.look.ready)) c.in-Some.id
     c.requires.machine.sound (sym c.look_lane.ensures ∙ c.in-Some.is) refl (c.has_entry.ensures.none c.if-has_entry.false) c.in_ok-reply.ensures.step))
+
+pub insert_lane-requires-clause-parted : goal.insert_lane-requires-clause-parted
+insert_lane-requires-clause-parted c =
+    rw (c.reserve.ensures.items, c.requires.machine.named)
+    (posting_parted (state_in c.args.ranks.now c.args.memories.now) (state_in c.record_plain-2.new.ranks c.record_plain-2.new.memories) (Called c.args.invocation.now.caller c.args.invocation.now.call.now (recorded_reply c.args.look.ready)) c.in-Some.id
+    c.requires.machine.sound (sym c.look_lane.ensures ∙ c.in-Some.is) refl (c.has_entry.ensures.none c.if-has_entry.false) c.in_ok-reply.ensures.step)

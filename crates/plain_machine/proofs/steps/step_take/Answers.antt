@@ -44,7 +44,7 @@ returns-in-Ok-take_bytes-clause-taken c =
     let old = state_in c.args.ranks.now c.args.memories.now in
     let new = state_in (record c.args.ranks.now { posts = slice_set c.args.ranks.now.posts c.index-rank.result c.set_take.new.posts }) c.args.memories.now in
     let made = subst (λ (e : Event). step old e ≡ Ok new) (returns-in-Ok-take_bytes-clause-outcome c) (returns-in-Ok-take_bytes-clause-step c) in
-    c.release.ensures ∙ ap (λ (rooms : List ℕ). released_by_take rooms c.index-rank.result c.outcome-outcome.result) c.requires.taken
+    c.release.ensures ∙ ap (λ (rooms : List ℕ). released_by_take rooms c.index-rank.result c.outcome-outcome.result) c.requires.used
     ∙ ap (λ (rank : ℕ). released_by_take (map used_room_of c.args.ranks.now.posts) rank c.outcome-outcome.result) c.index-rank.ensures.value
     ∙ sym (take_used old new c.args.id.now.origin c.args.id.now.queue c.args.id.now.target c.args.number c.outcome-outcome.result made)
 

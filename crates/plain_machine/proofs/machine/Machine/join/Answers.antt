@@ -1,6 +1,6 @@
 use Rattle.std.proofs.Common.{◌∙◌, sym, refl}
 use Rattle.plain_calls.specs.Looks.{recorded_of}
-use Rattle.plain_machine.proofs.Counted.{count_joined}
+use Rattle.plain_machine.proofs.Counted.{counts_joined}
 use Rattle.plain_machine.proofs.Renamed.{quiet_steps}
 use Rattle.plain_machine.proofs.Running.{stepped}
 use Rattle.gaspi_model.specs.CollectiveCalls.{group_of, join_event}
@@ -16,7 +16,7 @@ invariant_of-self c =
     c.self.invariant.0.named
     ∙ sym (quiet_steps old new event (recorded_of c.join_found.result) c.self.invariant.0.sound c.self.invariant.0.fitting refl refl c.join_found.ensures.step) in (
       stepped old new event _ _ _ _ (recorded_of c.join_found.result) c.soundness.ensures.steps c.self.invariant.0 c.join_found.ensures.step c.join_found.ensures.taken named,
-      count_joined c.self.inside.counted old new c.args.invocation.now.caller (group_of c.args.invocation.now.call.now) c.args.args (recorded_of c.join_found.result) c.soundness.ensures.limits c.self.invariant.1 c.join_found.ensures.step,
+      counts_joined c.self.inside.counts old new c.args.invocation.now.caller (group_of c.args.invocation.now.call.now) c.args.args (recorded_of c.join_found.result) c.soundness.ensures.limits c.self.invariant.1 c.join_found.ensures.step,
     )
 
 pub join_found-requires-clause-joins : goal.join_found-requires-clause-joins

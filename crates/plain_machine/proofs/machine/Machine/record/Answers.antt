@@ -1,7 +1,7 @@
 use Rattle.gaspi_types.specs.declared.events.Event.TheVariants.{Called}
 use Rattle.gaspi_model.specs.Calls.{recorded_reply}
 use Rattle.plain_calls.specs.Looks.{recorded_of}
-use Rattle.plain_machine.proofs.Counted.{count_kept}
+use Rattle.plain_machine.proofs.Counted.{counts_recorded}
 use Rattle.plain_machine.proofs.EventRooms.{room_of_step}
 use Rattle.plain_machine.proofs.Recorded.{declared_there}
 use Rattle.plain_machine.proofs.Running.{stepped}
@@ -12,8 +12,8 @@ pub invariant_of-self : goal.invariant_of-self
 invariant_of-self c = (
   stepped (state_in c.self.inside.ranks c.self.inside.memories) _ (Called c.args.invocation.now.caller c.args.invocation.now.call.now (recorded_reply c.args.look.ready)) _ _ _ _ (recorded_of c.record_with_lanes.result)
       c.soundness.ensures.steps c.self.invariant.0 c.record_with_lanes.ensures.step c.record_with_lanes.ensures.taken c.record_with_lanes.ensures.named,
-  rw c.kept_count-self-inside.ensures
-      (count_kept c.self.inside.counted (state_in c.self.inside.ranks c.self.inside.memories) _ c.args.invocation.now.caller c.args.invocation.now.call.now (recorded_reply c.args.look.ready) (recorded_of c.record_with_lanes.result)
+  rw c.forget_moved.ensures
+      (counts_recorded c.self.inside.counts (state_in c.self.inside.ranks c.self.inside.memories) (state_in c.record_with_lanes.new.ranks c.record_with_lanes.new.memories) c.args.invocation.now.caller c.args.invocation.now.call.now (recorded_reply c.args.look.ready) (recorded_of c.record_with_lanes.result)
       c.soundness.ensures.limits c.self.invariant.1 c.record_with_lanes.ensures.step),
 )
 

@@ -1,7 +1,7 @@
 use Rattle.std.proofs.Common.{◌≡◌, arith, length}
 use Rattle.plain_machine.specs.NonemptyLanes.{unbroken_transfers}
 use Rattle.plain_machine.proofs.Walked.{counted_here}
-use Rattle.plain_machine.proofs.listing.transfer_count.Goals as goal
+use Rattle.plain_machine.proofs.listing.lanes_count.Goals as goal
 
 pub overflow_add-count : goal.overflow_add-count
 overflow_add-count c =

@@ -1,0 +1,227 @@
+//! How many transfers of each rank may come next, and the one at a place of all.
+//!
+//! An event changes the transfers of its own rank alone. So a rank is counted anew after its own events, and a sought transfer
+//! is looked for in the lanes of one rank.
+
+ghost use Rattle.std.specs.Prelude.{◌≡◌, ◌≤◌, None, Option, ℕ, length, replicate, slice_get, slice_set, if◌then◌else◌, IfOk};
+ghost use Rattle.gaspi_types.specs.Tables.{item_at};
+ghost use Rattle.gaspi_model.specs.Step.{owner_of};
+ghost use Rattle.gaspi_model.specs.Transfers.{transfers};
+ghost use Rattle.plain_machine.specs.Machine.{is_still};
+ghost use Rattle.plain_machine.specs.NonemptyLanes.{IsSearchOf, nonempty_lanes};
+ghost use Rattle.plain_machine.specs.RankCounts.{transfers_of, without_count, AreRankCounts, AreCounts, HaveFewTransfers};
+
+use crate::listing::{TransferSearch, lanes_count, lanes_transfer};
+use crate::nonempty_lanes::{LaneId, lanes_of_rank};
+use gaspi_model::Posts;
+use gaspi_types::{Call, Event, Limits, NoMemory, RankId, Sequence, Transfer};
+use std::alloc::Global;
+
+/// Of each rank, how many of its transfers may come next, where they were counted since they last changed.
+type RankCounts = Sequence<Option<usize>>;
+
+/// How many transfers may come next: of each rank, and of all.
+#[derive(Debug, Drop)]
+pub struct TransferCounts {
+    by_rank: RankCounts,
+    all: Option<usize>,
+}
+
+/// The counts of ranks at the start: none.
+fn opening_rank_counts(alloc: Global, ranks: u32) -> Result<RankCounts, NoMemory>
+    ensures { IfOk result (λ counts. counts ≡ replicate ranks None) }
+{
+    let mut counts = Sequence::new(alloc);
+    for _rank in 0..ranks {
+        counts.push(None)?;
+    }
+    Ok(counts)
+}
+
+/// The counts at the start: none.
+pub fn opening_counts(alloc: Global, ranks: u32) -> Result<TransferCounts, NoMemory>
+    ensures { IfOk result (λ counts. counts ≡ record { by_rank = replicate ranks None; all = None }) }
+{
+    Ok(TransferCounts {
+        by_rank: opening_rank_counts(alloc, ranks)?,
+        all: None,
+    })
+}
+
+/// The count of a rank, where it is kept.
+fn kept_count(counts: &RankCounts, rank: RankId) -> Option<usize>
+    ensures { result ≡ item_at counts.now rank }
+{
+    match counts.get(rank.index()) {
+        Some(count) => *count,
+        None => None,
+    }
+}
+
+/// Keeps a count of a rank, or none.
+fn set_count(counts: &mut RankCounts, rank: RankId, count: Option<usize>)
+    ensures { counts.new ≡ slice_set counts.old rank count }
+{
+    let place = rank.index();
+    if place < counts.len() {
+        *counts.at_mut(place) = count;
+    }
+}
+
+/// The count of a rank is kept no more, nor that of all.
+pub fn forget_count(counts: &mut TransferCounts, rank: RankId)
+    ensures { counts.new ≡ without_count counts.old rank }
+{
+    set_count(&mut counts.by_rank, rank, None);
+    counts.all = None;
+}
+
+/// The rank that records an event.
+fn owner(event: &Event) -> RankId
+    ensures { result ≡ owner_of event.now }
+{
+    match event {
+        Event::Called(caller, _, _) | Event::Joined(caller, _, _) => caller.rank,
+        Event::Take(origin, _, _, _, _) | Event::Put(origin, _, _, _, _) => *origin,
+    }
+}
+
+/// The count of the rank that records an event is kept no more.
+pub fn forget_owner(counts: &mut TransferCounts, event: &Event)
+    ensures { counts.new ≡ without_count counts.old (owner_of event.now) }
+{
+    forget_count(counts, owner(event));
+}
+
+/// The counts that are kept where a call of a rank is recorded: all, where the call posts nothing and purges nothing.
+pub fn forget_moved(counts: &mut TransferCounts, rank: RankId, call: &Call)
+    ensures { counts.new ≡ (if is_still call.now then counts.old else without_count counts.old rank) }
+{
+    match call {
+        Call::Write(_)
+        | Call::Read(_)
+        | Call::Notify(_)
+        | Call::WriteNotify(_)
+        | Call::ReadNotify(_)
+        | Call::WriteList(_)
+        | Call::WriteListNotify(_)
+        | Call::ReadList(_)
+        | Call::ReadListNotify(_)
+        | Call::Purge(_) => forget_count(counts, rank),
+        _ => {}
+    }
+}
+
+/// How many transfers of a rank may come next. They are counted where no count of them is kept, and then one is.
+fn rank_count(
+    limits: &Limits,
+    posts: &Sequence<Posts>,
+    lanes: &[LaneId],
+    counts: &mut RankCounts,
+    rank: RankId,
+) -> usize
+    requires named { lanes.now ≡ nonempty_lanes posts.now }
+    requires few { HaveFewTransfers limits.now posts.now }
+    requires counts { AreRankCounts limits.now posts.now counts.old }
+    ensures count { result ≡ length (transfers_of limits.now posts.now rank) }
+    ensures kept { AreRankCounts limits.now posts.now counts.new }
+{
+    if let Some(count) = kept_count(counts, rank) {
+        return count;
+    }
+    let count = lanes_count(limits, posts, lanes_of_rank(lanes, rank));
+    set_count(counts, rank, Some(count));
+    count
+}
+
+/// How many transfers may come next: the sum of all ranks' counts.
+fn counts_sum(
+    limits: &Limits,
+    posts: &Sequence<Posts>,
+    lanes: &[LaneId],
+    counts: &mut RankCounts,
+) -> usize
+    requires named { lanes.now ≡ nonempty_lanes posts.now }
+    requires ranks { length posts.now ≤ 16 }
+    requires few { HaveFewTransfers limits.now posts.now }
+    requires counts { AreRankCounts limits.now posts.now counts.old }
+    ensures count { result ≡ length (transfers limits.now posts.now) }
+    ensures kept { AreRankCounts limits.now posts.now counts.new }
+{
+    let mut count = 0;
+    for rank in 0..posts.len() as u32 {
+        count += rank_count(limits, posts, lanes, counts, RankId::of(rank));
+    }
+    count
+}
+
+/// How many transfers may come next. They are summed up where no count of all is kept, and then one is.
+pub fn transfer_count(
+    limits: &Limits,
+    posts: &Sequence<Posts>,
+    lanes: &[LaneId],
+    counts: &mut TransferCounts,
+) -> usize
+    requires named { lanes.now ≡ nonempty_lanes posts.now }
+    requires ranks { length posts.now ≤ 16 }
+    requires few { HaveFewTransfers limits.now posts.now }
+    requires counts { AreCounts limits.now posts.now counts.old }
+    ensures count { result ≡ length (transfers limits.now posts.now) }
+    ensures kept { AreCounts limits.now posts.now counts.new }
+{
+    if let Some(count) = counts.all {
+        return count;
+    }
+    let count = counts_sum(limits, posts, lanes, &mut counts.by_rank);
+    counts.all = Some(count);
+    count
+}
+
+/// Seeks the transfer at a place among those of a rank. Where its count is kept and the place is past them, no lane is walked.
+fn rank_transfer(
+    limits: &Limits,
+    posts: &Sequence<Posts>,
+    lanes: &[LaneId],
+    counts: &RankCounts,
+    rank: RankId,
+    place: usize,
+) -> TransferSearch
+    requires named { lanes.now ≡ nonempty_lanes posts.now }
+    requires counts { AreRankCounts limits.now posts.now counts.now }
+    ensures { IsSearchOf result (transfers_of limits.now posts.now rank) place }
+{
+    match kept_count(counts, rank) {
+        Some(count) if count <= place => TransferSearch::Left(place - count),
+        Some(_) | None => lanes_transfer(limits, posts, lanes_of_rank(lanes, rank), place),
+    }
+}
+
+/// The transfer at a place among all that may come next.
+pub fn transfer_at(
+    limits: &Limits,
+    posts: &Sequence<Posts>,
+    lanes: &[LaneId],
+    counts: &TransferCounts,
+    place: usize,
+) -> Option<Transfer>
+    requires named { lanes.now ≡ nonempty_lanes posts.now }
+    requires ranks { length posts.now ≤ 16 }
+    requires counts { AreCounts limits.now posts.now counts.now }
+    ensures { result ≡ slice_get (transfers limits.now posts.now) place }
+{
+    let mut left = place;
+    for rank in 0..posts.len() as u32 {
+        match rank_transfer(
+            limits,
+            posts,
+            lanes,
+            &counts.by_rank,
+            RankId::of(rank),
+            left,
+        ) {
+            TransferSearch::Found(transfer) => return Some(transfer),
+            TransferSearch::Left(rest) => left = rest,
+        }
+    }
+    None
+}
