@@ -36,7 +36,7 @@ module _ {S X E : Type 0} (m : Machine X E) (May : List E → ℕ → Type 0) wh
 
   pub missed-looking : (v t u x z : PassView S E) (i j number : ℕ) (g h : List E) (records : List LockRecord) → t ≡ after_take v i g → u ≡ after_miss t j records → MissWitness t j records → Looked m u number h x → z ≡ after_give_back x i → May h j → MissedLooking m v i May z
   missed-looking v t u x z i j number g h records took_is missed_is met l last may =
-      let first : u ≡ after_miss (after_take v i g) j lock_records = missed_is ∙ ap (λ (y : PassView S E). after_miss y j records) took_is in
+      let first : u ≡ after_miss (after_take v i g) j records = missed_is ∙ ap (λ (y : PassView S E). after_miss y j records) took_is in
       let whole : x ≡ after_look (after_miss (after_take v i g) j records) h = l.is ∙ ap (λ (y : PassView S E). after_look y h) first in
       let there : Looked m (after_miss (after_take v i g) j records) number h (after_look (after_miss (after_take v i g) j records) h) =
       subst (λ (y : PassView S E). Looked m (after_miss (after_take v i g) j records) number h y) whole (subst (λ (y : PassView S E). Looked m y number h x) first l) in
