@@ -1,3 +1,3 @@
 pub mod InOrder
 pub mod StillRanks
-pub mod Tries
+pub mod TriedRanks

@@ -4,7 +4,7 @@ use Rattle.gaspi_types.specs.World.{ShapeValue}
 use Rattle.gaspi_world.specs.Transfers.{MovesOn, HasNoEnabledTransfer}
 use Rattle.gaspi_world.specs.declared.moving.Moving.{Moving}
 use Rattle.gaspi_world.specs.declared.moving.Moving.TheVariants as moves
-use Rattle.transfer_worker.proofs.Tries.{knows-then, knows-more, lane-moves-on}
+use Rattle.transfer_worker.proofs.TriedRanks.{knows-then, knows-more, lane-moves-on}
 use Rattle.transfer_worker.proofs.tries.try_other.Goals as goal
 
 pub returns-then-is_quiet-clause-tried : goal.returns-then-is_quiet-clause-tried

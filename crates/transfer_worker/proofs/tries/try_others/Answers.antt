@@ -6,7 +6,7 @@ use Rattle.transfer_worker.specs.contracts.tries.Others.{the_type}
 use Rattle.transfer_worker.specs.declared.tries.Others.{Others}
 use Rattle.transfer_worker.specs.declared.tries.Others.TheVariants.{Moved}
 use Rattle.transfer_worker.proofs.InOrder.{others-stop, others-end, tried-other-next}
-use Rattle.transfer_worker.proofs.Tries.{goes-then}
+use Rattle.transfer_worker.proofs.TriedRanks.{goes-then}
 use Rattle.transfer_worker.proofs.tries.try_others.Goals as goal
 
 pub loop-next-init : goal.loop-next-init

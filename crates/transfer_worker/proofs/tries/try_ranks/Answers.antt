@@ -6,7 +6,7 @@ use Rattle.gaspi_world.specs.contracts.moving.Moving.{the_type}
 use Rattle.gaspi_world.specs.declared.moving.Moving.{Moving}
 use Rattle.gaspi_world.specs.declared.moving.Moving.TheVariants.{Moved}
 use Rattle.transfer_worker.proofs.InOrder.{turn-stops}
-use Rattle.transfer_worker.proofs.Tries.{moves-on, goes-then, moved-turned, round-ends, round-goes, round-in-order}
+use Rattle.transfer_worker.proofs.TriedRanks.{moves-on, goes-then, moved-turned, round-ends, round-goes, round-in-order}
 use Rattle.transfer_worker.proofs.tries.try_ranks.Goals as goal
 
 pub returns-then-eq-clause-goes_on : goal.returns-then-eq-clause-goes_on

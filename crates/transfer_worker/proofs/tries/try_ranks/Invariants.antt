@@ -1,4 +1,4 @@
-use Rattle.transfer_worker.proofs.Tries.{IsRound}
+use Rattle.transfer_worker.proofs.TriedRanks.{IsRound}
 use Rattle.transfer_worker.proofs.tries.try_ranks.Given as goal
 
 abbrev pub invariant-loop-step : goal.invariant-loop-step

@@ -2,7 +2,7 @@ use Rattle.std.proofs.Common.{true, false, refl, ap, ◌∙◌, subst}
 use Rattle.gaspi_types.specs.World.{ShapeValue}
 use Rattle.transfer_worker.specs.Order.{GoesPast, Rests}
 use Rattle.transfer_worker.proofs.InOrder.{turning-begins, turning-past, turning-rests, turning-ends}
-use Rattle.transfer_worker.proofs.Tries.{goes-then, goes-same, knows-none, knows-then}
+use Rattle.transfer_worker.proofs.TriedRanks.{goes-then, goes-same, knows-none, knows-then}
 use Rattle.transfer_worker.proofs.workers.Worker.drain.Goals as goal
 
 pub loop-init : goal.loop-init
