@@ -85,7 +85,7 @@ fn a_journal_has_its_text_and_is_legal(rt: HostRuntime) -> Result<(), Fail> {
 
 /// The journal of three events, merged of two rank journals.
 fn three_merged(alloc: Global) -> Result<Journal, NoMemory> {
-    let mut first = RankJournal::with_room(alloc, 2)?;
+    let mut first = RankJournal::with_capacity(alloc, 2)?;
     first.push(PlacedEvent {
         place: 0,
         event: notified(caller()),
@@ -94,7 +94,7 @@ fn three_merged(alloc: Global) -> Result<Journal, NoMemory> {
         place: 2,
         event: taken(RankId::of(1)),
     });
-    let mut second = RankJournal::with_room(alloc, 1)?;
+    let mut second = RankJournal::with_capacity(alloc, 1)?;
     second.push(PlacedEvent {
         place: 1,
         event: taken(RankId::of(0)),
