@@ -189,7 +189,7 @@ module _ (calls : CallsLaw) (transfers : TransfersLaw) (notifications : Notifica
       let here = subst (λ (w : ShapeValue). HasRunWorld w (bench_scripts seed ranks rounds ranks) 1 bench_limit journal tally finished) shape_is (subst (λ (ss : List Script). HasRunWorld shape ss 1 bench_limit journal tally finished) scripts_are ran) in
       let numbered = subst (λ (w : ShapeValue). AreNumbers w journal numbers) shape_is counted in
       record {
-        ended = finished;
+        finished = finished;
         ran = here;
         numbers = numbers;
         counted = numbered;

@@ -73,7 +73,7 @@ run_text false w scripts journal = journal_text journal
 pub record HasRunOnThreads (workers limit : ℕ) (brief : Bool) (input : List ℕ) (journal : List Event) (tally : AnswerTally) (status : ℕ) (text : List ℕ) : Type 0 where
   pub world : ShapeValue
   pub scripts : List Script
-  pub ended : List EndedCaller
+  pub finished : List EndedCaller
   pub read : world_text input ≡ Ok (record { world = Some world; scripts = scripts })
   pub ran : HasRunWorld world scripts workers limit journal tally finished
   pub text_is : text ≡ run_text brief world scripts journal
@@ -100,7 +100,7 @@ pub record AreClosed (seed ranks rounds : ℕ) (n : Numbers4) : Type 0 where
   pub sum : n.sum ≡ draws_until seed ranks (rounds - 1) ranks % 2 ^ 64
 
 pub record HasBenched (seed ranks rounds : ℕ) (journal : List Event) (tally : AnswerTally) (status : ℕ) (text : List ℕ) : Type 0 where
-  pub ended : List EndedCaller
+  pub finished : List EndedCaller
   pub ran : HasRunWorld (bench_shape ranks rounds) (bench_scripts seed ranks rounds ranks) 1 bench_limit journal tally finished
   pub numbers : Numbers4
   pub counted : AreNumbers (bench_shape ranks rounds) journal numbers
@@ -115,7 +115,7 @@ pub record HasBenched (seed ranks rounds : ℕ) (journal : List Event) (tally : 
 pub record IsStepped (seed limit : ℕ) (brief : Bool) (input : List ℕ) (journal : List Event) (status : ℕ) (text : List ℕ) : Type 0 where
   pub world : ShapeValue
   pub scripts : List Script
-  pub ended : List EndedCaller
+  pub finished : List EndedCaller
   pub read : world_text input ≡ Ok (record { world = Some world; scripts = scripts })
   pub scheduled : IsScheduled world scripts seed limit journal finished
   pub legal : is_legal world journal ≡ true

@@ -7,7 +7,7 @@ pub returns-clause-told : goal.returns-clause-told
 returns-clause-told g c = record {
   world = c.in_ok-shape.shape;
   scripts = c.in_ok-shape.scripts;
-  ended = c.in_ok-journal.field-0.outcomes;
+  finished = c.in_ok-journal.field-0.outcomes;
   read = c.in_ok-shape.ensures.exact;
   ran = c.in_ok-journal.ensures.ran;
   text_is = c.in_ok-text.ensures;
