@@ -15,7 +15,7 @@ loop-task-preserved c =
     let found = c.in_ok-finished.ensures in
     let more : c.match-branch-3.outcomes ≡ had ++ finished_of task.body =
     elim c.match-branch-3.branch [
-      | in-Some+in_ok-push w ↦ w.outcomes-is ∙ (w.in_ok-push.ensures.ok ∙ ap (λ (fs : List EndedCaller). had ++ fs) (sym (ap (option_to_list {X = EndedCaller}) w.in-Some.is) ∙ found.ended))
-      | in_default w ↦ w.outcomes-is ∙ (sym (append-nil had) ∙ ap (λ (fs : List EndedCaller). had ++ fs) (sym (ap (option_to_list {X = EndedCaller}) w.in_default.is) ∙ found.ended))
+      | in-Some+in_ok-push w ↦ w.outcomes-is ∙ (w.in_ok-push.ensures.ok ∙ ap (λ (fs : List EndedCaller). had ++ fs) (sym (ap (option_to_list {X = EndedCaller}) w.in-Some.is) ∙ found.finished))
+      | in_default w ↦ w.outcomes-is ∙ (sym (append-nil had) ∙ ap (λ (fs : List EndedCaller). had ++ fs) (sym (ap (option_to_list {X = EndedCaller}) w.in_default.is) ∙ found.finished))
     ] in
     (finished-more tasks i task had c.match-branch-3.outcomes less c.task-item.is c.loop-task.invariant.0 more, told-more tasks i task less c.task-item.is c.loop-task.invariant.1 found.told)
