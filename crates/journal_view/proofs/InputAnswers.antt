@@ -11,9 +11,9 @@ use Rattle.rank_script.specs.Lines.{input_limit}
 use Rattle.rank_script.specs.WorldText.{TextFault, checked_world}
 use Rattle.rank_script.specs.declared.scripts.ScriptFault.{ScriptFault}
 use Rattle.rank_script.specs.declared.scripts.ScriptFault.TheVariants.{At, NoMemory}
-use Rattle.journal_view.specs.Answers.{fault_text, SaysFault, Says, SaysStop, Answers}
+use Rattle.journal_view.specs.Answers.{fault_text, AnswersFault, AnswersView, AnswersStop, Answers}
 use Rattle.journal_view.specs.Viewing.{IsViewed}
-use Rattle.journal_view.specs.declared.viewing.Told.{Told}
+use Rattle.journal_view.specs.declared.viewing.ViewResult.{ViewResult}
 use Rattle.journal_view.specs.declared.words.Picture.{Picture}
 
 -- an input that is too long
@@ -54,7 +54,7 @@ module _ (asked : Picture) (before after held held' : Option (List ℕ)) (faults
   abbrev IsAnswered : Type 0
   IsAnswered = Answers asked before after faults faults' held held' sink_faults sink_faults' status
 
-  answered-fault : (fault : TextFault) → KnowsFault before after fault → faults' ≡ faults → SaysFault held held' sink_faults sink_faults' status fault → IsAnswered
+  answered-fault : (fault : TextFault) → KnowsFault before after fault → faults' ≡ faults → AnswersFault held held' sink_faults sink_faults' status fault → IsAnswered
   answered-fault fault k read (inl (inl told)) = inr (inl (record {
     text = fault_text fault;
     still = (read, told.2);
@@ -78,9 +78,9 @@ module _ (asked : Picture) (before after held held' : Option (List ℕ)) (faults
   }))))
 
   -- what was told of an input that was read
-  pub answered-told : (input : List ℕ) (r : Result Told ScriptFault) → ForSome before (λ told. input ≡ told) → ForSome before (λ told. after ≡ Some []) → length input ≤ input_limit → faults' ≡ faults
+  pub answered-told : (input : List ℕ) (r : Result ViewResult ScriptFault) → ForSome before (λ told. input ≡ told) → ForSome before (λ told. after ≡ Some []) → length input ≤ input_limit → faults' ≡ faults
       → IfOk r (λ told. IsViewed asked input told.status told.text)
-      → ((number line : ℕ) → IsErrOf r (At number line) → checked_world input ≡ Err (record { number = number; line = line })) → Says held held' sink_faults sink_faults' status r → IsAnswered
+      → ((number line : ℕ) → IsErrOf r (At number line) → checked_world input ≡ Err (record { number = number; line = line })) → AnswersView held held' sink_faults sink_faults' status r → IsAnswered
   answered-told input (Ok told) all end short read tells faulty (inl written) = inl (record {
     text = told.text;
     still = (read, written.2);
@@ -106,7 +106,7 @@ module _ (asked : Picture) (before after held held' : Option (List ℕ)) (faults
 
   -- an input that was not read to its end
   pub answered-stop : (stop : ReadStop) → (stop ≡ stops.Long → ForSome before (λ told. input_limit < length told)) → (stop ≡ stops.Long → after ≡ without before (input_limit + 1)) → (stop ≡ stops.Fault → HasCause faults faults')
-      → (stop ≡ stops.Long → faults' ≡ faults) → (stop ≡ stops.NoMemory → faults' ≡ faults) → SaysStop held held' sink_faults sink_faults' status stop → IsAnswered
+      → (stop ≡ stops.Long → faults' ≡ faults) → (stop ≡ stops.NoMemory → faults' ≡ faults) → AnswersStop held held' sink_faults sink_faults' status stop → IsAnswered
   answered-stop stops.Fault long past cause still_long still_memory silent = inr (inr (inl (record {
     cause = cause refl;
     still = silent.2;

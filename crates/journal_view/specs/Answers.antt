@@ -13,7 +13,7 @@ use Rattle.rank_script.specs.WorldText.{TextFault, checked_world}
 use Rattle.rank_script.specs.declared.scripts.ScriptFault.{ScriptFault}
 use Rattle.rank_script.specs.declared.scripts.ScriptFault.TheVariants.{At, NoMemory}
 use Rattle.journal_view.specs.Viewing.{IsViewed}
-use Rattle.journal_view.specs.declared.viewing.Told.{Told}
+use Rattle.journal_view.specs.declared.viewing.ViewResult.{ViewResult}
 use Rattle.journal_view.specs.declared.words.Picture.{Picture}
 
 abbrev pub refused_text : List ℕ
@@ -37,24 +37,24 @@ module _ (held held' : Option (List ℕ)) (faults faults' status : ℕ) where
   IsSilent meant = (status ≡ meant) × (held' ≡ held) × (faults' ≡ faults)
 
   -- a fault was told, or there was no memory for its text
-  abbrev pub SaysFault : TextFault → Type 0
-  SaysFault fault = IsWritten 2 (fault_text fault) ⊎ IsSilent 7
+  abbrev pub AnswersFault : TextFault → Type 0
+  AnswersFault fault = IsWritten 2 (fault_text fault) ⊎ IsSilent 7
 
-  abbrev pub Says : Result Told ScriptFault → Type 0
-  Says (Ok told) = IsWritten told.status told.text
-  Says (Err (At number line)) = SaysFault (record { number = number; line = line })
-  Says (Err NoMemory) = IsSilent 7
+  abbrev pub AnswersView : Result ViewResult ScriptFault → Type 0
+  AnswersView (Ok told) = IsWritten told.status told.text
+  AnswersView (Err (At number line)) = AnswersFault (record { number = number; line = line })
+  AnswersView (Err NoMemory) = IsSilent 7
 
   -- the input could not be read, or is too long
-  abbrev pub SaysStop : ReadStop → Type 0
-  SaysStop stops.Fault = IsSilent 5
-  SaysStop stops.Long = SaysFault (record { number = 1; line = 0 })
-  SaysStop stops.NoMemory = IsSilent 7
+  abbrev pub AnswersStop : ReadStop → Type 0
+  AnswersStop stops.Fault = IsSilent 5
+  AnswersStop stops.Long = AnswersFault (record { number = 1; line = 0 })
+  AnswersStop stops.NoMemory = IsSilent 7
 
 -- What an answer says. Each case has its statuses.
 
 -- the whole input was read, and the text is what is told of it
-pub record TellsInput (asked : Picture) (before after : Option (List ℕ)) (status : ℕ) (text : List ℕ) : Type 0 where
+pub record IsResultOf (asked : Picture) (before after : Option (List ℕ)) (status : ℕ) (text : List ℕ) : Type 0 where
   pub input : List ℕ
   pub all : ForSome before (λ told. input ≡ told)
   pub end : ForSome before (λ told. after ≡ Some [])
@@ -62,7 +62,7 @@ pub record TellsInput (asked : Picture) (before after : Option (List ℕ)) (stat
 
 -- the input has a fault, and the text names the first; the whole input was read, and where it is too long, one byte past
 -- what it may have
-pub record TellsFault (before after : Option (List ℕ)) (text : List ℕ) : Type 0 where
+pub record IsFaultOf (before after : Option (List ℕ)) (text : List ℕ) : Type 0 where
   pub input : List ℕ
   pub fault : TextFault
   pub all : ForSome before (λ told. input ≡ told)
@@ -76,22 +76,22 @@ abbrev pub NothingFailed : ℕ → ℕ → ℕ → ℕ → Type 0
 NothingFailed faults faults' sink_faults sink_faults' = (faults' ≡ faults) × (sink_faults' ≡ sink_faults)
 
 -- the input was told: status 0, 4 or 9
-pub record HasTold (asked : Picture) (before after held held' : Option (List ℕ)) (faults faults' sink_faults sink_faults' status : ℕ) : Type 0 where
+pub record WroteResult (asked : Picture) (before after held held' : Option (List ℕ)) (faults faults' sink_faults sink_faults' status : ℕ) : Type 0 where
   pub text : List ℕ
   pub still : NothingFailed faults faults' sink_faults sink_faults'
-  pub told : TellsInput asked before after status text
+  pub told : IsResultOf asked before after status text
   pub written : held' ≡ with_more held text
 
 -- a fault was told: status 2
 pub record IsFaulty (before after held held' : Option (List ℕ)) (faults faults' sink_faults sink_faults' status : ℕ) : Type 0 where
   pub text : List ℕ
   pub still : NothingFailed faults faults' sink_faults sink_faults'
-  pub fault : TellsFault before after text
+  pub fault : IsFaultOf before after text
   pub written : held' ≡ with_more held text
   pub status_is : status ≡ 2
 
 -- the input could not be read: status 5; nothing was written, and at most one byte more was taken than an input may have
-pub record CouldNotRead (before after held held' : Option (List ℕ)) (faults faults' sink_faults sink_faults' status : ℕ) : Type 0 where
+pub record ReadFailed (before after held held' : Option (List ℕ)) (faults faults' sink_faults sink_faults' status : ℕ) : Type 0 where
   pub cause : HasCause faults faults'
   pub still : sink_faults' ≡ sink_faults
   pub taken : TakesAtMost (input_limit + 1) before after
@@ -99,16 +99,16 @@ pub record CouldNotRead (before after held held' : Option (List ℕ)) (faults fa
   pub status_is : status ≡ 5
 
 -- the text of the input or of a fault could not be written whole: status 6; what was written is a front part of it
-pub record CouldNotWrite (asked : Picture) (before after held held' : Option (List ℕ)) (faults faults' sink_faults sink_faults' status : ℕ) : Type 0 where
+pub record WriteFailed (asked : Picture) (before after held held' : Option (List ℕ)) (faults faults' sink_faults sink_faults' status : ℕ) : Type 0 where
   pub text : List ℕ
-  pub of : ((would_be : ℕ) × TellsInput asked before after would_be text) ⊎ TellsFault before after text
+  pub of : ((would_be : ℕ) × IsResultOf asked before after would_be text) ⊎ IsFaultOf before after text
   pub front : AddsPrefix text held held'
   pub cause : HasCause sink_faults sink_faults'
   pub still : faults' ≡ faults
   pub status_is : status ≡ 6
 
 -- want of memory, and nothing else: status 7; nothing was written, and at most one byte more was taken than an input may have
-pub record LacksMemory (before after held held' : Option (List ℕ)) (faults faults' sink_faults sink_faults' status : ℕ) : Type 0 where
+pub record RanOutOfMemory (before after held held' : Option (List ℕ)) (faults faults' sink_faults sink_faults' status : ℕ) : Type 0 where
   pub taken : TakesAtMost (input_limit + 1) before after
   pub kept : held' ≡ held
   pub still : NothingFailed faults faults' sink_faults sink_faults'
@@ -117,11 +117,11 @@ pub record LacksMemory (before after held held' : Option (List ℕ)) (faults fau
 -- the answer to an input, of which that picture is asked for
 abbrev pub Answers : Picture → Option (List ℕ) → Option (List ℕ) → ℕ → ℕ → Option (List ℕ) → Option (List ℕ) → ℕ → ℕ → ℕ → Type 0
 Answers asked before after faults faults' held held' sink_faults sink_faults' status =
-    HasTold asked before after held held' faults faults' sink_faults sink_faults' status
+    WroteResult asked before after held held' faults faults' sink_faults sink_faults' status
     ⊎ (IsFaulty before after held held' faults faults' sink_faults sink_faults' status
-    ⊎ (CouldNotRead before after held held' faults faults' sink_faults sink_faults' status
-    ⊎ (CouldNotWrite asked before after held held' faults faults' sink_faults sink_faults' status
-    ⊎ LacksMemory before after held held' faults faults' sink_faults sink_faults' status)))
+    ⊎ (ReadFailed before after held held' faults faults' sink_faults sink_faults' status
+    ⊎ (WriteFailed asked before after held held' faults faults' sink_faults sink_faults' status
+    ⊎ RanOutOfMemory before after held held' faults faults' sink_faults sink_faults' status)))
 
 -- the answer to words that are refused: status 1, or 6 where that could not be written, or 7 where memory is wanting
 abbrev pub Refuses : Option (List ℕ) → Option (List ℕ) → ℕ → ℕ → ℕ → Type 0

@@ -3,11 +3,11 @@
 ghost use Rattle.std.specs.Prelude.{◌≡◌, ◌⊎◌, map, None, Some, IfOk};
 ghost use Rattle.gaspi_io.specs.Faults.{HasCause};
 ghost use Rattle.gaspi_io.specs.Sink.{with_more, AddsPrefix};
-ghost use Rattle.journal_view.specs.Answers.{Answers, Refuses, Says, SaysFault, SaysStop, fault_text};
+ghost use Rattle.journal_view.specs.Answers.{Answers, Refuses, AnswersView, AnswersFault, AnswersStop, fault_text};
 ghost use Rattle.journal_view.specs.Words.{picture_of};
 ghost use Rattle.journal_view.specs.declared.words.Picture.{Picture};
 
-use crate::viewing::{Told, tell_view};
+use crate::viewing::{ViewResult, view_result};
 use crate::words::{Picture, read_words};
 use gaspi_io::{Failed, ReadStop, Sink, Source, read_all, write_all};
 use gaspi_texts::write_number;
@@ -41,7 +41,7 @@ fn status_of<K: Sink>(sink: &mut K, text: &[u8], status: u8) -> u8
 
 /// Answers a fault of the input.
 fn answer_fault<K: Sink>(alloc: Global, sink: &mut K, number: u32, line: u64) -> u8
-    ensures { SaysFault (K.held sink.old) (K.held sink.new) (K.faults sink.old) (K.faults sink.new) result (record { number = number; line = line }) }
+    ensures { AnswersFault (K.held sink.old) (K.held sink.new) (K.faults sink.old) (K.faults sink.new) result (record { number = number; line = line }) }
 {
     match fault_line(alloc, number, line) {
         Ok(text) => status_of(sink, text.as_slice(), 2),
@@ -50,8 +50,8 @@ fn answer_fault<K: Sink>(alloc: Global, sink: &mut K, number: u32, line: u64) ->
 }
 
 /// Answers what was told of an input, or its fault.
-fn answer_told<K: Sink>(alloc: Global, sink: &mut K, told: Result<Told, ScriptFault>) -> u8
-    ensures { Says (K.held sink.old) (K.held sink.new) (K.faults sink.old) (K.faults sink.new) result told }
+fn answer_result<K: Sink>(alloc: Global, sink: &mut K, told: Result<ViewResult, ScriptFault>) -> u8
+    ensures { AnswersView (K.held sink.old) (K.held sink.new) (K.faults sink.old) (K.faults sink.new) result told }
 {
     match told {
         Ok(told) => status_of(sink, told.text.as_slice(), told.status),
@@ -62,7 +62,7 @@ fn answer_told<K: Sink>(alloc: Global, sink: &mut K, told: Result<Told, ScriptFa
 
 /// Answers an input that could not be read.
 fn answer_stop<K: Sink>(alloc: Global, sink: &mut K, stop: ReadStop) -> u8
-    ensures { SaysStop (K.held sink.old) (K.held sink.new) (K.faults sink.old) (K.faults sink.new) result stop }
+    ensures { AnswersStop (K.held sink.old) (K.held sink.new) (K.faults sink.old) (K.faults sink.new) result stop }
 {
     match stop {
         ReadStop::Fault => 5,
@@ -82,7 +82,7 @@ fn view_picture<S: Source, K: Sink>(
         (K.held sink.old) (K.held sink.new) (K.faults sink.old) (K.faults sink.new) result }
 {
     match read_all(alloc, source, MOST_INPUT_BYTES as u64) {
-        Ok(input) => answer_told(alloc, sink, tell_view(alloc, picture, input.as_slice())),
+        Ok(input) => answer_result(alloc, sink, view_result(alloc, picture, input.as_slice())),
         Err(stop) => answer_stop(alloc, sink, stop),
     }
 }

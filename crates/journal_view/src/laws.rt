@@ -7,7 +7,7 @@ use crate::words::Picture;
 
 /// These words are taken.
 #[tactic(auto, unfolding(crate::specs::Words::picture_of, clap::proofs::OnLiterals::clap_on_literals))]
-pub fn words_that_are_taken()
+pub fn words_that_are_accepted()
     ensures sequence { picture_of (codes "--sequence" ∷ []) ≡ Some Picture.Sequence }
     ensures trace { picture_of (codes "--trace" ∷ []) ≡ Some Picture.Trace }
     ensures dashes { picture_of (codes "--sequence" ∷ codes "--" ∷ []) ≡ Some Picture.Sequence }

@@ -19,7 +19,7 @@ use std::alloc::Global;
 
 /// What is told of an input: the status and the text.
 #[derive(Debug, Drop)]
-pub struct Told {
+pub struct ViewResult {
     pub status: u8,
     pub text: Bytes,
 }
@@ -63,58 +63,58 @@ fn long_text(alloc: Global, events: u64) -> Result<Bytes, NoMemory>
 }
 
 /// Tells that an input has no journal, and at which of its lines.
-fn tell_no_journal(alloc: Global, line: u64) -> Result<Told, NoMemory>
+fn no_journal_result(alloc: Global, line: u64) -> Result<ViewResult, NoMemory>
     ensures { IfOk result (λ told. IsNoJournal line told.status told.text) }
 {
     let mut text = Bytes::new(alloc);
     text.append(b"not a journal ")?;
     write_number(&mut text, line)?;
     text.append(b"\n")?;
-    Ok(Told { status: 4, text })
+    Ok(ViewResult { status: 4, text })
 }
 
 /// Tells the sequence diagram of a journal.
-fn tell_sequence(alloc: Global, shape: &Shape, journal: &Journal) -> Result<Told, NoMemory>
+fn sequence_result(alloc: Global, shape: &Shape, journal: &Journal) -> Result<ViewResult, NoMemory>
     ensures { IfOk result (λ told. HasSequence shape.now journal.now told.status told.text) }
 {
     match sequence(alloc, shape, journal)? {
-        SequenceAnswer::Drawn(text) => Ok(Told { status: 0, text }),
+        SequenceAnswer::Drawn(text) => Ok(ViewResult { status: 0, text }),
         SequenceAnswer::Long { events } => {
             let text = long_text(alloc, events)?;
-            Ok(Told { status: 9, text })
+            Ok(ViewResult { status: 9, text })
         }
         SequenceAnswer::Illegal { place, why } => {
             let text = illegal_text(alloc, place, why)?;
-            Ok(Told { status: 4, text })
+            Ok(ViewResult { status: 4, text })
         }
     }
 }
 
 /// Tells the trace of a journal.
-fn tell_trace(alloc: Global, shape: &Shape, journal: &Journal) -> Result<Told, NoMemory>
+fn trace_result(alloc: Global, shape: &Shape, journal: &Journal) -> Result<ViewResult, NoMemory>
     ensures { IfOk result (λ told. HasTrace shape.now journal.now told.status told.text) }
 {
     match trace(alloc, shape, journal)? {
-        TraceAnswer::Traced(text) => Ok(Told { status: 0, text }),
+        TraceAnswer::Traced(text) => Ok(ViewResult { status: 0, text }),
         TraceAnswer::Refuted { place, why } => {
             let text = illegal_text(alloc, place, why)?;
-            Ok(Told { status: 4, text })
+            Ok(ViewResult { status: 4, text })
         }
     }
 }
 
 /// Tells the picture of a journal.
-fn tell_picture(
+fn picture_result(
     alloc: Global,
     picture: Picture,
     shape: &Shape,
     journal: &Journal,
-) -> Result<Told, NoMemory>
+) -> Result<ViewResult, NoMemory>
     ensures { IfOk result (λ told. HasPicture picture shape.now journal.now told.status told.text) }
 {
     match picture {
-        Picture::Sequence => tell_sequence(alloc, shape, journal),
-        Picture::Trace => tell_trace(alloc, shape, journal),
+        Picture::Sequence => sequence_result(alloc, shape, journal),
+        Picture::Trace => trace_result(alloc, shape, journal),
     }
 }
 
@@ -134,51 +134,51 @@ fn line_count(text: &[u8]) -> u64
 }
 
 /// Tells why a text, the first line of which has that number, was not read as a journal.
-fn tell_fault(
+fn fault_result(
     alloc: Global,
     fault: JournalFault,
     text: &[u8],
     number: u64,
-) -> Result<Told, NoMemory>
+) -> Result<ViewResult, NoMemory>
     requires number { (1 ≤ number) × (number + length text.now < 2 ^ 63) }
     requires faulty { (line : ℕ) → fault ≡ At line → IsFaultyAt text.now line }
     ensures { IfOk result (λ told. IsUnread text.now number told.status told.text) }
 {
     match fault {
-        JournalFault::At { line } => tell_no_journal(alloc, number - 1 + line),
+        JournalFault::At { line } => no_journal_result(alloc, number - 1 + line),
         JournalFault::NoMemory => Err(NoMemory),
     }
 }
 
 /// Reads the journal of an input, which begins at a line of that number, and tells its picture.
-fn tell_journal(
+fn journal_result(
     alloc: Global,
     picture: Picture,
     shape: &Shape,
     text: &[u8],
     number: u64,
-) -> Result<Told, NoMemory>
+) -> Result<ViewResult, NoMemory>
     requires { (1 ≤ number) × (number + length text.now < 2 ^ 63) }
     ensures { IfOk result (λ told. IsRead picture shape.now text.now number told.status told.text) }
 {
     match read(alloc, text) {
-        Ok(journal) => tell_picture(alloc, picture, shape, &journal),
-        Err(fault) => tell_fault(alloc, fault, text, number),
+        Ok(journal) => picture_result(alloc, picture, shape, &journal),
+        Err(fault) => fault_result(alloc, fault, text, number),
     }
 }
 
 /// Tells the picture that is asked for, of the journal of an input, in the world of the text before it.
-pub fn tell_view(alloc: Global, picture: Picture, input: &[u8]) -> Result<Told, ScriptFault>
+pub fn view_result(alloc: Global, picture: Picture, input: &[u8]) -> Result<ViewResult, ScriptFault>
     ensures told { IfOk result (λ told. IsViewed picture input.now told.status told.text) }
     ensures fault { (number line : ℕ) → IsErrOf result (script_faults.At number line)
         → checked_world input.now ≡ Err (record { number = number; line = line }) }
 {
     let (shape, _scripts, place) = read_input(alloc, input)?;
     match place {
-        None => Ok(tell_no_journal(alloc, line_count(input) + 1)?),
+        None => Ok(no_journal_result(alloc, line_count(input) + 1)?),
         Some((place, number)) => {
             let journal = &input[place as usize..];
-            Ok(tell_journal(alloc, picture, &shape, journal, number)?)
+            Ok(journal_result(alloc, picture, &shape, journal, number)?)
         }
     }
 }

@@ -5,8 +5,8 @@ use Rattle.journal_view.proofs.answering.view_picture.Goals as goal
 
 pub returns-in-Ok : goal.returns-in-Ok
 returns-in-Ok g c =
-    answered-told _ _ _ _ _ _ _ _ _ c.answer_told.result c.read_all.ensures.taken c.in-Ok.input c.tell_view.result c.in-Ok.ensures.all c.in-Ok.ensures.end c.in-Ok.ensures.within c.in-Ok.ensures.still
-    (rw (sym c.as_slice.ensures) c.tell_view.ensures.told) (λ number line is. ap checked_world (sym c.as_slice.ensures) ∙ c.tell_view.ensures.fault number line is) c.answer_told.ensures
+    answered-told _ _ _ _ _ _ _ _ _ c.answer_result.result c.read_all.ensures.taken c.in-Ok.input c.view_result.result c.in-Ok.ensures.all c.in-Ok.ensures.end c.in-Ok.ensures.within c.in-Ok.ensures.still
+    (rw (sym c.as_slice.ensures) c.view_result.ensures.told) (λ number line is. ap checked_world (sym c.as_slice.ensures) ∙ c.view_result.ensures.fault number line is) c.answer_result.ensures
 
 pub returns-in-Err : goal.returns-in-Err
 returns-in-Err g c =

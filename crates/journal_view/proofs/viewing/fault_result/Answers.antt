@@ -1,7 +1,7 @@
 use Rattle.std.proofs.Common.{arith, refl}
 use Rattle.std.proofs.lemmas.Result.{IfOk-weaker}
 use Rattle.call_texts.proofs.FedLines.{lines-short}
-use Rattle.journal_view.proofs.viewing.tell_fault.Goals as goal
+use Rattle.journal_view.proofs.viewing.fault_result.Goals as goal
 
 pub overflow_add-number : goal.overflow_add-number
 overflow_add-number c =
@@ -12,6 +12,6 @@ overflow_add-number c =
 
 pub returns-in-At : goal.returns-in-At
 returns-in-At c =
-    IfOk-weaker c.tell_no_journal.result _ _
+    IfOk-weaker c.no_journal_result.result _ _
     (λ told none. record { line = c.in-At.line; faulty = c.requires.faulty c.in-At.line c.in-At.is; none = none })
-    c.tell_no_journal.ensures
+    c.no_journal_result.ensures

@@ -2,7 +2,7 @@ use Rattle.std.proofs.Common.{◌≡◌, ℕ, ◌-◌, List, Option, take, drop,
 use Rattle.std.proofs.Math.Seq.{take-length}
 use Rattle.std.proofs.lemmas.List.{length-drop}
 use Rattle.journal_view.specs.Viewing.{IsViewedIn, IsRead}
-use Rattle.journal_view.proofs.viewing.tell_view.Goals as goal
+use Rattle.journal_view.proofs.viewing.view_result.Goals as goal
 
 -- all that stands from a place on
 all-behind : (place : ℕ) (input : List ℕ) → take (length input - place) (drop place input) ≡ drop place input
@@ -14,8 +14,8 @@ returns-clause-told c = record {
   scripts = c.in_ok-shape._scripts;
   read = c.in_ok-shape.ensures.exact.0;
   result =
-      subst (λ (o : Option (ℕ × ℕ)). IsViewedIn c.args.picture c.in_ok-shape.shape c.args.input.now o c.in_ok-tell_journal-in-Some.field-0.status c.in_ok-tell_journal-in-Some.field-0.text)
+      subst (λ (o : Option (ℕ × ℕ)). IsViewedIn c.args.picture c.in_ok-shape.shape c.args.input.now o c.in_ok-journal_result-in-Some.field-0.status c.in_ok-journal_result-in-Some.field-0.text)
       (sym c.in-Some.is ∙ c.in_ok-shape.ensures.exact.1)
-      (subst (λ (text : List ℕ). IsRead c.args.picture c.in_ok-shape.shape text c.in-Some.number c.in_ok-tell_journal-in-Some.field-0.status c.in_ok-tell_journal-in-Some.field-0.text)
-      (all-behind c.in-Some.place c.args.input.now) c.in_ok-tell_journal-in-Some.ensures);
+      (subst (λ (text : List ℕ). IsRead c.args.picture c.in_ok-shape.shape text c.in-Some.number c.in_ok-journal_result-in-Some.field-0.status c.in_ok-journal_result-in-Some.field-0.text)
+      (all-behind c.in-Some.place c.args.input.now) c.in_ok-journal_result-in-Some.ensures);
 }
