@@ -1,2 +1,3 @@
+pub mod OnItsWay
 pub mod Written
 pub mod GivenBytes

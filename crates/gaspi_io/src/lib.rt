@@ -1,6 +1,7 @@
 //! Where bytes come from and where they go: sources and sinks, in memory and over the standard streams.
 #![tactic(auto)]
 
+mod blocks;
 mod faults;
 mod front;
 mod mem_sink;
@@ -12,6 +13,7 @@ mod standard;
 mod sure;
 mod write;
 
+pub use blocks::{BLOCK_BYTES, WriteStop, write_block, write_full_block};
 pub use faults::Failed;
 pub use mem_sink::MemSink;
 pub use mem_source::MemSource;

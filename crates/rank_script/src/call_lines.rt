@@ -8,10 +8,11 @@ ghost use Rattle.rank_script.specs.WorldText.{is_equals_word, before_equals, aft
 ghost use Rattle.rank_script.specs.CutLines.{call_in};
 
 use crate::arguments::read_looks;
+use crate::expected::ExpectedReply;
 use crate::line_fields::is_word;
 use call_texts::{read_arguments, words_spell_no_end};
 use gaspi_texts::{CallWord, read_number, read_reply_words};
-use gaspi_types::{Call, NoMemory, Reply};
+use gaspi_types::{Call, NoMemory};
 use std::alloc::Global;
 
 /// The call of a line by its parts.
@@ -77,14 +78,19 @@ impl<'b, 'a> CallParts<'b, 'a> {
     }
 
     /// What it expects: nothing, or a reply; none where the words behind `=` spell no reply.
-    pub(crate) fn read_expected(self, alloc: Global) -> Result<Option<Option<Reply>>, NoMemory>
+    pub(crate) fn read_expected(
+        self,
+        alloc: Global,
+    ) -> Result<Option<Option<ExpectedReply>>, NoMemory>
         ensures { IfOk result (λ expected. expected ≡ line_expected (call_in self.entry)) }
     {
         let Some(reply) = self.expected else {
             return Ok(Some(None));
         };
-        let reply = read_reply_words(alloc, reply)?;
-        Ok(reply.map(Some))
+        match read_reply_words(alloc, reply)? {
+            Some(reply) => Ok(Some(Some(ExpectedReply::new(alloc, reply)?))),
+            None => Ok(None),
+        }
     }
 }
 

@@ -138,7 +138,7 @@ fn is_failed(line: &ScriptLine, reply: &Reply) -> bool
     ensures { result ≡ is_failed line.now reply.now }
 {
     match &line.expected {
-        Some(expected) => !same_reply(reply, expected),
+        Some(expected) => !same_reply(reply, expected.reply()),
         None => false,
     }
 }

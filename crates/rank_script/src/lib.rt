@@ -5,6 +5,7 @@ mod arguments;
 mod bench;
 mod call_lines;
 mod cursors;
+mod expected;
 mod generator;
 mod line_fields;
 mod lines;
@@ -19,6 +20,7 @@ mod world_texts;
 
 pub use bench::bench_world;
 pub use cursors::Cursor;
+pub use expected::ExpectedReply;
 pub use generator::drawn;
 pub use run_laws::runs;
 pub use scripts::{RunOutcome, RunStop, Script, ScriptFault, ScriptLine, ScriptLines, Scripts};

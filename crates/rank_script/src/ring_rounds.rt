@@ -5,6 +5,7 @@ ghost use Rattle.byteorder.specs.Endian.{little_bytes};
 ghost use Rattle.rank_script.specs.Bench.{bench_lines, once_line};
 ghost use Rattle.rank_script.specs.Rounds.{round_with, store_with, load_with, lines_in};
 
+use crate::expected::ExpectedReply;
 use crate::generator::after_draws;
 use crate::ring_ranks::RingRank;
 use crate::scripts::ScriptLine;
@@ -17,7 +18,12 @@ use std::alloc::Global;
 use std::marker::Model;
 
 /// A line whose call is made once.
-fn once_line(number: u64, call: Call, timeout: Timeout, expected: Option<Reply>) -> ScriptLine
+fn once_line(
+    number: u64,
+    call: Call,
+    timeout: Timeout,
+    expected: Option<ExpectedReply>,
+) -> ScriptLine
     ensures { result ≡ once_line number call timeout expected }
 {
     ScriptLine {
@@ -55,8 +61,8 @@ fn renew_load(line: &mut ScriptLine, number: u64, received: u32)
     ensures { line.new ≡ load_with number (little_bytes 8 received) }
 {
     line.number = number;
-    if let Some(Reply::Bytes(bytes)) = &mut line.expected {
-        bytes.overwrite(0, &number_bytes(received));
+    if let Some(expected) = &mut line.expected {
+        expected.renew_bytes(&number_bytes(received));
     }
 }
 
@@ -114,10 +120,10 @@ impl Round {
             size: 8,
         });
         let barrier = Call::Barrier(Barrier { group: 0 });
-        let slot = Some(Reply::Id(0));
-        let value = Some(Reply::Value(1));
+        let slot = Some(ExpectedReply::new(alloc, Reply::Id(0))?);
+        let value = Some(ExpectedReply::new(alloc, Reply::Value(1))?);
         let bytes: Bytes = Sequence::copied_from(alloc, &number_bytes(received))?;
-        let bytes = Some(Reply::Bytes(bytes));
+        let bytes = Some(ExpectedReply::new(alloc, Reply::Bytes(bytes))?);
         Ok(Round {
             store: once_line(number, store, Timeout::Looks(1), None),
             post: once_line(number + 1, post, Timeout::Looks(1), None),

@@ -3,14 +3,15 @@
 ghost use Rattle.std.specs.Prelude.{◌≡◌, ◌<◌, ◌++◌, ◌∷◌, [], length, ◌==◌, find, option_copied, slice_get, Some, OnOk, OnErr};
 ghost use Rattle.rank_script.specs.declared.scripts.ScriptFault.TheVariants.{NoMemory};
 
+use crate::expected::ExpectedReply;
 use crate::ring_ranks::RingRank;
-use gaspi_types::{Call, CallerId, NoMemory, Reply, Sequence, Timeout};
+use gaspi_types::{Call, CallerId, NoMemory, Sequence, Timeout};
 use std::alloc::Global;
 use std::marker::Model;
 use thiserror::Error;
 
 /// A line of a script: one call, which may be made again while it times out.
-#[derive(Debug, PartialEq, Eq, Drop)]
+#[derive(Debug, Drop)]
 pub struct ScriptLine {
     /// Its number in the text, from 1.
     pub number: u64,
@@ -19,7 +20,7 @@ pub struct ScriptLine {
     /// How often the call is made at most, from 1.
     pub tries: u32,
     /// The reply that the last of these calls must have, where the line says one.
-    pub expected: Option<Reply>,
+    pub expected: Option<ExpectedReply>,
 }
 
 /// The lines of a script: those of a rank in a ring, where there is one, which no memory holds, and then others.
