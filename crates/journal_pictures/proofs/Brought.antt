@@ -120,7 +120,7 @@ nothing-posted origin (Take o queue target number outcome) none = refl
 nothing-posted origin (Put o queue target number outcome) none = refl
 
 -- the posts of a rank, where they were replaced
-replaced-there : (s t : State) (rank origin : ℕ) (posts after : Posts) → rank ≡ origin → t.posts ≡ slice_set s.posts rank after → slice_get s.posts rank ≡ Some posts → slice_get t.posts origin ≡ Some after
+pub replaced-there : (s t : State) (rank origin : ℕ) (posts after : Posts) → rank ≡ origin → t.posts ≡ slice_set s.posts rank after → slice_get s.posts rank ≡ Some posts → slice_get t.posts origin ≡ Some after
 replaced-there s t rank origin posts after same all there =
     subst (λ (k : ℕ). slice_get t.posts k ≡ Some after) same (rw all (slice_get-set_same s.posts rank posts after there))
 
@@ -152,7 +152,7 @@ same-posts t origin posts after list there now brought =
     subst (λ (p : Posts). AreBrought p list) same brought
 
 -- a call that is done
-posted-by : (origin : ℕ) (e : Event) (c : CallerId) (call : Call) → e ≡ Called c call replies.Done → c.rank ≡ origin → posted_in origin e ≡ deliveries_of call
+pub posted-by : (origin : ℕ) (e : Event) (c : CallerId) (call : Call) → e ≡ Called c call replies.Done → c.rank ≡ origin → posted_in origin e ≡ deliveries_of call
 posted-by origin e c call event mine = ap (posted_in origin) event ∙ (rw (eq-eqb c.rank origin mine) refl)
 
 -- what a rank has posted, one event more
@@ -180,8 +180,12 @@ brought-more s t e origin list sound h known posts there = go (post_of origin e)
         rw (posted-by origin e d.c d.call d.event d.mine ∙ sym (call-brings s.limits.notes d.c.rank p.posts.segments d.call post.posting p.kinds d.posting p.asks))
         (same-posts t origin posts _ (list ++ map delivery_of p.kinds) there now (post-brings p.posts list p.q p.lane p.kinds post.posting.queue post.posting.rank was p.queue_there p.lane_there))
 
-shifted : (n : ℕ) → n + 1 ≡ suc n
+pub shifted : (n : ℕ) → n + 1 ≡ suc n
 shifted n = omega arith
+
+-- one event more
+pub taken-suc : (journal : List Event) (place : ℕ) (e : Event) → slice_get journal place ≡ Some e → take (suc place) journal ≡ take place journal ++ e ∷ []
+taken-suc journal place e at = subst (λ (n : ℕ). take n journal ≡ take place journal ++ e ∷ []) (shifted place) (taken-more journal place e at)
 
 module _ (w : ShapeValue) (world : IsShape w) (journal : List Event) (legal : is_legal w journal ≡ true) (origin : ℕ) where
   -- what it has posted up to a place
@@ -199,10 +203,9 @@ module _ (w : ShapeValue) (world : IsShape w) (journal : List Event) (legal : is
   brought-at (suc place) within s leads posts there =
       let x = there-within journal place (omega arith) in
       let here = step-at w journal place x.0 legal x.1 in
-      let more : take (suc place) journal ≡ take place journal ++ x.0 ∷ [] = subst (λ (n : ℕ). take n journal ≡ take place journal ++ x.0 ∷ []) (shifted place) (taken-more journal place x.0 x.1) in
       let later : reached w (take (suc place) journal) ≡ Ok here.t = subst (λ (n : ℕ). reached w (take n journal) ≡ Ok here.t) (shifted place) here.later in
       let same = same-state (reached w (take (suc place) journal)) s here.t leads later in
-      let all : posted origin (take (suc place) journal) ≡ posted origin (take place journal) ++ posted_in origin x.0 = ap (posted origin) more ∙ posted-more origin (take place journal) x.0 in
+      let all : posted origin (take (suc place) journal) ≡ posted origin (take place journal) ++ posted_in origin x.0 = ap (posted origin) (taken-suc journal place x.0 x.1) ∙ posted-more origin (take place journal) x.0 in
       rw all
       (brought-more here.s here.t x.0 origin (posted origin (take place journal)) (reached-sound w (take place journal) here.s world here.before) here.step_is
       (λ before before_there. brought-at place (omega arith) here.s here.before before before_there)

@@ -1,9 +1,16 @@
 pub mod PostedKinds
 pub mod DeliveryTables
 pub mod Brought
+pub mod WholeQueues
+pub mod TrackedEntries
+pub mod TrackedSlots
+pub mod ArrowEnds
 pub mod LinesAt
 pub mod NumberRanges
-pub mod Objects
 pub mod Lines
 pub mod OpenTables
 pub mod TraceTexts
+pub mod PlainTexts
+pub mod PlainWords
+pub mod CallWords
+pub mod TracedSoFar

@@ -1,5 +1,5 @@
 -- The texts of a trace, put together.
-use Rattle.std.proofs.Common.{◌≡◌, ℕ, List, [], ◌∷◌, ◌++◌, refl, sym, ap, ◌∙◌, append_assoc, append-nil}
+use Rattle.std.proofs.Common.{◌≡◌, ℕ, List, [], ◌∷◌, ◌++◌, sym, ap, ◌∙◌, append_assoc, append-nil}
 use Rattle.serde_json.specs.Data.{Data}
 use Rattle.journal_pictures.specs.JsonLines.{line, lines}
 use Rattle.journal_pictures.proofs.Lines.{lines-append}

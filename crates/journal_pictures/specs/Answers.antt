@@ -1,7 +1,8 @@
 -- What is answered where a picture of a journal is asked for: its sequence diagram or its trace. (own choice)
-use Rattle.std.specs.Prelude.{◌≡◌, ℕ, ◌<◌, ◌≤◌, true, List, length}
+use Rattle.std.specs.Prelude.{◌≡◌, ℕ, ◌<◌, ◌≤◌, true, List, length, Option}
 use Rattle.gaspi_types.specs.World.{ShapeValue}
 use Rattle.gaspi_types.specs.declared.events.Event.{Event}
+use Rattle.gaspi_io.specs.Sink.{with_more, AddsPrefix}
 use Rattle.gaspi_model.specs.Step.{is_legal}
 use Rattle.call_journal.specs.Verdicts.{IsIllegalAt}
 use Rattle.journal_pictures.specs.Diagram.{sequence_text}
@@ -20,6 +21,12 @@ IsSequenceAnswer w journal (Drawn text) = (is_legal w journal ≡ true) × (leng
 IsSequenceAnswer w journal (Long events) = (is_legal w journal ≡ true) × (most_events < length journal) × (events ≡ length journal)
 IsSequenceAnswer w journal (Illegal place why) = IsIllegalAt w journal place why
 
-abbrev pub IsTraceAnswer : ShapeValue → List Event → TraceAnswer → Type 0
-IsTraceAnswer w journal (Traced text) = (is_legal w journal ≡ true) × (text ≡ trace_text w journal)
-IsTraceAnswer w journal (Refuted place why) = IsIllegalAt w journal place why
+-- the trace was written; or the journal is not legal, and nothing was written
+abbrev pub IsTraceAnswer : ShapeValue → List Event → Option (List ℕ) → Option (List ℕ) → TraceAnswer → Type 0
+IsTraceAnswer w journal held held' Traced = (is_legal w journal ≡ true) × (held' ≡ with_more held (trace_text w journal))
+IsTraceAnswer w journal held held' (Refuted place why) = IsIllegalAt w journal place why × (held' ≡ held)
+
+-- the trace was not written whole: what was written is a front part of it
+pub record IsCutTrace (w : ShapeValue) (journal : List Event) (held held' : Option (List ℕ)) : Type 0 where
+  pub legal : is_legal w journal ≡ true
+  pub front : AddsPrefix (trace_text w journal) held held'

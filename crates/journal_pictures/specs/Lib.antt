@@ -1,4 +1,5 @@
 pub mod Answers
+pub mod Arrows
 pub mod Deliveries
 pub mod Diagram
 pub mod JsonLines

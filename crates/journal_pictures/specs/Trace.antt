@@ -1,6 +1,6 @@
 -- The trace of a journal, in the JSON of the Chrome trace event format: an array with an object in each line. A rank is a process there; its
 -- threads are those of its callers, and a track for each queue. The place of an event is its time. (own choice)
-use Rattle.std.specs.Prelude.{ℕ, ◌+◌, ◌-◌, ◌==◌, List, [], ◌∷◌, ◌++◌, map, length, replicate, Option, None, Some, if◌then◌else◌, codes, find, slice_get}
+use Rattle.std.specs.Prelude.{ℕ, ◌+◌, ◌-◌, ◌==◌, List, [], ◌∷◌, ◌++◌, map, replicate, Option, None, Some, if◌then◌else◌, codes, find, slice_get}
 use Rattle.std.specs.Fmt.{decimal}
 use Rattle.std.specs.List.{flat_map, range_with_len}
 use Rattle.std.specs.Str.Lossy.{utf8_lossy}
@@ -18,11 +18,10 @@ use Rattle.gaspi_types.specs.declared.replies.Reply.TheVariants as replies
 use Rattle.gaspi_types.specs.declared.shapes.CallerId.{CallerId}
 use Rattle.call_texts.specs.CallText.{Spelled, call_text, end_word, spelled, spelling_of}
 use Rattle.gaspi_texts.specs.ReplyText.{reply_text}
-use Rattle.gaspi_model.specs.Step.{owner_of}
 use Rattle.serde_json.specs.Data.{Data, Members, string, object, no_members, member}
 use Rattle.serde_json.specs.Written.{compact_text}
 use Rattle.journal_pictures.specs.Diagram.{entry_word, labelled}
-use Rattle.journal_pictures.specs.JsonLines.{line, lines, whole}
+use Rattle.journal_pictures.specs.JsonLines.{lines, whole}
 use Rattle.journal_pictures.specs.OpenEntries.{entries_after, in_queue, is_slot, new_entries, put_entry, slots_after}
 use Rattle.journal_pictures.specs.declared.deliveries.Delivery.{Delivery}
 use Rattle.journal_pictures.specs.declared.deliveries.Delivery.TheVariants.{Bytes, Notification}

@@ -7,6 +7,7 @@ mod delivery_tables;
 mod diagram_lines;
 mod drawing;
 mod json_lines;
+mod laws;
 mod open_entries;
 mod set_slots;
 mod trace_lines;
@@ -14,4 +15,5 @@ mod tracing;
 
 pub use deliveries::Delivery;
 pub use drawing::{SequenceAnswer, sequence};
-pub use tracing::{TraceAnswer, trace};
+pub use laws::arrows_join;
+pub use tracing::{TraceAnswer, write_trace};

@@ -1,86 +1,43 @@
 //! The lines of a trace.
+#![tactic(auto, unfolding(json::specs::Print::escape_byte))]
 
-ghost use Rattle.std.specs.Prelude.{◌≡◌, ◌++◌, ◌∷◌, ◌<◌, ◌^◌, ℕ, length, map, slice_get, string_bytes, IfOk, OnOk, Some};
+ghost use Rattle.std.specs.Prelude.{◌≡◌, ◌++◌, ◌∷◌, ◌<◌, ◌^◌, ℕ, List, codes, length, map, slice_get, OnOk, Some};
 ghost use Rattle.serde_json.specs.Written.{compact_text};
-ghost use Rattle.call_texts.specs.CallText.{call_text};
-ghost use Rattle.gaspi_texts.specs.ReplyText.{reply_text};
-ghost use Rattle.journal_pictures.specs.Diagram.{entry_word, labelled};
-ghost use Rattle.journal_pictures.specs.JsonLines.{line, lines, argument_members};
+ghost use Rattle.serde_json.specs.Data.{Members, member, no_members, string};
+ghost use Rattle.journal_pictures.specs.Diagram.{entry_word};
+ghost use Rattle.journal_pictures.specs.JsonLines.{IsPlain, line, line_front, lines};
 ghost use Rattle.journal_pictures.specs.OpenEntries.{put_entry};
-ghost use Rattle.journal_pictures.specs.Trace.{arrow_to, call_marks, call_slice, call_word, caller_name, coll_word, done_marks, entry_id, event_objects, got_slot, join_slice, mark, process_name, purge_end, put_marks, put_slice, put_step, queue_name, queue_track, rank_name, readable, slice, span_begin, span_end, span_mark, span_taken, track_name};
+ghost use Rattle.journal_pictures.specs.Trace.{arrow_finish, arrow_start, arrow_to, call_marks, call_slice, call_word, caller_name, coll_word, done_marks, entry_members, event_objects, got_slot, join_slice, named, purge_end, put_marks, put_slice, put_step, queue_name, queue_track, rank_name, slice, span_begin, span_end, span_mark, span_taken, track_name};
 
 use crate::deliveries::Delivery;
-use crate::json_lines::{Argument, Item, Leaf, Member, append_line, append_object};
+use crate::json_lines::{Piece, append_pieces};
 use crate::open_entries::{EntryTable, OpenEntry, RankEntries, in_queue, new_entries};
 use crate::set_slots::{SetSlot, slot_at};
-use gaspi_texts::{write_call, write_reply};
+use call_texts::{call_is_in_range, written_words_are_plain};
+use gaspi_texts::{reply_is_in_range, write_call, write_reply};
 use gaspi_types::{
     Bytes, Call, CallerId, Coll, Direction, Event, GroupId, NoMemory, Outcome, QueueId, RankId,
     Reply,
 };
-use std::alloc::{AllocError, Global};
 
 /// The track of a queue: behind those of the threads.
 const FIRST_QUEUE: u64 = 16;
-
-/// A label with a number behind it.
-fn labelled(alloc: Global, label: &str, number: u64) -> Result<String, AllocError>
-    ensures { IfOk result (λ text. string_bytes text ≡ labelled label.now number) }
-{
-    format!(in alloc; "{label}{number}")
-}
-
-/// Which entry of which rank.
-fn entry_id(alloc: Global, origin: u32, number: u64) -> Result<String, AllocError>
-    ensures { IfOk result (λ text. string_bytes text ≡ entry_id origin number) }
-{
-    let id = format!(in alloc; "{origin}.{number}")?;
-    Ok(id)
-}
-
-/// The text of a call.
-fn call_text(alloc: Global, call: &Call) -> Result<String, NoMemory>
-    ensures { IfOk result (λ text. string_bytes text ≡ readable (call_text call.now)) }
-{
-    let mut told = Bytes::new(alloc);
-    write_call(&mut told, call)?;
-    Ok(String::from_utf8_lossy(alloc, told.as_slice())?)
-}
-
-/// The text of a reply.
-fn reply_text(alloc: Global, reply: &Reply) -> Result<String, NoMemory>
-    ensures { IfOk result (λ text. string_bytes text ≡ readable (reply_text reply.now)) }
-{
-    let mut told = Bytes::new(alloc);
-    write_reply(&mut told, reply)?;
-    Ok(String::from_utf8_lossy(alloc, told.as_slice())?)
-}
-
-/// Adds the object of a rank's name.
-fn append_process<'a>(
-    text: &mut Bytes,
-    rank: u32,
-    arguments: &'a [Argument<'a>],
-) -> Result<(), NoMemory>
-    ensures { OnOk result (text.new ≡ text.old ++ compact_text (process_name rank (argument_members arguments.now))) }
-{
-    append_object(
-        text,
-        &[
-            Member("args", Item::Object(arguments)),
-            Member("name", Item::Text("process_name")),
-            Member("ph", Item::Text("M")),
-            Member("pid", Item::Number(u64::from(rank))),
-        ],
-    )
-}
 
 /// Adds the name of a rank.
 pub(crate) fn append_rank(text: &mut Bytes, rank: u32) -> Result<(), NoMemory>
     ensures { OnOk result (text.new ≡ text.old ++ compact_text (rank_name rank)) }
 {
-    let name = labelled(text.allocator(), "rank ", u64::from(rank))?;
-    append_process(text, rank, &[Argument("name", Leaf::Text(name.as_str()))])
+    let rank = u64::from(rank);
+    append_pieces(
+        text,
+        &[
+            Piece::Fixed(b"{\"args\":{\"name\":\"rank "),
+            Piece::Number(rank),
+            Piece::Fixed(b"\"},\"name\":\"process_name\",\"ph\":\"M\",\"pid\":"),
+            Piece::Number(rank),
+            Piece::Fixed(b"}"),
+        ],
+    )
 }
 
 /// Adds the line of a rank's name.
@@ -91,23 +48,28 @@ pub(crate) fn write_rank(text: &mut Bytes, rank: u32) -> Result<(), NoMemory>
     append_rank(text, rank)
 }
 
-/// Adds the line of a track's name.
-fn write_track<'a>(
+/// Adds the line of a track's name: a label with a number behind it.
+fn write_track(
     text: &mut Bytes,
     rank: u32,
     track: u64,
-    arguments: &'a [Argument<'a>],
+    label: &[u8],
+    number: u64,
 ) -> Result<(), NoMemory>
-    ensures { OnOk result (text.new ≡ text.old ++ line (track_name rank track (argument_members arguments.now))) }
+    requires { IsPlain label.now }
+    ensures { OnOk result (text.new ≡ text.old ++ line (track_name rank track (named label.now number))) }
 {
-    append_line(
+    append_pieces(
         text,
         &[
-            Member("args", Item::Object(arguments)),
-            Member("name", Item::Text("thread_name")),
-            Member("ph", Item::Text("M")),
-            Member("pid", Item::Number(u64::from(rank))),
-            Member("tid", Item::Number(track)),
+            Piece::Fixed(b",\n{\"args\":{\"name\":\""),
+            Piece::Fixed(label),
+            Piece::Number(number),
+            Piece::Fixed(b"\"},\"name\":\"thread_name\",\"ph\":\"M\",\"pid\":"),
+            Piece::Number(u64::from(rank)),
+            Piece::Fixed(b",\"tid\":"),
+            Piece::Number(track),
+            Piece::Fixed(b"}"),
         ],
     )
 }
@@ -117,13 +79,7 @@ pub(crate) fn write_caller(text: &mut Bytes, caller: &CallerId) -> Result<(), No
     ensures { OnOk result (text.new ≡ text.old ++ line (caller_name caller.now)) }
 {
     let thread = u64::from(caller.thread.number());
-    let name = labelled(text.allocator(), "thread ", thread)?;
-    write_track(
-        text,
-        caller.rank.number(),
-        thread,
-        &[Argument("name", Leaf::Text(name.as_str()))],
-    )
+    write_track(text, caller.rank.number(), thread, b"thread ", thread)
 }
 
 /// Adds the line of a queue's name.
@@ -131,77 +87,74 @@ pub(crate) fn write_queue(text: &mut Bytes, rank: u32, queue: u32) -> Result<(),
     ensures { OnOk result (text.new ≡ text.old ++ line (queue_name rank queue)) }
 {
     let queue = u64::from(queue);
-    let name = labelled(text.allocator(), "queue ", queue)?;
-    write_track(
-        text,
-        rank,
-        FIRST_QUEUE + queue,
-        &[Argument("name", Leaf::Text(name.as_str()))],
-    )
+    write_track(text, rank, FIRST_QUEUE + queue, b"queue ", queue)
 }
 
-/// Adds a slice on a track, one place long.
-fn write_slice<'a>(
+/// Ends the line of a slice on a track, one place long, behind its arguments.
+fn end_slice(
     text: &mut Bytes,
     place: u64,
     rank: RankId,
     track: u64,
-    name: &'a str,
-    arguments: &'a [Argument<'a>],
+    name: &[u8],
 ) -> Result<(), NoMemory>
-    ensures { OnOk result (text.new ≡ text.old ++ line (slice place rank track name.now (argument_members arguments.now))) }
+    requires { IsPlain name.now }
+    ensures { (before : List ℕ) (arguments : Members) → text.old ≡ before ++ line_front arguments
+        → OnOk result (text.new ≡ before ++ line (slice place rank track name.now arguments)) }
 {
-    append_line(
+    append_pieces(
         text,
         &[
-            Member("args", Item::Object(arguments)),
-            Member("dur", Item::Number(1)),
-            Member("name", Item::Text(name)),
-            Member("ph", Item::Text("X")),
-            Member("pid", Item::Number(u64::from(rank.number()))),
-            Member("tid", Item::Number(track)),
-            Member("ts", Item::Number(place)),
+            Piece::Fixed(b",\"dur\":1,\"name\":\""),
+            Piece::Fixed(name),
+            Piece::Fixed(b"\",\"ph\":\"X\",\"pid\":"),
+            Piece::Number(u64::from(rank.number())),
+            Piece::Fixed(b",\"tid\":"),
+            Piece::Number(track),
+            Piece::Fixed(b",\"ts\":"),
+            Piece::Number(place),
+            Piece::Fixed(b"}"),
         ],
     )
 }
 
 /// The word of a call.
-fn call_word(call: &Call) -> &'static str
+fn call_word(call: &Call) -> &'static [u8]
     ensures { result.now ≡ call_word call.now }
 {
     match call {
-        Call::Alloc(_) => "alloc",
-        Call::Register(_) => "register",
-        Call::Delete(_) => "delete",
-        Call::Store(_) => "store",
-        Call::Load(_) => "load",
-        Call::Write(_) => "write",
-        Call::Read(_) => "read",
-        Call::Notify(_) => "notify",
-        Call::WriteNotify(_) => "write_notify",
-        Call::ReadNotify(_) => "read_notify",
-        Call::WriteList(_) => "write_list",
-        Call::WriteListNotify(_) => "write_list_notify",
-        Call::ReadList(_) => "read_list",
-        Call::ReadListNotify(_) => "read_list_notify",
-        Call::Wait(_) => "wait",
-        Call::Purge(_) => "purge",
-        Call::Qsize(_) => "qsize",
-        Call::Waitsome(_) => "waitsome",
-        Call::Reset(_) => "reset",
-        Call::PassiveSend(_) => "passive_send",
-        Call::PassiveReceive(_) => "passive_receive",
-        Call::FetchAdd(_) => "fetch_add",
-        Call::CompareSwap(_) => "compare_swap",
-        Call::GroupCreate => "group_create",
-        Call::GroupAdd(_) => "group_add",
-        Call::GroupDelete(_) => "group_delete",
-        Call::Commit(_) => "commit",
-        Call::Barrier(_) => "barrier",
-        Call::Allreduce(_) => "allreduce",
-        Call::Create(_) => "create",
-        Call::State => "state",
-        Call::End => "end",
+        Call::Alloc(_) => b"alloc",
+        Call::Register(_) => b"register",
+        Call::Delete(_) => b"delete",
+        Call::Store(_) => b"store",
+        Call::Load(_) => b"load",
+        Call::Write(_) => b"write",
+        Call::Read(_) => b"read",
+        Call::Notify(_) => b"notify",
+        Call::WriteNotify(_) => b"write_notify",
+        Call::ReadNotify(_) => b"read_notify",
+        Call::WriteList(_) => b"write_list",
+        Call::WriteListNotify(_) => b"write_list_notify",
+        Call::ReadList(_) => b"read_list",
+        Call::ReadListNotify(_) => b"read_list_notify",
+        Call::Wait(_) => b"wait",
+        Call::Purge(_) => b"purge",
+        Call::Qsize(_) => b"qsize",
+        Call::Waitsome(_) => b"waitsome",
+        Call::Reset(_) => b"reset",
+        Call::PassiveSend(_) => b"passive_send",
+        Call::PassiveReceive(_) => b"passive_receive",
+        Call::FetchAdd(_) => b"fetch_add",
+        Call::CompareSwap(_) => b"compare_swap",
+        Call::GroupCreate => b"group_create",
+        Call::GroupAdd(_) => b"group_add",
+        Call::GroupDelete(_) => b"group_delete",
+        Call::Commit(_) => b"commit",
+        Call::Barrier(_) => b"barrier",
+        Call::Allreduce(_) => b"allreduce",
+        Call::Create(_) => b"create",
+        Call::State => b"state",
+        Call::End => b"end",
     }
 }
 
@@ -215,31 +168,28 @@ fn write_call_slice(
 ) -> Result<(), NoMemory>
     ensures { OnOk result (text.new ≡ text.old ++ line (call_slice place caller.now call.now reply.now)) }
 {
-    let alloc = text.allocator();
-    let told = call_text(alloc, call)?;
-    let answered = reply_text(alloc, reply)?;
-    write_slice(
-        text,
-        place,
-        caller.rank,
-        u64::from(caller.thread.number()),
-        call_word(call),
-        &[
-            Argument("call", Leaf::Text(told.as_str())),
-            Argument("reply", Leaf::Text(answered.as_str())),
-        ],
-    )
+    call_is_in_range(call);
+    reply_is_in_range(reply);
+    written_words_are_plain();
+    text.append(b",\n{\"args\":{\"call\":\"")?;
+    write_call(text, call)?;
+    text.append(b"\",\"reply\":\"")?;
+    write_reply(text, reply)?;
+    text.append(b"\"}")?;
+    let thread = u64::from(caller.thread.number());
+    end_slice(text, place, caller.rank, thread, call_word(call))
 }
 
 /// The word of a collective.
-fn coll_word(coll: &Coll) -> &'static str
-    ensures { result.now ≡ coll_word coll.now }
+fn coll_word(coll: &Coll) -> &'static [u8]
+    ensures word { result.now ≡ coll_word coll.now }
+    ensures plain { IsPlain result.now }
 {
     match coll {
-        Coll::Barrier => "barrier",
-        Coll::Allreduce(_, _, _) => "allreduce",
-        Coll::Create(_, _) => "create",
-        Coll::Commit(_) => "commit",
+        Coll::Barrier => b"barrier",
+        Coll::Allreduce(_, _, _) => b"allreduce",
+        Coll::Create(_, _) => b"create",
+        Coll::Commit(_) => b"commit",
     }
 }
 
@@ -253,17 +203,18 @@ fn write_join(
 ) -> Result<(), NoMemory>
     ensures { OnOk result (text.new ≡ text.old ++ line (join_slice place caller.now group coll.now)) }
 {
-    write_slice(
+    append_pieces(
         text,
-        place,
-        caller.rank,
-        u64::from(caller.thread.number()),
-        "join",
         &[
-            Argument("collective", Leaf::Text(coll_word(coll))),
-            Argument("group", Leaf::Number(u64::from(group.number()))),
+            Piece::Fixed(b",\n{\"args\":{\"collective\":\""),
+            Piece::Fixed(coll_word(coll)),
+            Piece::Fixed(b"\",\"group\":"),
+            Piece::Number(u64::from(group.number())),
+            Piece::Fixed(b"}"),
         ],
-    )
+    )?;
+    let thread = u64::from(caller.thread.number());
+    end_slice(text, place, caller.rank, thread, b"join")
 }
 
 /// The track of a queue.
@@ -290,89 +241,129 @@ fn write_put_slice(
             note,
             value,
             ..
-        } => write_slice(
-            text,
-            place,
-            origin,
-            queue_track(queue),
-            "put",
-            &[
-                Argument("notification", Leaf::Number(*note)),
-                Argument("segment", Leaf::Number(*segment)),
-                Argument("value", Leaf::Number(u64::from(*value))),
-            ],
-        ),
+        } => {
+            append_pieces(
+                text,
+                &[
+                    Piece::Fixed(b",\n{\"args\":{\"notification\":"),
+                    Piece::Number(*note),
+                    Piece::Fixed(b",\"segment\":"),
+                    Piece::Number(*segment),
+                    Piece::Fixed(b",\"value\":"),
+                    Piece::Number(u64::from(*value)),
+                    Piece::Fixed(b"}"),
+                ],
+            )?;
+            end_slice(text, place, origin, queue_track(queue), b"put")
+        }
     }
 }
 
-/// Adds a mark of a span, with the letter of what the mark is.
-fn append_mark<'a>(
+/// Ends the line of a mark of an entry's span, behind its arguments. The letter says what the mark is.
+fn end_mark(
     text: &mut Bytes,
-    letter: &'a str,
-    place: u64,
-    origin: RankId,
-    queue: QueueId,
-    id: &'a str,
-    name: &'a str,
-    arguments: &'a [Argument<'a>],
-) -> Result<(), NoMemory>
-    ensures { OnOk result (text.new ≡ text.old ++ line (mark letter.now place origin queue id.now name.now (argument_members arguments.now))) }
-{
-    append_line(
-        text,
-        &[
-            Member("args", Item::Object(arguments)),
-            Member("cat", Item::Text("entry")),
-            Member("id", Item::Text(id)),
-            Member("name", Item::Text(name)),
-            Member("ph", Item::Text(letter)),
-            Member("pid", Item::Number(u64::from(origin.number()))),
-            Member("tid", Item::Number(queue_track(queue))),
-            Member("ts", Item::Number(place)),
-        ],
-    )
-}
-
-/// Adds a mark of the span of an entry, with the letter of what the mark is.
-fn write_mark<'a>(
-    text: &mut Bytes,
-    letter: &'a str,
+    letter: &[u8],
     place: u64,
     origin: RankId,
     queue: QueueId,
     number: u64,
-    arguments: &'a [Argument<'a>],
 ) -> Result<(), NoMemory>
-    ensures { OnOk result (text.new ≡ text.old ++ line (span_mark letter.now place origin queue number (argument_members arguments.now))) }
+    requires { IsPlain letter.now }
+    ensures { (before : List ℕ) (arguments : Members) → text.old ≡ before ++ line_front arguments
+        → OnOk result (text.new ≡ before ++ line (span_mark letter.now place origin queue number arguments)) }
 {
-    let alloc = text.allocator();
-    let id = entry_id(alloc, origin.number(), number)?;
-    let name = labelled(alloc, "queue ", u64::from(queue.number()))?;
-    append_mark(
+    let rank = u64::from(origin.number());
+    append_pieces(
         text,
-        letter,
-        place,
-        origin,
-        queue,
-        id.as_str(),
-        name.as_str(),
-        arguments,
+        &[
+            Piece::Fixed(b",\"cat\":\"entry\",\"id\":\""),
+            Piece::Number(rank),
+            Piece::Fixed(b"."),
+            Piece::Number(number),
+            Piece::Fixed(b"\",\"name\":\"queue "),
+            Piece::Number(u64::from(queue.number())),
+            Piece::Fixed(b"\",\"ph\":\""),
+            Piece::Fixed(letter),
+            Piece::Fixed(b"\",\"pid\":"),
+            Piece::Number(rank),
+            Piece::Fixed(b",\"tid\":"),
+            Piece::Number(queue_track(queue)),
+            Piece::Fixed(b",\"ts\":"),
+            Piece::Number(place),
+            Piece::Fixed(b"}"),
+        ],
     )
 }
 
 /// What an entry is called.
-fn entry_word(delivery: &Delivery) -> &'static str
-    ensures { result.now ≡ entry_word delivery.now }
+fn entry_word(delivery: &Delivery) -> &'static [u8]
+    ensures word { result.now ≡ entry_word delivery.now }
+    ensures plain { IsPlain result.now }
 {
     match delivery {
         Delivery::Bytes { direction, .. } => match direction {
-            Direction::Outward => "write",
-            Direction::Inward => "read",
+            Direction::Outward => b"write",
+            Direction::Inward => b"read",
         },
         Delivery::Notification { direction, .. } => match direction {
-            Direction::Outward => "notify",
-            Direction::Inward => "read_notify",
+            Direction::Outward => b"notify",
+            Direction::Inward => b"read_notify",
         },
+    }
+}
+
+/// Adds the front of the line that begins an entry's span: what the entry brings.
+fn append_entry(text: &mut Bytes, entry: &OpenEntry) -> Result<(), NoMemory>
+    ensures { OnOk result (text.new ≡ text.old ++ line_front (entry_members entry.now)) }
+{
+    let word = entry_word(&entry.delivery);
+    match entry.delivery {
+        Delivery::Bytes {
+            size,
+            segment,
+            offset,
+            ..
+        } => append_pieces(
+            text,
+            &[
+                Piece::Fixed(b",\n{\"args\":{\"entry\":\""),
+                Piece::Fixed(word),
+                Piece::Fixed(b"\",\"number\":"),
+                Piece::Number(entry.number),
+                Piece::Fixed(b",\"offset\":"),
+                Piece::Number(offset),
+                Piece::Fixed(b",\"segment\":"),
+                Piece::Number(segment),
+                Piece::Fixed(b",\"size\":"),
+                Piece::Number(size),
+                Piece::Fixed(b",\"target\":"),
+                Piece::Number(entry.target),
+                Piece::Fixed(b"}"),
+            ],
+        ),
+        Delivery::Notification {
+            segment,
+            note,
+            value,
+            ..
+        } => append_pieces(
+            text,
+            &[
+                Piece::Fixed(b",\n{\"args\":{\"entry\":\""),
+                Piece::Fixed(word),
+                Piece::Fixed(b"\",\"notification\":"),
+                Piece::Number(note),
+                Piece::Fixed(b",\"number\":"),
+                Piece::Number(entry.number),
+                Piece::Fixed(b",\"segment\":"),
+                Piece::Number(segment),
+                Piece::Fixed(b",\"target\":"),
+                Piece::Number(entry.target),
+                Piece::Fixed(b",\"value\":"),
+                Piece::Number(u64::from(value)),
+                Piece::Fixed(b"}"),
+            ],
+        ),
     }
 }
 
@@ -385,73 +376,48 @@ fn write_begin(
 ) -> Result<(), NoMemory>
     ensures { OnOk result (text.new ≡ text.old ++ line (span_begin place origin entry.now)) }
 {
-    let word = entry_word(&entry.delivery);
-    match entry.delivery {
-        Delivery::Bytes {
-            size,
-            segment,
-            offset,
-            ..
-        } => write_mark(
-            text,
-            "b",
-            place,
-            origin,
-            entry.queue,
-            entry.number,
-            &[
-                Argument("entry", Leaf::Text(word)),
-                Argument("number", Leaf::Number(entry.number)),
-                Argument("offset", Leaf::Number(offset)),
-                Argument("segment", Leaf::Number(segment)),
-                Argument("size", Leaf::Number(size)),
-                Argument("target", Leaf::Number(entry.target)),
-            ],
-        ),
-        Delivery::Notification {
-            segment,
-            note,
-            value,
-            ..
-        } => write_mark(
-            text,
-            "b",
-            place,
-            origin,
-            entry.queue,
-            entry.number,
-            &[
-                Argument("entry", Leaf::Text(word)),
-                Argument("notification", Leaf::Number(note)),
-                Argument("number", Leaf::Number(entry.number)),
-                Argument("segment", Leaf::Number(segment)),
-                Argument("target", Leaf::Number(entry.target)),
-                Argument("value", Leaf::Number(u64::from(value))),
-            ],
-        ),
-    }
+    append_entry(text, entry)?;
+    end_mark(text, b"b", place, origin, entry.queue, entry.number)
 }
 
-/// Adds the end of an entry's span, and how it ends.
-fn write_end(
+/// Adds a mark of an entry's span, with a step.
+fn write_step(
     text: &mut Bytes,
-    how: &str,
+    letter: &[u8],
+    step: &[u8],
     place: u64,
     origin: RankId,
     queue: QueueId,
     number: u64,
 ) -> Result<(), NoMemory>
+    requires letter { IsPlain letter.now }
+    requires step { IsPlain step.now }
+    ensures { OnOk result (text.new ≡ text.old ++ line (span_mark letter.now place origin queue number (member (codes "step") (string step.now) no_members))) }
+{
+    append_pieces(
+        text,
+        &[
+            Piece::Fixed(b",\n{\"args\":{\"step\":\""),
+            Piece::Fixed(step),
+            Piece::Fixed(b"\"}"),
+        ],
+    )?;
+    end_mark(text, letter, place, origin, queue, number)
+}
+
+/// Adds the end of an entry's span, and how it ends.
+fn write_end(
+    text: &mut Bytes,
+    how: &[u8],
+    place: u64,
+    origin: RankId,
+    queue: QueueId,
+    number: u64,
+) -> Result<(), NoMemory>
+    requires { IsPlain how.now }
     ensures { OnOk result (text.new ≡ text.old ++ line (span_end how.now place origin queue number)) }
 {
-    write_mark(
-        text,
-        "e",
-        place,
-        origin,
-        queue,
-        number,
-        &[Argument("step", Leaf::Text(how))],
-    )
+    write_step(text, b"e", how, place, origin, queue, number)
 }
 
 /// Adds what a take is to the span of its entry.
@@ -467,26 +433,19 @@ fn write_take(
 {
     let number = u64::from(number);
     match outcome {
-        Outcome::Applied => write_mark(
-            text,
-            "n",
-            place,
-            origin,
-            queue,
-            number,
-            &[Argument("step", Leaf::Text("take"))],
-        ),
-        Outcome::Failed => write_end(text, "take failed", place, origin, queue, number),
+        Outcome::Applied => write_step(text, b"n", b"take", place, origin, queue, number),
+        Outcome::Failed => write_end(text, b"take failed", place, origin, queue, number),
     }
 }
 
 /// What a put is called.
-fn put_step(outcome: Outcome) -> &'static str
-    ensures { result.now ≡ put_step outcome }
+fn put_step(outcome: Outcome) -> &'static [u8]
+    ensures word { result.now ≡ put_step outcome }
+    ensures plain { IsPlain result.now }
 {
     match outcome {
-        Outcome::Applied => "put",
-        Outcome::Failed => "put failed",
+        Outcome::Applied => b"put",
+        Outcome::Failed => b"put failed",
     }
 }
 
@@ -541,7 +500,7 @@ fn write_purge(
     ensures { OnOk result (text.new ≡ text.old ++ lines (map (purge_end place origin) entries.now)) }
 {
     for entry in entries {
-        write_end(text, "purge", place, origin, entry.queue, entry.number)?;
+        write_end(text, b"purge", place, origin, entry.queue, entry.number)?;
     }
     Ok(())
 }
@@ -570,6 +529,46 @@ fn write_call_marks(
     }
 }
 
+/// Adds the start of an arrow, at the put that has set a slot.
+fn write_arrow_start(text: &mut Bytes, id: u64, slot: &SetSlot) -> Result<(), NoMemory>
+    ensures { OnOk result (text.new ≡ text.old ++ line (arrow_start id slot.now)) }
+{
+    append_pieces(
+        text,
+        &[
+            Piece::Fixed(b",\n{\"cat\":\"notification\",\"id\":"),
+            Piece::Number(id),
+            Piece::Fixed(b",\"name\":\"notification\",\"ph\":\"s\",\"pid\":"),
+            Piece::Number(u64::from(slot.origin.number())),
+            Piece::Fixed(b",\"tid\":"),
+            Piece::Number(queue_track(slot.queue)),
+            Piece::Fixed(b",\"ts\":"),
+            Piece::Number(slot.place),
+            Piece::Fixed(b"}"),
+        ],
+    )
+}
+
+/// Adds the finish of an arrow, at the call at a place, which gives the arrow its number.
+fn write_arrow_finish(text: &mut Bytes, place: u64, caller: &CallerId) -> Result<(), NoMemory>
+    ensures { OnOk result (text.new ≡ text.old ++ line (arrow_finish place caller.now)) }
+{
+    append_pieces(
+        text,
+        &[
+            Piece::Fixed(b",\n{\"bp\":\"e\",\"cat\":\"notification\",\"id\":"),
+            Piece::Number(place),
+            Piece::Fixed(b",\"name\":\"notification\",\"ph\":\"f\",\"pid\":"),
+            Piece::Number(u64::from(caller.rank.number())),
+            Piece::Fixed(b",\"tid\":"),
+            Piece::Number(u64::from(caller.thread.number())),
+            Piece::Fixed(b",\"ts\":"),
+            Piece::Number(place),
+            Piece::Fixed(b"}"),
+        ],
+    )
+}
+
 /// Adds an arrow, from the put that has set a slot to the call that gets it.
 fn write_arrow(
     text: &mut Bytes,
@@ -579,31 +578,8 @@ fn write_arrow(
 ) -> Result<(), NoMemory>
     ensures { OnOk result (text.new ≡ text.old ++ lines (arrow_to place caller.now (Some slot.now))) }
 {
-    append_line(
-        text,
-        &[
-            Member("cat", Item::Text("notification")),
-            Member("id", Item::Number(place)),
-            Member("name", Item::Text("notification")),
-            Member("ph", Item::Text("s")),
-            Member("pid", Item::Number(u64::from(slot.origin.number()))),
-            Member("tid", Item::Number(queue_track(slot.queue))),
-            Member("ts", Item::Number(slot.place)),
-        ],
-    )?;
-    append_line(
-        text,
-        &[
-            Member("bp", Item::Text("e")),
-            Member("cat", Item::Text("notification")),
-            Member("id", Item::Number(place)),
-            Member("name", Item::Text("notification")),
-            Member("ph", Item::Text("f")),
-            Member("pid", Item::Number(u64::from(caller.rank.number()))),
-            Member("tid", Item::Number(u64::from(caller.thread.number()))),
-            Member("ts", Item::Number(place)),
-        ],
-    )
+    write_arrow_start(text, place, slot)?;
+    write_arrow_finish(text, place, caller)
 }
 
 /// The slot whose notification a call gets.

@@ -1,28 +1,33 @@
 //! The trace of a journal.
 
-ghost use Rattle.std.specs.Prelude.{◌≡◌, ◌++◌, ◌-◌, true, codes, map, IfOk, OnOk};
+ghost use Rattle.std.specs.Prelude.{◌≡◌, ◌⊎◌, ◌++◌, ◌-◌, ◌<◌, ◌^◌, ℕ, true, codes, length, map, slice_get, IfOk, IsErrOf, OnErr, OnOk, Some};
 ghost use Rattle.std.specs.List.{flat_map, range_with_len};
 ghost use Rattle.gaspi_model.specs.Step.{is_legal};
 ghost use Rattle.serde_json.specs.Written.{compact_text};
-ghost use Rattle.journal_pictures.specs.Answers.{IsTraceAnswer};
+ghost use Rattle.journal_pictures.specs.Answers.{IsCutTrace, IsTraceAnswer};
+ghost use Rattle.gaspi_io.specs.Faults.{HasCause};
+ghost use Rattle.gaspi_io.specs.Sink.{with_more, AddsPrefix};
+ghost use Rattle.gaspi_io.specs.declared.blocks.WriteStop.TheVariants as stops;
 ghost use Rattle.journal_pictures.specs.JsonLines.{lines};
-ghost use Rattle.journal_pictures.specs.Trace.{caller_name, names, queue_names, rank_name, trace_text};
+ghost use Rattle.journal_pictures.specs.OpenEntries.{entries_after, put_entry, slots_after};
+ghost use Rattle.journal_pictures.specs.Trace.{caller_name, event_objects, names, queue_names, rank_name, trace_text};
 
-use crate::open_entries::{no_entries, pass_event, put_entry};
-use crate::set_slots::pass_slots;
+use crate::open_entries::{EntryTable, RankEntries, no_entries, pass_event, put_entry};
+use crate::set_slots::{SetSlot, pass_slots};
 use crate::trace_lines::{append_rank, write_caller, write_objects, write_queue, write_rank};
 use call_journal::{Verdict, check};
+use gaspi_io::{BLOCK_BYTES, Sink, WriteStop, write_block, write_full_block};
 use gaspi_model::{Why, history_lengths};
 use gaspi_texts::Journal;
-use gaspi_types::{Bytes, CallerId, NoMemory, Sequence, Shape};
+use gaspi_types::{Bytes, CallerId, Event, NoMemory, Sequence, Shape};
 use std::alloc::Global;
 
 /// What is answered where the trace of a journal is asked for.
-#[derive(Debug, PartialEq, Eq, Drop)]
+#[derive(Clone, Copy, Debug, PartialEq, Eq)]
 pub enum TraceAnswer {
-    /// The text of the trace.
-    Traced(Bytes),
-    /// The event at that place, from 0, is the first that is no step, for that cause.
+    /// The trace was written.
+    Traced,
+    /// The event at that place, from 0, is the first that is no step, for that cause. Nothing was written.
     Refuted { place: u64, why: Why },
 }
 
@@ -67,12 +72,12 @@ fn write_queues(text: &mut Bytes, ranks: u32, queues: u32) -> Result<(), NoMemor
     Ok(())
 }
 
-/// The head of a trace: the names of ranks, threads and queues.
+/// The head of a trace, the names of ranks, threads and queues, in the memory of one block.
 fn trace_head(alloc: Global, shape: &Shape) -> Result<Bytes, NoMemory>
     ensures { IfOk result (λ text. text ≡ codes "[\n" ++ compact_text (rank_name 0) ++ lines (names shape.now)) }
 {
     let limits = shape.limits();
-    let mut text = Bytes::new(alloc);
+    let mut text = Bytes::with_capacity(alloc, BLOCK_BYTES)?;
     text.append(b"[\n")?;
     append_rank(&mut text, 0)?;
     write_ranks(&mut text, limits.ranks)?;
@@ -81,41 +86,73 @@ fn trace_head(alloc: Global, shape: &Shape) -> Result<Bytes, NoMemory>
     Ok(text)
 }
 
-/// The trace of a legal journal.
-fn traced(alloc: Global, shape: &Shape, journal: &Journal) -> Result<Bytes, NoMemory>
+/// Adds what an event is in a trace, and passes it.
+fn add_event(
+    text: &mut Bytes,
+    ranks: &mut EntryTable,
+    slots: &mut Sequence<SetSlot>,
+    place: u64,
+    event: &Event,
+) -> Result<(), NoMemory>
+    requires many { length ranks.old ≡ 16 }
+    requires small { (rank : ℕ) (r : RankEntries) → slice_get ranks.old rank ≡ Some r → r.next < 2 ^ 62 }
+    ensures text { OnOk result (text.new ≡ text.old ++ lines (event_objects ranks.old slots.old place event.now)) }
+    ensures ranks { OnOk result (ranks.new ≡ entries_after event.now ranks.old) }
+    ensures slots { OnOk result (slots.new ≡ slots_after (put_entry ranks.old event.now) place event.now slots.old) }
+{
+    let put = put_entry(ranks, event);
+    write_objects(text, ranks, slots.as_slice(), place, event, put)?;
+    pass_slots(slots, place, event, put_entry(ranks, event))?;
+    pass_event(ranks, event)
+}
+
+/// Writes the trace of a legal journal, block by block.
+fn write_legal<K: Sink>(
+    alloc: Global,
+    shape: &Shape,
+    journal: &Journal,
+    sink: &mut K,
+) -> Result<(), WriteStop>
     requires { is_legal shape.now journal.now ≡ true }
-    ensures { IfOk result (λ text. text ≡ trace_text shape.now journal.now) }
+    ensures all { OnOk result (K.held sink.new ≡ with_more (K.held sink.old) (trace_text shape.now journal.now)) }
+    ensures still { OnOk result (K.faults sink.new ≡ K.faults sink.old) }
+    ensures front { OnErr result (AddsPrefix (trace_text shape.now journal.now) (K.held sink.old) (K.held sink.new)) }
+    ensures cause { IsErrOf result stops.Fault → HasCause (K.faults sink.old) (K.faults sink.new) }
+    ensures lacks { IsErrOf result stops.NoMemory → K.faults sink.new ≡ K.faults sink.old }
 {
     history_lengths();
     shape.limits();
-    let mut text = trace_head(alloc, shape)?;
     let mut ranks = no_entries(alloc)?;
+    let mut block = trace_head(alloc, shape)?;
     let mut slots = Sequence::new(alloc);
     for (place, event) in journal.as_slice().iter().enumerate() {
-        let put = put_entry(&ranks, event);
-        write_objects(
-            &mut text,
-            &ranks,
-            slots.as_slice(),
-            place as u64,
-            event,
-            put,
-        )?;
-        pass_slots(&mut slots, place as u64, event, put_entry(&ranks, event))?;
-        pass_event(&mut ranks, event)?;
+        add_event(&mut block, &mut ranks, &mut slots, place as u64, event)?;
+        write_full_block(sink, &mut block)?;
     }
-    text.append(b"\n]\n")?;
-    Ok(text)
+    block.append(b"\n]\n")?;
+    write_block(sink, &mut block)?;
+    Ok(())
 }
 
-/// The trace of a journal, in the JSON of the Chrome trace event format. The whole journal is judged first, as by `check`. (own choice)
-pub fn trace(alloc: Global, shape: &Shape, journal: &Journal) -> Result<TraceAnswer, NoMemory>
-    ensures { IfOk result (λ answer. IsTraceAnswer shape.now journal.now answer) }
+/// Writes the trace of a journal, in the JSON of the Chrome trace event format, block by block. The whole journal is judged first, as by
+/// `check`. (own choice)
+pub fn write_trace<K: Sink>(
+    alloc: Global,
+    shape: &Shape,
+    journal: &Journal,
+    sink: &mut K,
+) -> Result<TraceAnswer, WriteStop>
+    ensures answer { IfOk result (λ answer. IsTraceAnswer shape.now journal.now (K.held sink.old) (K.held sink.new) answer) }
+    ensures still { OnOk result (K.faults sink.new ≡ K.faults sink.old) }
+    ensures front { OnErr result ((K.held sink.new ≡ K.held sink.old) ⊎ IsCutTrace shape.now journal.now (K.held sink.old) (K.held sink.new)) }
+    ensures cut { IsErrOf result stops.Fault → IsCutTrace shape.now journal.now (K.held sink.old) (K.held sink.new) }
+    ensures cause { IsErrOf result stops.Fault → HasCause (K.faults sink.old) (K.faults sink.new) }
+    ensures lacks { IsErrOf result stops.NoMemory → K.faults sink.new ≡ K.faults sink.old }
 {
     match check(alloc, shape, journal)? {
         Verdict::Legal => {
-            let text = traced(alloc, shape, journal)?;
-            Ok(TraceAnswer::Traced(text))
+            write_legal(alloc, shape, journal, sink)?;
+            Ok(TraceAnswer::Traced)
         }
         Verdict::Illegal { place, why } => Ok(TraceAnswer::Refuted { place, why }),
     }

@@ -11,9 +11,11 @@ use Rattle.rank_script.specs.Lines.{input_limit}
 use Rattle.rank_script.specs.WorldText.{TextFault, checked_world}
 use Rattle.rank_script.specs.declared.scripts.ScriptFault.{ScriptFault}
 use Rattle.rank_script.specs.declared.scripts.ScriptFault.TheVariants.{At, NoMemory}
-use Rattle.journal_view.specs.Answers.{fault_text, AnswersFault, AnswersView, AnswersStop, Answers}
-use Rattle.journal_view.specs.Viewing.{IsViewed}
+use Rattle.journal_view.specs.Answers.{fault_text, AnswersFault, AnswersView, AnswersStop, Answers, IsWritten}
+use Rattle.journal_pictures.specs.Trace.{trace_text}
+use Rattle.journal_view.specs.Viewing.{IsViewed, Tells}
 use Rattle.journal_view.specs.declared.viewing.ViewResult.{ViewResult}
+use Rattle.journal_view.specs.declared.viewing.ViewResult.TheVariants as results
 use Rattle.journal_view.specs.declared.words.Picture.{Picture}
 
 -- an input that is too long
@@ -72,34 +74,61 @@ module _ (asked : Picture) (before after held held' : Option (List ℕ)) (faults
   }))))
   answered-fault fault k read (inr lacks) = inr (inr (inr (inr (record {
     taken = taken;
-    kept = lacks.1;
+    kept = inl lacks.1;
     still = (read, lacks.2);
     status_is = lacks.0;
   }))))
 
-  -- what was told of an input that was read
-  pub answered-told : (input : List ℕ) (r : Result ViewResult ScriptFault) → ForSome before (λ told. input ≡ told) → ForSome before (λ told. after ≡ Some []) → length input ≤ input_limit → faults' ≡ faults
-      → IfOk r (λ told. IsViewed asked input told.status told.text)
-      → ((number line : ℕ) → IsErrOf r (At number line) → checked_world input ≡ Err (record { number = number; line = line })) → AnswersView held held' sink_faults sink_faults' status r → IsAnswered
-  answered-told input (Ok told) all end short read tells faulty (inl written) = inl (record {
-    text = told.text;
+  -- a text that is told of an input that was read
+  answered-text : (input : List ℕ) (meant : ℕ) (text : List ℕ) → ForSome before (λ told. input ≡ told) → ForSome before (λ told. after ≡ Some []) → faults' ≡ faults
+      → IsViewed asked input meant text → IsWritten held held' sink_faults sink_faults' status meant text → IsAnswered
+  answered-text input meant text all end read tells (inl written) = inl (record {
+    text = text;
     still = (read, written.2);
     told = record { input = input; all = all; end = end; tells = rw written.0 tells };
     written = written.1;
   })
-  answered-told input (Ok told) all end short read tells faulty (inr failed) = inr (inr (inr (inl (record {
-    text = told.text;
-    of = inl (told.status, record { input = input; all = all; end = end; tells = tells });
+  answered-text input meant text all end read tells (inr failed) = inr (inr (inr (inl (record {
+    text = text;
+    of = inl (meant, record { input = input; all = all; end = end; tells = tells });
     front = failed.1;
     cause = failed.2;
     still = read;
     status_is = failed.0;
   }))))
+
+  -- what was told of an input that was read
+  pub answered-told : (input : List ℕ) (r : Result ViewResult ScriptFault) → ForSome before (λ told. input ≡ told) → ForSome before (λ told. after ≡ Some []) → length input ≤ input_limit → faults' ≡ faults
+      → IfOk r (λ told. Tells asked (IsViewed asked input) told)
+      → ((number line : ℕ) → IsErrOf r (At number line) → checked_world input ≡ Err (record { number = number; line = line })) → AnswersView held held' sink_faults sink_faults' status r → IsAnswered
+  answered-told input (Ok (results.Text told)) all end short read tells faulty says =
+      answered-text input told.status told.text all end read tells says
+  answered-told input (Ok (results.Trace world journal)) all end short read tells faulty (inl wrote) =
+      answered-text input wrote.meant wrote.text all end read (tells.1 wrote.meant wrote.text wrote.is) wrote.written
+  answered-told input (Ok (results.Trace world journal)) all end short read tells faulty (inr (inl silent)) = inr (inr (inr (inr (record {
+    taken = taken;
+    kept = inl silent.1;
+    still = (read, silent.2);
+    status_is = silent.0;
+  }))))
+  answered-told input (Ok (results.Trace world journal)) all end short read tells faulty (inr (inr cut)) =
+      let front = cut.1 in
+      inr (inr (inr (inr (record {
+        taken = taken;
+        kept = inr (record {
+          text = trace_text world journal;
+          trace = tells.0;
+          of = record { input = input; all = all; end = end; tells = tells.1 0 (trace_text world journal) (inl (record { legal = front.legal; status_is = refl; text_is = refl })) };
+          front = front.front;
+        });
+        still = (read, cut.2);
+        status_is = cut.0;
+      }))))
   answered-told input (Err (At number line)) all end short read tells faulty says =
       answered-fault (record { number = number; line = line }) (record { input = input; all = all; end = λ fits. end; past = λ long. absurd (omega arith); is = faulty number line refl }) read says
   answered-told input (Err NoMemory) all end short read tells faulty silent = inr (inr (inr (inr (record {
     taken = taken;
-    kept = silent.1;
+    kept = inl silent.1;
     still = (read, silent.2);
     status_is = silent.0;
   }))))
@@ -118,7 +147,7 @@ module _ (asked : Picture) (before after held held' : Option (List ℕ)) (faults
       answered-fault (record { number = 1; line = 0 }) (long-fault before after (long refl) (past refl)) (still_long refl) says
   answered-stop stops.NoMemory long past cause still_long still_memory silent = inr (inr (inr (inr (record {
     taken = taken;
-    kept = silent.1;
+    kept = inl silent.1;
     still = (still_memory refl, silent.2);
     status_is = silent.0;
   }))))
@@ -132,7 +161,7 @@ nothing-taken most (Some bytes) = record { count = 0; within = omega arith; rest
 pub starved-answers : (asked : Picture) (left held : Option (List ℕ)) (faults sink_faults status : ℕ) → status ≡ 7 → Answers asked left left faults faults held held sink_faults sink_faults status
 starved-answers asked left held faults sink_faults status is = inr (inr (inr (inr (record {
   taken = nothing-taken _ left;
-  kept = refl;
+  kept = inl refl;
   still = (refl, refl);
   status_is = is;
 }))))

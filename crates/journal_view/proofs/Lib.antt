@@ -1,2 +1,3 @@
 mod InputAnswers
 mod Reading
+mod Telling

@@ -8,13 +8,19 @@ use Rattle.gaspi_io.specs.Sink.{with_more, AddsPrefix}
 use Rattle.gaspi_io.specs.Source.{without, TakesAtMost}
 use Rattle.gaspi_io.specs.declared.read.ReadStop.{ReadStop}
 use Rattle.gaspi_io.specs.declared.read.ReadStop.TheVariants as stops
+use Rattle.gaspi_types.specs.World.{ShapeValue}
+use Rattle.gaspi_types.specs.declared.events.Event.{Event}
+use Rattle.gaspi_model.specs.declared.states.Why.{Why}
 use Rattle.rank_script.specs.Lines.{input_limit}
 use Rattle.rank_script.specs.WorldText.{TextFault, checked_world}
 use Rattle.rank_script.specs.declared.scripts.ScriptFault.{ScriptFault}
 use Rattle.rank_script.specs.declared.scripts.ScriptFault.TheVariants.{At, NoMemory}
-use Rattle.journal_view.specs.Viewing.{IsViewed}
+use Rattle.journal_pictures.specs.Answers.{IsCutTrace}
+use Rattle.journal_view.specs.Viewing.{HasTrace, IsViewed, illegal_text}
 use Rattle.journal_view.specs.declared.viewing.ViewResult.{ViewResult}
+use Rattle.journal_view.specs.declared.viewing.ViewResult.TheVariants as results
 use Rattle.journal_view.specs.declared.words.Picture.{Picture}
+use Rattle.journal_view.specs.declared.words.Picture.TheVariants.{Trace}
 
 abbrev pub refused_text : List ℕ
 refused_text = codes "journal_view: words refused\n"
@@ -40,8 +46,27 @@ module _ (held held' : Option (List ℕ)) (faults faults' status : ℕ) where
   abbrev pub AnswersFault : TextFault → Type 0
   AnswersFault fault = IsWritten 2 (fault_text fault) ⊎ IsSilent 7
 
+  -- the first event that is no step was told, or there was no memory for its text
+  abbrev pub AnswersIllegal : ℕ → Why → Type 0
+  AnswersIllegal place why = IsWritten 4 (illegal_text place why) ⊎ IsSilent 7
+
+  -- the trace of a journal was written, or why it has none
+  pub record WroteTrace (world : ShapeValue) (journal : List Event) : Type 0 where
+    pub meant : ℕ
+    pub text : List ℕ
+    pub is : HasTrace world journal meant text
+    pub written : IsWritten meant text
+
+  -- a front part of a trace was written, or nothing of it, and then there was no memory
+  abbrev pub IsCutShort : ShapeValue → List Event → Type 0
+  IsCutShort world journal = (status ≡ 7) × IsCutTrace world journal held held' × (faults' ≡ faults)
+
+  abbrev pub AnswersTrace : ShapeValue → List Event → Type 0
+  AnswersTrace world journal = WroteTrace world journal ⊎ (IsSilent 7 ⊎ IsCutShort world journal)
+
   abbrev pub AnswersView : Result ViewResult ScriptFault → Type 0
-  AnswersView (Ok told) = IsWritten told.status told.text
+  AnswersView (Ok (results.Text told)) = IsWritten told.status told.text
+  AnswersView (Ok (results.Trace world journal)) = AnswersTrace world journal
   AnswersView (Err (At number line)) = AnswersFault (record { number = number; line = line })
   AnswersView (Err NoMemory) = IsSilent 7
 
@@ -107,10 +132,18 @@ pub record WriteFailed (asked : Picture) (before after held held' : Option (List
   pub still : faults' ≡ faults
   pub status_is : status ≡ 6
 
--- want of memory, and nothing else: status 7; nothing was written, and at most one byte more was taken than an input may have
-pub record RanOutOfMemory (before after held held' : Option (List ℕ)) (faults faults' sink_faults sink_faults' status : ℕ) : Type 0 where
+-- where a trace is asked for, a front part of the trace of a legal journal was written, which is shorter than the whole
+pub record WroteFront (asked : Picture) (before after held held' : Option (List ℕ)) : Type 0 where
+  pub text : List ℕ
+  pub trace : asked ≡ Trace
+  pub of : IsResultOf asked before after 0 text
+  pub front : AddsPrefix text held held'
+
+-- want of memory, and nothing else: status 7; nothing was written, or a front part of a trace, and at most one byte more was taken than
+-- an input may have
+pub record RanOutOfMemory (asked : Picture) (before after held held' : Option (List ℕ)) (faults faults' sink_faults sink_faults' status : ℕ) : Type 0 where
   pub taken : TakesAtMost (input_limit + 1) before after
-  pub kept : held' ≡ held
+  pub kept : (held' ≡ held) ⊎ WroteFront asked before after held held'
   pub still : NothingFailed faults faults' sink_faults sink_faults'
   pub status_is : status ≡ 7
 
@@ -121,7 +154,7 @@ Answers asked before after faults faults' held held' sink_faults sink_faults' st
     ⊎ (IsFaulty before after held held' faults faults' sink_faults sink_faults' status
     ⊎ (ReadFailed before after held held' faults faults' sink_faults sink_faults' status
     ⊎ (WriteFailed asked before after held held' faults faults' sink_faults sink_faults' status
-    ⊎ RanOutOfMemory before after held held' faults faults' sink_faults sink_faults' status)))
+    ⊎ RanOutOfMemory asked before after held held' faults faults' sink_faults sink_faults' status)))
 
 -- the answer to words that are refused: status 1, or 6 where that could not be written, or 7 where memory is wanting
 abbrev pub Refuses : Option (List ℕ) → Option (List ℕ) → ℕ → ℕ → ℕ → Type 0

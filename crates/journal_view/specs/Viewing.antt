@@ -1,5 +1,5 @@
 -- What is told of an input: the picture of its journal that is asked for, or why it has none. (own choice)
-use Rattle.std.specs.Prelude.{◌≡◌, ◌⊎◌, ℕ, ◌+◌, ◌-◌, length, drop, List, ◌++◌, Option, Some, None, Ok, codes}
+use Rattle.std.specs.Prelude.{◌≡◌, ◌⊎◌, true, ℕ, ◌+◌, ◌-◌, length, drop, List, ◌++◌, Option, Some, None, Ok, codes}
 use Rattle.std.specs.Fmt.{decimal}
 use Rattle.gaspi_types.specs.World.{ShapeValue}
 use Rattle.gaspi_types.specs.declared.events.Event.{Event}
@@ -7,13 +7,16 @@ use Rattle.call_texts.specs.Lines.{fed_lines}
 use Rattle.gaspi_model.specs.declared.states.Why.{Why}
 use Rattle.gaspi_model.specs.declared.states.Why.TheVariants as whys
 use Rattle.gaspi_texts.specs.JournalText.{journal_text, AreInRange, IsFaultyAt}
-use Rattle.journal_pictures.specs.Answers.{IsSequenceAnswer, IsTraceAnswer}
+use Rattle.call_journal.specs.Verdicts.{IsIllegalAt}
+use Rattle.gaspi_model.specs.Step.{is_legal}
+use Rattle.journal_pictures.specs.Answers.{IsSequenceAnswer}
 use Rattle.journal_pictures.specs.declared.drawing.SequenceAnswer.{SequenceAnswer}
 use Rattle.journal_pictures.specs.declared.drawing.SequenceAnswer.TheVariants.{Drawn, Long, Illegal}
-use Rattle.journal_pictures.specs.declared.tracing.TraceAnswer.{TraceAnswer}
-use Rattle.journal_pictures.specs.declared.tracing.TraceAnswer.TheVariants.{Traced, Refuted}
+use Rattle.journal_pictures.specs.Trace.{trace_text}
 use Rattle.rank_script.specs.WorldText.{journal_offset, checked_world}
 use Rattle.rank_script.specs.declared.scripts.Script.{Script}
+use Rattle.journal_view.specs.declared.viewing.ViewResult.{ViewResult}
+use Rattle.journal_view.specs.declared.viewing.ViewResult.TheVariants as results
 use Rattle.journal_view.specs.declared.words.Picture.{Picture}
 use Rattle.journal_view.specs.declared.words.Picture.TheVariants.{Sequence, Trace}
 
@@ -46,14 +49,6 @@ answer_status (Drawn text) = 0
 answer_status (Long events) = 9
 answer_status (Illegal place why) = 4
 
-abbrev pub trace_answer_text : TraceAnswer → List ℕ
-trace_answer_text (Traced text) = text
-trace_answer_text (Refuted place why) = illegal_text place why
-
-abbrev pub trace_answer_status : TraceAnswer → ℕ
-trace_answer_status (Traced text) = 0
-trace_answer_status (Refuted place why) = 4
-
 -- What is told: of a text that is no journal its first line that cannot stand there, of a journal its picture.
 
 -- no journal, which shows at that line of the input
@@ -68,12 +63,23 @@ pub record HasSequence (world : ShapeValue) (journal : List Event) (status : ℕ
   pub status_is : status ≡ answer_status answer
   pub text_is : text ≡ answer_text answer
 
+-- the trace of a legal journal
+pub record IsTraced (world : ShapeValue) (journal : List Event) (status : ℕ) (text : List ℕ) : Type 0 where
+  pub legal : is_legal world journal ≡ true
+  pub status_is : status ≡ 0
+  pub text_is : text ≡ trace_text world journal
+
+-- the event at a place is the first that is no step, for that cause
+pub record IsRefuted (world : ShapeValue) (journal : List Event) (status : ℕ) (text : List ℕ) : Type 0 where
+  pub place : ℕ
+  pub why : Why
+  pub illegal : IsIllegalAt world journal place why
+  pub status_is : status ≡ 4
+  pub text_is : text ≡ illegal_text place why
+
 -- the trace of a journal, or why it has none
-pub record HasTrace (world : ShapeValue) (journal : List Event) (status : ℕ) (text : List ℕ) : Type 0 where
-  pub answer : TraceAnswer
-  pub is : IsTraceAnswer world journal answer
-  pub status_is : status ≡ trace_answer_status answer
-  pub text_is : text ≡ trace_answer_text answer
+abbrev pub HasTrace : ShapeValue → List Event → ℕ → List ℕ → Type 0
+HasTrace world journal status text = IsTraced world journal status text ⊎ IsRefuted world journal status text
 
 -- the picture that is asked for
 abbrev pub HasPicture : Picture → ShapeValue → List Event → ℕ → List ℕ → Type 0
@@ -108,3 +114,8 @@ pub record IsViewed (asked : Picture) (input : List ℕ) (status : ℕ) (text : 
   pub scripts : List Script
   pub read : checked_world input ≡ Ok (record { world = Some world; scripts = scripts })
   pub result : IsViewedIn asked world input (journal_offset input) status text
+
+-- What is told has a status and a text of that kind: those that are held, or those of the trace of a journal, where a trace is asked for.
+abbrev pub Tells : Picture → (ℕ → List ℕ → Type 0) → ViewResult → Type 0
+Tells asked kind (results.Text told) = kind told.status told.text
+Tells asked kind (results.Trace world journal) = (asked ≡ Trace) × ((status : ℕ) (text : List ℕ) → HasTrace world journal status text → kind status text)

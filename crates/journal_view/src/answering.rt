@@ -3,15 +3,17 @@
 ghost use Rattle.std.specs.Prelude.{◌≡◌, ◌⊎◌, map, None, Some, IfOk};
 ghost use Rattle.gaspi_io.specs.Faults.{HasCause};
 ghost use Rattle.gaspi_io.specs.Sink.{with_more, AddsPrefix};
-ghost use Rattle.journal_view.specs.Answers.{Answers, Refuses, AnswersView, AnswersFault, AnswersStop, fault_text};
+ghost use Rattle.journal_view.specs.Answers.{Answers, Refuses, AnswersFault, AnswersIllegal, AnswersStop, AnswersTrace, AnswersView, fault_text};
 ghost use Rattle.journal_view.specs.Words.{picture_of};
 ghost use Rattle.journal_view.specs.declared.words.Picture.{Picture};
 
-use crate::viewing::{ViewResult, view_result};
+use crate::viewing::{ViewResult, illegal_text, view_result};
 use crate::words::{Picture, read_words};
-use gaspi_io::{Failed, ReadStop, Sink, Source, read_all, write_all};
-use gaspi_texts::write_number;
-use gaspi_types::{Bytes, NoMemory};
+use gaspi_io::{Failed, ReadStop, Sink, Source, WriteStop, read_all, write_all};
+use gaspi_model::Why;
+use gaspi_texts::{Journal, write_number};
+use gaspi_types::{Bytes, NoMemory, Shape};
+use journal_pictures::{TraceAnswer, write_trace};
 use rank_script::{MOST_INPUT_BYTES, ScriptFault};
 use std::alloc::Global;
 
@@ -49,12 +51,35 @@ fn answer_fault<K: Sink>(alloc: Global, sink: &mut K, number: u32, line: u64) ->
     }
 }
 
+/// Answers a journal that is not legal.
+fn answer_illegal<K: Sink>(alloc: Global, sink: &mut K, place: u64, why: Why) -> u8
+    ensures { AnswersIllegal (K.held sink.old) (K.held sink.new) (K.faults sink.old) (K.faults sink.new) result place why }
+{
+    match illegal_text(alloc, place, why) {
+        Ok(text) => status_of(sink, text.as_slice(), 4),
+        Err(NoMemory) => 7,
+    }
+}
+
+/// Writes the trace of a journal, block by block, or tells why it has none.
+fn answer_trace<K: Sink>(alloc: Global, sink: &mut K, shape: &Shape, journal: &Journal) -> u8
+    ensures { AnswersTrace (K.held sink.old) (K.held sink.new) (K.faults sink.old) (K.faults sink.new) result shape.now journal.now }
+{
+    match write_trace(alloc, shape, journal, sink) {
+        Ok(TraceAnswer::Traced) => 0,
+        Ok(TraceAnswer::Refuted { place, why }) => answer_illegal(alloc, sink, place, why),
+        Err(WriteStop::Fault) => 6,
+        Err(WriteStop::NoMemory) => 7,
+    }
+}
+
 /// Answers what was told of an input, or its fault.
 fn answer_result<K: Sink>(alloc: Global, sink: &mut K, told: Result<ViewResult, ScriptFault>) -> u8
     ensures { AnswersView (K.held sink.old) (K.held sink.new) (K.faults sink.old) (K.faults sink.new) result told }
 {
     match told {
-        Ok(told) => status_of(sink, told.text.as_slice(), told.status),
+        Ok(ViewResult::Text(told)) => status_of(sink, told.text.as_slice(), told.status),
+        Ok(ViewResult::Trace { shape, journal }) => answer_trace(alloc, sink, &shape, &journal),
         Err(ScriptFault::At { number, line }) => answer_fault(alloc, sink, number, line),
         Err(ScriptFault::NoMemory) => 7,
     }
@@ -98,7 +123,7 @@ fn view_picture<S: Source, K: Sink>(
 /// | 4 | there is no journal, or it is not legal |
 /// | 5 | a read failed |
 /// | 6 | a write failed |
-/// | 7 | want of memory |
+/// | 7 | want of memory; a front part of a trace may have been written, and of no other text |
 /// | 9 | the journal has too many events for that picture |
 pub fn view<S: Source, K: Sink>(alloc: Global, words: &[&str], source: &mut S, sink: &mut K) -> u8
     ensures refused { picture_of (map (λ word. word.now) words.now) ≡ None

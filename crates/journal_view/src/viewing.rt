@@ -6,22 +6,30 @@ ghost use Rattle.rank_script.specs.declared.scripts.ScriptFault.TheVariants as s
 ghost use Rattle.call_texts.specs.Lines.{fed_lines};
 ghost use Rattle.gaspi_texts.specs.JournalText.{IsFaultyAt};
 ghost use Rattle.gaspi_texts.specs.declared.journal_reading.JournalFault.TheVariants.{At};
-ghost use Rattle.journal_view.specs.Viewing.{HasPicture, HasSequence, HasTrace, IsNoJournal, IsRead, IsUnread, IsViewed, illegal_text, long_text, why_word};
+ghost use Rattle.journal_view.specs.Viewing.{HasPicture, HasSequence, IsNoJournal, IsRead, IsUnread, IsViewed, Tells, illegal_text, long_text, why_word};
 
 use crate::words::Picture;
 use call_texts::first_line;
 use gaspi_model::Why;
 use gaspi_texts::{Journal, JournalFault, read, write_number};
 use gaspi_types::{Bytes, NoMemory, Shape};
-use journal_pictures::{SequenceAnswer, TraceAnswer, sequence, trace};
+use journal_pictures::{SequenceAnswer, sequence};
 use rank_script::{ScriptFault, read_input};
 use std::alloc::Global;
 
-/// What is told of an input: the status and the text.
+/// A text that is told of an input, with its status.
 #[derive(Debug, Drop)]
-pub struct ViewResult {
+pub struct TextResult {
     pub status: u8,
     pub text: Bytes,
+}
+
+/// What is told of an input: a text, or the journal of which the trace is to be written. The text of a trace is not held: it is made as
+/// it is written.
+#[derive(Drop)]
+pub enum ViewResult {
+    Text(TextResult),
+    Trace { shape: Shape, journal: Journal },
 }
 
 /// The word of why an event is no step.
@@ -39,7 +47,7 @@ fn why_word(why: Why) -> &'static [u8]
 }
 
 /// The text that names the first event that is no step.
-fn illegal_text(alloc: Global, place: u64, why: Why) -> Result<Bytes, NoMemory>
+pub fn illegal_text(alloc: Global, place: u64, why: Why) -> Result<Bytes, NoMemory>
     ensures { IfOk result (λ text. text ≡ illegal_text place why) }
 {
     let mut text = Bytes::new(alloc);
@@ -63,42 +71,29 @@ fn long_text(alloc: Global, events: u64) -> Result<Bytes, NoMemory>
 }
 
 /// Tells that an input has no journal, and at which of its lines.
-fn no_journal_result(alloc: Global, line: u64) -> Result<ViewResult, NoMemory>
+fn no_journal_result(alloc: Global, line: u64) -> Result<TextResult, NoMemory>
     ensures { IfOk result (λ told. IsNoJournal line told.status told.text) }
 {
     let mut text = Bytes::new(alloc);
     text.append(b"not a journal ")?;
     write_number(&mut text, line)?;
     text.append(b"\n")?;
-    Ok(ViewResult { status: 4, text })
+    Ok(TextResult { status: 4, text })
 }
 
 /// Tells the sequence diagram of a journal.
-fn sequence_result(alloc: Global, shape: &Shape, journal: &Journal) -> Result<ViewResult, NoMemory>
+fn sequence_result(alloc: Global, shape: &Shape, journal: &Journal) -> Result<TextResult, NoMemory>
     ensures { IfOk result (λ told. HasSequence shape.now journal.now told.status told.text) }
 {
     match sequence(alloc, shape, journal)? {
-        SequenceAnswer::Drawn(text) => Ok(ViewResult { status: 0, text }),
+        SequenceAnswer::Drawn(text) => Ok(TextResult { status: 0, text }),
         SequenceAnswer::Long { events } => {
             let text = long_text(alloc, events)?;
-            Ok(ViewResult { status: 9, text })
+            Ok(TextResult { status: 9, text })
         }
         SequenceAnswer::Illegal { place, why } => {
             let text = illegal_text(alloc, place, why)?;
-            Ok(ViewResult { status: 4, text })
-        }
-    }
-}
-
-/// Tells the trace of a journal.
-fn trace_result(alloc: Global, shape: &Shape, journal: &Journal) -> Result<ViewResult, NoMemory>
-    ensures { IfOk result (λ told. HasTrace shape.now journal.now told.status told.text) }
-{
-    match trace(alloc, shape, journal)? {
-        TraceAnswer::Traced(text) => Ok(ViewResult { status: 0, text }),
-        TraceAnswer::Refuted { place, why } => {
-            let text = illegal_text(alloc, place, why)?;
-            Ok(ViewResult { status: 4, text })
+            Ok(TextResult { status: 4, text })
         }
     }
 }
@@ -107,14 +102,17 @@ fn trace_result(alloc: Global, shape: &Shape, journal: &Journal) -> Result<ViewR
 fn picture_result(
     alloc: Global,
     picture: Picture,
-    shape: &Shape,
-    journal: &Journal,
+    shape: Shape,
+    journal: Journal,
 ) -> Result<ViewResult, NoMemory>
-    ensures { IfOk result (λ told. HasPicture picture shape.now journal.now told.status told.text) }
+    ensures { IfOk result (λ told. Tells picture (HasPicture picture shape journal) told) }
 {
     match picture {
-        Picture::Sequence => sequence_result(alloc, shape, journal),
-        Picture::Trace => trace_result(alloc, shape, journal),
+        Picture::Sequence => {
+            let told = sequence_result(alloc, &shape, &journal)?;
+            Ok(ViewResult::Text(told))
+        }
+        Picture::Trace => Ok(ViewResult::Trace { shape, journal }),
     }
 }
 
@@ -139,7 +137,7 @@ fn fault_result(
     fault: JournalFault,
     text: &[u8],
     number: u64,
-) -> Result<ViewResult, NoMemory>
+) -> Result<TextResult, NoMemory>
     requires number { (1 ≤ number) × (number + length text.now < 2 ^ 63) }
     requires faulty { (line : ℕ) → fault ≡ At line → IsFaultyAt text.now line }
     ensures { IfOk result (λ told. IsUnread text.now number told.status told.text) }
@@ -154,31 +152,37 @@ fn fault_result(
 fn journal_result(
     alloc: Global,
     picture: Picture,
-    shape: &Shape,
+    shape: Shape,
     text: &[u8],
     number: u64,
 ) -> Result<ViewResult, NoMemory>
     requires { (1 ≤ number) × (number + length text.now < 2 ^ 63) }
-    ensures { IfOk result (λ told. IsRead picture shape.now text.now number told.status told.text) }
+    ensures { IfOk result (λ told. Tells picture (IsRead picture shape text.now number) told) }
 {
     match read(alloc, text) {
-        Ok(journal) => picture_result(alloc, picture, shape, &journal),
-        Err(fault) => fault_result(alloc, fault, text, number),
+        Ok(journal) => picture_result(alloc, picture, shape, journal),
+        Err(fault) => {
+            let told = fault_result(alloc, fault, text, number)?;
+            Ok(ViewResult::Text(told))
+        }
     }
 }
 
 /// Tells the picture that is asked for, of the journal of an input, in the world of the text before it.
 pub fn view_result(alloc: Global, picture: Picture, input: &[u8]) -> Result<ViewResult, ScriptFault>
-    ensures told { IfOk result (λ told. IsViewed picture input.now told.status told.text) }
+    ensures told { IfOk result (λ told. Tells picture (IsViewed picture input.now) told) }
     ensures fault { (number line : ℕ) → IsErrOf result (script_faults.At number line)
         → checked_world input.now ≡ Err (record { number = number; line = line }) }
 {
     let (shape, _scripts, place) = read_input(alloc, input)?;
     match place {
-        None => Ok(no_journal_result(alloc, line_count(input) + 1)?),
+        None => {
+            let told = no_journal_result(alloc, line_count(input) + 1)?;
+            Ok(ViewResult::Text(told))
+        }
         Some((place, number)) => {
             let journal = &input[place as usize..];
-            Ok(journal_result(alloc, picture, &shape, journal, number)?)
+            Ok(journal_result(alloc, picture, shape, journal, number)?)
         }
     }
 }

@@ -1,7 +1,6 @@
 use Rattle.std.proofs.Common.{arith}
-use Rattle.std.proofs.lemmas.Result.{on_ok_weaker}
 use Rattle.journal_pictures.specs.Trace.{purge_end}
-use Rattle.journal_pictures.proofs.Lines.{lines-step, lines-end}
+use Rattle.journal_pictures.proofs.Lines.{lines-step}
 use Rattle.journal_pictures.proofs.trace_lines.write_purge.Goals as goal
 
 pub loop-entry-preserved : goal.loop-entry-preserved

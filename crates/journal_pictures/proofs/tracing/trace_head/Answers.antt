@@ -11,4 +11,4 @@ returns c =
     rw (sym c.limits-limits.ensures.value, sym c.callers.ensures)
     (head-text c.append.new.self c.append_rank.new.text c.write_ranks.new.text c.write_callers.new.text c.write_queues.new.text (codes "[\n") (compact_text (rank_name 0))
     (map rank_name (range_with_len 1 (limits.ranks - 1))) (map caller_name c.callers.result.now) (flat_map (queue_names limits.queues) (range_with_len 0 limits.ranks))
-    (c.in_ok-append.ensures.ok ∙ ap (λ (t : List ℕ). t ++ codes "[\n") c.new-text.ensures) c.in_ok-append_rank.ensures c.in_ok-write_ranks.ensures c.in_ok-write_callers.ensures c.in_ok-write_queues.ensures)
+    (c.in_ok-append.ensures.ok ∙ ap (λ (t : List ℕ). t ++ codes "[\n") c.in_ok-text.ensures) c.in_ok-append_rank.ensures c.in_ok-write_ranks.ensures c.in_ok-write_callers.ensures c.in_ok-write_queues.ensures)

@@ -1,6 +1,6 @@
 use Rattle.std.proofs.Common.{arith}
 use Rattle.journal_pictures.specs.Trace.{caller_name}
-use Rattle.journal_pictures.proofs.Lines.{lines-step, lines-end}
+use Rattle.journal_pictures.proofs.Lines.{lines-step}
 use Rattle.journal_pictures.proofs.tracing.write_callers.Goals as goal
 
 pub loop-caller-preserved : goal.loop-caller-preserved

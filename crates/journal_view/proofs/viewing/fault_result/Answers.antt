@@ -1,4 +1,4 @@
-use Rattle.std.proofs.Common.{arith, refl}
+use Rattle.std.proofs.Common.{arith}
 use Rattle.std.proofs.lemmas.Result.{IfOk-weaker}
 use Rattle.call_texts.proofs.FedLines.{lines-short}
 use Rattle.journal_view.proofs.viewing.fault_result.Goals as goal
