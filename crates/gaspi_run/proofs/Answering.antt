@@ -1,5 +1,5 @@
 -- The answer to an input: to what was told of it, to its fault, and to one that could not be read.
-use Rattle.std.proofs.Common.{◌≡◌, ℕ, ◌+◌, ◌<◌, ◌≤◌, Bool, true, false, inl, inr, List, [], replicate, Option, None, Some, Result, Ok, Err, IfOk, IsErrOf, length, refl, arith}
+use Rattle.std.proofs.Common.{◌≡◌, ℕ, ◌+◌, ◌<◌, ◌≤◌, Bool, true, false, inl, inr, List, [], replicate, Option, None, Some, Result, Ok, Err, IfOk, IsErrOf, length, refl, sym, ◌∙◌, arith}
 use Rattle.std.specs.Option.{ForSome}
 use Rattle.std.proofs.lemmas.Bool.{lt-ltb}
 use Rattle.std.proofs.lemmas.List.{length-replicate}
@@ -11,12 +11,12 @@ use Rattle.rank_script.specs.Lines.{input_limit}
 use Rattle.rank_script.specs.WorldText.{TextFault}
 use Rattle.rank_script.specs.declared.scripts.ScriptFault.{ScriptFault}
 use Rattle.rank_script.specs.declared.scripts.ScriptFault.TheVariants.{At, NoMemory}
-use Rattle.gaspi_run.specs.Command.{fault_text, IsCommandResult, world_read, is_plain, HasBenched, AnswersInput, AnswersBench, Answers}
+use Rattle.gaspi_run.specs.Command.{fault_text, IsCommandResult, world_read, is_plain, writes_journal, HasBenched, AnswersInput, AnswersBench, Answers}
 use Rattle.gaspi_run.specs.Answering.{AnswersFault, AnswersResult, AnswersStop}
 use Rattle.command_line.specs.declared.words.Command.{Command}
 use Rattle.command_line.specs.declared.words.Command.TheVariants.{Run, Step, Check, Why, Bench}
 use Rattle.gaspi_run.specs.declared.commands.Answer.{Answer}
-use Rattle.gaspi_run.specs.declared.results.CommandResult.{CommandResult}
+use Rattle.gaspi_run.specs.Results.{ResultValue}
 
 pub if-ok : {A E : Type 0} (P Q : A → Type 0) (r : Result A E) → ((x : A) → P x → Q x) → IfOk r P → IfOk r Q
 if-ok P Q (Ok x) f p = f x p
@@ -107,23 +107,23 @@ module _ (command : Command) (before after held held' : Option (List ℕ)) (faul
   }))))
   answered-fault fault k read (inr lacks, none) = inr (inr (inr (inr (record {
     taken = taken;
-    kept = lacks.1;
+    kept = inl lacks.1;
     still = (read, lacks.2);
     status = lacks.0;
     empty = none;
   }))))
 
   -- what was told of an input that was read
-  pub answered-result : (input : List ℕ) (r : Result CommandResult ScriptFault) → length input ≤ input_limit → ForSome before (λ told. input ≡ told) → ForSome before (λ told. after ≡ Some []) → faults' ≡ faults
-      → IfOk r (λ told. IsCommandResult command input told.journal told.tally told.status told.text)
+  pub answered-result : (input : List ℕ) (r : Result ResultValue ScriptFault) → length input ≤ input_limit → ForSome before (λ told. input ≡ told) → ForSome before (λ told. after ≡ Some []) → faults' ≡ faults
+      → IfOk r (λ told. IsCommandResult command input told.journal told.tally told.status told.text) → IfOk r (λ told. told.is_held ≡ false → writes_journal command ≡ true)
       → ((number line : ℕ) → IsErrOf r (At number line) → world_read command input ≡ Err (record { number = number; line = line })) → AnswersResult held held' sink_faults sink_faults' answer r → IsAnswered
-  answered-result input (Ok told) short all end read tells faulty (inl written, journal, tally) = inl (record {
+  answered-result input (Ok told) short all end read tells journals faulty (inl (inl written, journal, tally)) = inl (record {
     text = told.text;
     still = (read, written.2);
     told = record { input = input; all = all; end = end; tells = rw (written.0, journal, tally) tells };
     written = written.1;
   })
-  answered-result input (Ok told) short all end read tells faulty (inr failed, journal, tally) = inr (inr (inr (inl (record {
+  answered-result input (Ok told) short all end read tells journals faulty (inl (inr failed, journal, tally)) = inr (inr (inr (inl (record {
     text = told.text;
     of = inl (told.status, record { input = input; all = all; end = end; tells = rw (journal, tally) tells });
     front = failed.1;
@@ -131,11 +131,26 @@ module _ (command : Command) (before after held held' : Option (List ℕ)) (faul
     still = read;
     status = failed.0;
   }))))
-  answered-result input (Err (At number line)) short all end read tells faulty says =
-      answered-fault (record { number = number; line = line }) (record { input = input; all = all; end = λ fits. end; past = λ long. absurd (omega arith); is = faulty number line refl }) read says
-  answered-result input (Err NoMemory) short all end read tells faulty (silent, none) = inr (inr (inr (inr (record {
+  answered-result input (Ok told) short all end read tells journals faulty (inr ((held, cut), none)) = inr (inr (inr (inr (record {
     taken = taken;
-    kept = silent.1;
+    kept = inr (record {
+      text = told.text;
+      journal = told.journal;
+      tally = told.tally;
+      would_be = told.status;
+      journals = journals held;
+      of = record { input = input; all = all; end = end; tells = tells };
+      front = cut.1;
+    });
+    still = (read, cut.2);
+    status = cut.0;
+    empty = none;
+  }))))
+  answered-result input (Err (At number line)) short all end read tells journals faulty says =
+      answered-fault (record { number = number; line = line }) (record { input = input; all = all; end = λ fits. end; past = λ long. absurd (omega arith); is = faulty number line refl }) read says
+  answered-result input (Err NoMemory) short all end read tells journals faulty (silent, none) = inr (inr (inr (inr (record {
+    taken = taken;
+    kept = inl silent.1;
     still = (read, silent.2);
     status = silent.0;
     empty = none;
@@ -156,7 +171,7 @@ module _ (command : Command) (before after held held' : Option (List ℕ)) (faul
       answered-fault (record { number = 1; line = 0 }) (long-fault command before after reading (long refl) (past refl)) (still_long refl) says
   answered-stop stops.NoMemory long past cause still_long still_memory (silent, none) = inr (inr (inr (inr (record {
     taken = taken;
-    kept = silent.1;
+    kept = inl silent.1;
     still = (still_memory refl, silent.2);
     status = silent.0;
     empty = none;
@@ -164,15 +179,15 @@ module _ (command : Command) (before after held held' : Option (List ℕ)) (faul
 
 -- The answer of `bench`.
 
-pub answered-bench : (seed ranks rounds : ℕ) (held held' : Option (List ℕ)) (sink_faults sink_faults' : ℕ) (answer : Answer) (told : CommandResult)
-    → HasBenched seed ranks rounds told.journal told.tally told.status told.text → AnswersResult held held' sink_faults sink_faults' answer (Ok told) → AnswersBench seed ranks rounds held held' sink_faults sink_faults' answer
-answered-bench seed ranks rounds held held' sink_faults sink_faults' answer told tells (inl written, journal, tally) = inl (record {
+pub answered-bench : (seed ranks rounds : ℕ) (held held' : Option (List ℕ)) (sink_faults sink_faults' : ℕ) (answer : Answer) (told : ResultValue)
+    → HasBenched seed ranks rounds told.journal told.tally told.status told.text → told.is_held ≡ true → AnswersResult held held' sink_faults sink_faults' answer (Ok told) → AnswersBench seed ranks rounds held held' sink_faults sink_faults' answer
+answered-bench seed ranks rounds held held' sink_faults sink_faults' answer told tells held_is (inl (inl written, journal, tally)) = inl (record {
   text = told.text;
   still = written.2;
   told = rw (written.0, journal, tally) tells;
   written = written.1;
 })
-answered-bench seed ranks rounds held held' sink_faults sink_faults' answer told tells (inr failed, journal, tally) = inr (inl (record {
+answered-bench seed ranks rounds held held' sink_faults sink_faults' answer told tells held_is (inl (inr failed, journal, tally)) = inr (inl (record {
   text = told.text;
   would_be = told.status;
   of = rw (journal, tally) tells;
@@ -180,3 +195,5 @@ answered-bench seed ranks rounds held held' sink_faults sink_faults' answer told
   cause = failed.2;
   status = failed.0;
 }))
+answered-bench seed ranks rounds held held' sink_faults sink_faults' answer told tells held_is (inr ((not_held, cut), none)) =
+    absurd (let both : true ≡ false = sym held_is ∙ not_held in let no : ⊥ = cc in no)

@@ -13,7 +13,7 @@ use Rattle.gaspi_model.proofs.Sound.OpenCounts.{count-append}
 use Rattle.gaspi_model.specs.declared.states.State.{State}
 use Rattle.gaspi_model.specs.declared.states.Why.{Why}
 use Rattle.call_journal.specs.Laws.{RanToTheEnd, draws_until}
-use Rattle.call_journal.specs.Numbers.{is_call, is_transfer, is_notification, words_until, AreNumbers}
+use Rattle.call_journal.specs.Numbers.{is_call, is_transfer, is_found_reset, words_until, AreNumbers}
 use Rattle.call_journal.specs.declared.journal_numbers.Numbers4.{Numbers4}
 use Rattle.rank_script.specs.Bench.{bench_callers, bench_lines, bench_shape}
 use Rattle.rank_script.specs.BenchScripts.{bench_scripts}
@@ -164,7 +164,7 @@ abbrev pub TransfersLaw : Type 0
 TransfersLaw = (seed ranks rounds : ℕ) (journal : List Event) → RanToTheEnd seed ranks rounds journal → count_by is_transfer journal ≡ 4 * ranks * rounds
 
 abbrev pub NotificationsLaw : Type 0
-NotificationsLaw = (seed ranks rounds : ℕ) (journal : List Event) → RanToTheEnd seed ranks rounds journal → count_by is_notification journal ≡ ranks * rounds
+NotificationsLaw = (seed ranks rounds : ℕ) (journal : List Event) → RanToTheEnd seed ranks rounds journal → count_by is_found_reset journal ≡ ranks * rounds
 
 abbrev pub WordsLaw : Type 0
 WordsLaw = (seed ranks rounds : ℕ) (journal : List Event) (ran : RanToTheEnd seed ranks rounds journal) → words_until ran.state ranks ≡ draws_until seed ranks (rounds - 1) ranks

@@ -19,7 +19,7 @@ use Rattle.rank_script.specs.declared.scripts.Script.{Script}
 use Rattle.gaspi_run.specs.Bodies.{HasRunScript}
 use Rattle.gaspi_run.specs.Runs.{HasRun}
 use Rattle.gaspi_run.specs.declared.bodies.ScriptBody.{ScriptBody}
-use Rattle.gaspi_run.specs.ThreadBodies.{BodyNeeds, BodyDid, EachAt, HaveAllRun, made_pass, IsBodyOf, IsReady, HasRunCaller, HasRunThreadBody, HasRunTask, IsDone, finished_of, finished_in}
+use Rattle.gaspi_run.specs.ThreadBodies.{BodyNeeds, BodyDid, EachAt, HaveAllRun, made_pass, IsBodyOf, IsReady, HasRunCaller, HasRunThreadBody, HasRunTask, IsDone, ended_caller, ended_callers}
 use Rattle.gaspi_run.specs.declared.schedule_states.EndedCaller.{EndedCaller}
 use Rattle.gaspi_run.specs.declared.thread_bodies.ThreadBody.{ThreadBody}
 use Rattle.gaspi_run.specs.declared.thread_bodies.ThreadBody.TheVariants.{Caller, Worker}
@@ -118,12 +118,12 @@ take-one : {A : Type 0} (xs : List A) (i : ℕ) (x : A) → i < length xs → x 
 take-one xs i x less is = take_more xs i x less ∙ ap (λ (y : _). take i xs ++ y ∷ []) (sym is)
 
 -- the outcomes of one task more
-pub finished-more : (tasks : List (Task ThreadBody)) (i : ℕ) (task : Task ThreadBody) (had next : List EndedCaller) → i < length tasks → task ≡ get_or tasks i task → had ≡ finished_in (take i tasks) → next ≡ had ++ finished_of task.body → next ≡ finished_in (take (i + 1) tasks)
+pub finished-more : (tasks : List (Task ThreadBody)) (i : ℕ) (task : Task ThreadBody) (had next : List EndedCaller) → i < length tasks → task ≡ get_or tasks i task → had ≡ ended_callers (take i tasks) → next ≡ had ++ ended_caller task.body → next ≡ ended_callers (take (i + 1) tasks)
 finished-more tasks i task had next less is before more =
-    more ∙ (ap (λ (fs : List EndedCaller). fs ++ finished_of task.body) before
-    ∙ (ap (λ (fs : List EndedCaller). finished_in (take i tasks) ++ fs) (sym (append-nil (finished_of task.body)))
-    ∙ (sym (flat_map-append (λ (t : Task ThreadBody). finished_of t.body) (take i tasks) (task ∷ []))
-    ∙ ap (λ (ts : List (Task ThreadBody)). finished_in ts) (sym (take-one tasks i task less is)))))
+    more ∙ (ap (λ (fs : List EndedCaller). fs ++ ended_caller task.body) before
+    ∙ (ap (λ (fs : List EndedCaller). ended_callers (take i tasks) ++ fs) (sym (append-nil (ended_caller task.body)))
+    ∙ (sym (flat_map-append (λ (t : Task ThreadBody). ended_caller t.body) (take i tasks) (task ∷ []))
+    ∙ ap (λ (ts : List (Task ThreadBody)). ended_callers ts) (sym (take-one tasks i task less is)))))
 
 pub told-more : (tasks : List (Task ThreadBody)) (i : ℕ) (task : Task ThreadBody) → i < length tasks → task ≡ get_or tasks i task → All (λ (t : Task ThreadBody). IsDone t.body) (take i tasks) → IsDone task.body → All (λ (t : Task ThreadBody). IsDone t.body) (take (i + 1) tasks)
 told-more tasks i task less is before told =

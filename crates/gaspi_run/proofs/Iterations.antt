@@ -29,7 +29,7 @@ use Rattle.gaspi_run.specs.declared.schedule_states.ActiveCaller.{ActiveCaller}
 use Rattle.gaspi_run.specs.declared.schedule_states.ScheduleState.{ScheduleState}
 use Rattle.gaspi_run.proofs.JoinsFollowed.{AreFollowedSoFar, ends_joined, called-ends, called-so-far, joined-so-far}
 use Rattle.call_journal.proofs.OwnCalls.{own-same}
-use Rattle.gaspi_run.proofs.Running.{IsRunning, Goes, present, come-going, own_events-append, events-same, events-more, called-other, waiting_count, finished_count, count-at, count-two, come-more, ended-more, set-cases}
+use Rattle.gaspi_run.proofs.Running.{IsRunning, Goes, present, come-going, own_events-append, events-same, events-more, called-other, active_count, finished_count, count-at, count-two, come-more, ended-more, set-cases}
 
 -- what the machine's and the runs' laws say
 abbrev pub ActiveStays : Type 0
@@ -88,7 +88,7 @@ apart-finished w scripts t i j x f running ati atj = go (is_caller f.caller.rank
         absurd (omega arith)
 
 -- a caller changed in place is counted as before
-count-set : (ws : List ActiveCaller) (place : ℕ) (x x' : ActiveCaller) (rank thread : ℕ) → slice_get ws place ≡ Some x → x'.caller ≡ x.caller → waiting_count rank thread (slice_set ws place x') ≡ waiting_count rank thread ws
+count-set : (ws : List ActiveCaller) (place : ℕ) (x x' : ActiveCaller) (rank thread : ℕ) → slice_get ws place ≡ Some x → x'.caller ≡ x.caller → active_count rank thread (slice_set ws place x') ≡ active_count rank thread ws
 count-set ws place x x' rank thread at same =
     let f = λ (z : ActiveCaller). cond {A = ℕ} (is_caller rank thread z.caller) 1 0 in
     let sum = subst (λ (y : ActiveCaller). sum_by f (slice_set ws place x') + f y ≡ sum_by f ws + f x') (get_or_from_slice_get ws place x x at) (sum_by-set f ws place x' x (slice_get_within ws place x at)) in

@@ -11,7 +11,7 @@ use Rattle.gaspi_types.specs.declared.replies.Ready.TheVariants as ready
 use Rattle.gaspi_types.specs.declared.replies.Refusal.{Refusal}
 use Rattle.gaspi_types.specs.declared.replies.Reply.{Reply}
 use Rattle.gaspi_types.specs.declared.shapes.CallerId.{CallerId}
-use Rattle.gaspi_model.specs.Calls.{answer, call_result, ready_of}
+use Rattle.gaspi_model.specs.Calls.{answer, call_result, answer_of_result}
 use Rattle.gaspi_model.specs.CollectiveCalls.{is_joining, joining_call, group_of, join_event}
 use Rattle.gaspi_model.specs.Sound.{IsSound}
 use Rattle.gaspi_model.specs.State.{is_running, thread_at}
@@ -25,7 +25,7 @@ use Rattle.gaspi_run.proofs.RunningAll.{JoinLaws}
 
 -- What joins is a collective.
 
-ready-joins-not : (r : Result (Option Reply) Refusal) (args : Args) → ready_of r ≡ ready.Join args → ⊥
+ready-joins-not : (r : Result (Option Reply) Refusal) (args : Args) → answer_of_result r ≡ ready.Join args → ⊥
 ready-joins-not (Ok None) args is = cc
 ready-joins-not (Ok (Some reply)) args is = cc
 ready-joins-not (Err refusal) args is = cc

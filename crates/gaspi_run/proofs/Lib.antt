@@ -25,3 +25,4 @@ pub mod SameCallers
 pub mod ScheduleLoop
 pub mod Started
 pub mod Work
+pub mod WrittenJournals

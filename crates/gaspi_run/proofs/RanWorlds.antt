@@ -43,7 +43,7 @@ use Rattle.transfer_worker.specs.Order.{Drains}
 use Rattle.transfer_worker.specs.Turns.{IsDrained}
 use Rattle.gaspi_run.specs.Joins.{AreJoinsFollowed}
 use Rattle.gaspi_run.specs.Endings.{HasEnded, HaveEnded, HasSettled}
-use Rattle.gaspi_run.specs.ThreadBodies.{EachAt, HasRunTask, HasRunThreadBody, HasRunWorker, IsDone, HaveRun, made_pass, finished_of, finished_with, finished_in, is_not_out_of_memory}
+use Rattle.gaspi_run.specs.ThreadBodies.{EachAt, HasRunTask, HasRunThreadBody, HasRunWorker, IsDone, HaveRun, made_pass, ended_caller, ended_with, ended_callers, is_not_out_of_memory}
 use Rattle.gaspi_run.specs.Threads.{HadPass, HadWorker, IsTallyOf}
 use Rattle.gaspi_run.specs.declared.thread_bodies.ThreadBody.{ThreadBody}
 use Rattle.gaspi_run.specs.declared.thread_bodies.ThreadBody.TheVariants.{Caller, Worker}
@@ -239,17 +239,17 @@ module _ (world : TableValue Start) (scripts : List Script) (limit : ℕ) (passe
         pub each : (place : ℕ) (f : EndedCaller) → slice_get finished place ≡ Some f → HasEnded w scripts journal f
         each place f at = go from.1.body refl from.4
           where
-            from : (i : ℕ) × (t : Task ThreadBody) × (j : ℕ) × (slice_get run.tasks i ≡ Some t) × (slice_get (finished_of t.body) j ≡ Some f)
-            from = flat_map-parts (λ (t : Task ThreadBody). finished_of t.body) run.tasks place f (subst (λ (fs : List EndedCaller). slice_get fs place ≡ Some f) run.finished_are at)
+            from : (i : ℕ) × (t : Task ThreadBody) × (j : ℕ) × (slice_get run.tasks i ≡ Some t) × (slice_get (ended_caller t.body) j ≡ Some f)
+            from = flat_map-parts (λ (t : Task ThreadBody). ended_caller t.body) run.tasks place f (subst (λ (fs : List EndedCaller). slice_get fs place ≡ Some f) run.finished_are at)
 
-            with_outcome : (body : ScriptBody) → from.1.body ≡ Caller body → (o : Option RunOutcome) → body.outcome ≡ o → (j : ℕ) → slice_get (finished_with body.script.now.caller o) j ≡ Some f → HasEnded w scripts journal f
+            with_outcome : (body : ScriptBody) → from.1.body ≡ Caller body → (o : Option RunOutcome) → body.outcome ≡ o → (j : ℕ) → slice_get (ended_with body.script.now.caller o) j ≡ Some f → HasEnded w scripts journal f
             with_outcome body is None so j here = absurd (let never : ⊥ = cc in never)
             with_outcome body is (Some told) so zero here =
                 let same : record { caller = body.script.now.caller; outcome = told } ≡ f = cc in
                 subst (HasEnded w scripts journal) same (ended from.0 from.1 body from.3 is told so)
             with_outcome body is (Some told) so (suc j) here = absurd (let never : ⊥ = cc in never)
 
-            go : (part : ThreadBody) → from.1.body ≡ part → slice_get (finished_of part) from.2 ≡ Some f → HasEnded w scripts journal f
+            go : (part : ThreadBody) → from.1.body ≡ part → slice_get (ended_caller part) from.2 ≡ Some f → HasEnded w scripts journal f
             go (Caller body) is here = with_outcome body is body.outcome refl from.2 here
             go (Worker turns) is here = absurd (let never : ⊥ = cc in never)
 
@@ -260,25 +260,25 @@ module _ (world : TableValue Start) (scripts : List Script) (limit : ℕ) (passe
           is_one f = is_caller rank thread f.caller
 
           abbrev is_ones : Task ThreadBody → Bool
-          is_ones t = list_any is_one (finished_of t.body)
+          is_ones t = list_any is_one (ended_caller t.body)
 
-          count-front : (part : ThreadBody) (rest : List EndedCaller) → count_by is_one (finished_of part ++ rest) ≡ cond (list_any is_one (finished_of part)) 1 0 + count_by is_one rest
+          count-front : (part : ThreadBody) (rest : List EndedCaller) → count_by is_one (ended_caller part ++ rest) ≡ cond (list_any is_one (ended_caller part)) 1 0 + count_by is_one rest
           count-front (Caller body) rest = with_outcome body.outcome
             where
-              with_outcome : (o : Option RunOutcome) → count_by is_one (finished_with body.script.now.caller o ++ rest) ≡ cond (list_any is_one (finished_with body.script.now.caller o)) 1 0 + count_by is_one rest
+              with_outcome : (o : Option RunOutcome) → count_by is_one (ended_with body.script.now.caller o ++ rest) ≡ cond (list_any is_one (ended_with body.script.now.caller o)) 1 0 + count_by is_one rest
               with_outcome None = (let same : count_by is_one rest ≡ 0 + count_by is_one rest = omega arith in same)
               with_outcome (Some told) = go (is_one (record { caller = body.script.now.caller; outcome = told })) refl
                 where
                   go : (b : Bool) → is_one (record { caller = body.script.now.caller; outcome = told }) ≡ b
-                      → count_by is_one (finished_with body.script.now.caller (Some told) ++ rest) ≡ cond (list_any is_one (finished_with body.script.now.caller (Some told))) 1 0 + count_by is_one rest
+                      → count_by is_one (ended_with body.script.now.caller (Some told) ++ rest) ≡ cond (list_any is_one (ended_with body.script.now.caller (Some told))) 1 0 + count_by is_one rest
                   go true meets = (let one = counts is_one (record { caller = body.script.now.caller; outcome = told }) rest true meets in rw meets (rw meets at one))
                   go false fails = (let one = counts is_one (record { caller = body.script.now.caller; outcome = told }) rest false fails in rw fails (rw fails at one))
           count-front (Worker turns) rest = (let same : count_by is_one rest ≡ 0 + count_by is_one rest = omega arith in same)
 
-          count-tasks : (tasks : List (Task ThreadBody)) → count_by is_one (finished_in tasks) ≡ count_by is_ones tasks
+          count-tasks : (tasks : List (Task ThreadBody)) → count_by is_one (ended_callers tasks) ≡ count_by is_ones tasks
           count-tasks [] = refl
           count-tasks (t ∷ tasks) =
-              let front = count-front t.body (finished_in tasks) in
+              let front = count-front t.body (ended_callers tasks) in
               let one = counts is_ones t tasks (is_ones t) refl in
               let rest = count-tasks tasks in
               omega arith
@@ -287,7 +287,7 @@ module _ (world : TableValue Start) (scripts : List Script) (limit : ℕ) (passe
           ones-caller : (k : ℕ) (t : Task ThreadBody) → slice_get run.tasks k ≡ Some t → is_ones t ≡ true → (body : ScriptBody) × (t.body ≡ Caller body) × (is_caller rank thread body.script.now.caller ≡ true)
           ones-caller k t at counted = go t.body refl counted
             where
-              with_outcome : (body : ScriptBody) → t.body ≡ Caller body → (o : Option RunOutcome) → list_any is_one (finished_with body.script.now.caller o) ≡ true → (body : ScriptBody) × (t.body ≡ Caller body) × (is_caller rank thread body.script.now.caller ≡ true)
+              with_outcome : (body : ScriptBody) → t.body ≡ Caller body → (o : Option RunOutcome) → list_any is_one (ended_with body.script.now.caller o) ≡ true → (body : ScriptBody) × (t.body ≡ Caller body) × (is_caller rank thread body.script.now.caller ≡ true)
               with_outcome body is None any = absurd (let never : ⊥ = cc in never)
               with_outcome body is (Some told) any = (body, is, or-false (is_caller rank thread body.script.now.caller) any)
                 where
@@ -295,7 +295,7 @@ module _ (world : TableValue Start) (scripts : List Script) (limit : ℕ) (passe
                   or-false true holds = refl
                   or-false false holds = holds
 
-              go : (part : ThreadBody) → t.body ≡ part → list_any is_one (finished_of part) ≡ true → (body : ScriptBody) × (t.body ≡ Caller body) × (is_caller rank thread body.script.now.caller ≡ true)
+              go : (part : ThreadBody) → t.body ≡ part → list_any is_one (ended_caller part) ≡ true → (body : ScriptBody) × (t.body ≡ Caller body) × (is_caller rank thread body.script.now.caller ≡ true)
               go (Caller body) is any = with_outcome body is body.outcome any
               go (Worker turns) is any = absurd (let never : ⊥ = cc in never)
 

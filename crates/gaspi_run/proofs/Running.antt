@@ -54,8 +54,8 @@ no-call rank thread (Put origin queue target number outcome) none = refl
 
 -- Callers that are counted.
 
-abbrev pub waiting_count : ℕ → ℕ → List ActiveCaller → ℕ
-waiting_count rank thread ws = count_by (λ (x : ActiveCaller). is_caller rank thread x.caller) ws
+abbrev pub active_count : ℕ → ℕ → List ActiveCaller → ℕ
+active_count rank thread ws = count_by (λ (x : ActiveCaller). is_caller rank thread x.caller) ws
 
 abbrev pub finished_count : ℕ → ℕ → List EndedCaller → ℕ
 finished_count rank thread fs = count_by (λ (f : EndedCaller). is_caller rank thread f.caller) fs
@@ -206,7 +206,7 @@ pub record IsRunning (w : ShapeValue) (scripts : List Script) (t : ScheduleState
   pub joined : (place : ℕ) (x : ActiveCaller) (line : ScriptLine) (tried : ℕ) (lines : List ScriptLine) → slice_get t.active place ≡ Some x → x.cursor ≡ AtLine line tried lines
       → ends_joined (own_events x.caller.rank x.caller.thread t.journal) ≡ true → is_pending t.state x.caller.rank x.caller.thread line.call ≡ true
   pub ended : (place : ℕ) (f : EndedCaller) → slice_get t.ended place ≡ Some f → HasEnded w scripts t.journal f
-  pub counted : (rank thread : ℕ) → waiting_count rank thread t.active + finished_count rank thread t.ended ≡ count_by (λ (s : Script). is_caller rank thread s.caller) scripts
+  pub counted : (rank thread : ℕ) → active_count rank thread t.active + finished_count rank thread t.ended ≡ count_by (λ (s : Script). is_caller rank thread s.caller) scripts
   pub once : (rank thread : ℕ) → count_by (λ (s : Script). is_caller rank thread s.caller) scripts ≤ 1
 
 -- An event that is not a caller's own leaves what was said of it.

@@ -27,7 +27,7 @@ use Rattle.gaspi_run.specs.Endings.{own_events, HasLimitCause, HasEnded}
 use Rattle.gaspi_run.specs.declared.schedule_states.ActiveCaller.{ActiveCaller}
 use Rattle.gaspi_run.specs.declared.schedule_states.ScheduleState.{ScheduleState}
 use Rattle.gaspi_run.proofs.JoinsFollowed.{AreFollowedSoFar, ends_joined, followed-at-end}
-use Rattle.gaspi_run.proofs.Running.{IsRunning, Goes, HasCome, waiting_count, finished_count, present, line-there, come-more, ended-more, own_events-append, events-same, events-more, called-other}
+use Rattle.gaspi_run.proofs.Running.{IsRunning, Goes, HasCome, active_count, finished_count, present, line-there, come-more, ended-more, own_events-append, events-same, events-more, called-other}
 use Rattle.gaspi_run.proofs.Iterations.{ActiveStays, apart-waiting, apart-finished, own-more}
 
 abbrev pub EndsRun : Type 0
@@ -206,7 +206,7 @@ ending-step stays ends stops w scripts t place x outcome s sound running at over
         (called-other f.caller.rank f.caller.thread x.caller End replies.Done (apart-finished w scripts t place here.0 x f running at here.1)) (running.ended here.0 f here.1)
     ended-at f (inr here) = new-at f here.0 here.1
 
-    counts : (rank thread : ℕ) → waiting_count rank thread (remove t.active place) + finished_count rank thread (t.ended ++ record { caller = x.caller; outcome = outcome } ∷ [])
+    counts : (rank thread : ℕ) → active_count rank thread (remove t.active place) + finished_count rank thread (t.ended ++ record { caller = x.caller; outcome = outcome } ∷ [])
         ≡ count_by (λ (s : Script). is_caller rank thread s.caller) scripts
     counts rank thread =
         let f = λ (z : ActiveCaller). cond {A = ℕ} (is_caller rank thread z.caller) 1 0 in

@@ -116,7 +116,7 @@ over-ended w scripts seed limit t k h over =
       once = λ rank thread. (let all = running.counted rank thread in let none = no-count t.active rank thread (let none : length t.active ≡ 0 = omega arith in none) in omega arith);
     }
   where
-    no-count : (ws : List ActiveCaller) (rank thread : ℕ) → length ws ≡ 0 → Rattle.gaspi_run.proofs.Running.waiting_count rank thread ws ≡ 0
+    no-count : (ws : List ActiveCaller) (rank thread : ℕ) → length ws ≡ 0 → Rattle.gaspi_run.proofs.Running.active_count rank thread ws ≡ 0
     no-count [] rank thread none = refl
     no-count (y ∷ ws) rank thread none = absurd (omega arith)
 

@@ -19,7 +19,7 @@ use Rattle.rank_script.specs.declared.scripts.Script.{Script}
 use Rattle.gaspi_run.specs.Schedule.{starting, thread_starts, rank_starts, starts, started}
 use Rattle.gaspi_run.specs.declared.schedule_states.ActiveCaller.{ActiveCaller}
 use Rattle.gaspi_run.proofs.Good.{IsGood}
-use Rattle.gaspi_run.proofs.Running.{IsRunning, Goes, waiting_count, count-at, find-there}
+use Rattle.gaspi_run.proofs.Running.{IsRunning, Goes, active_count, count-at, find-there}
 
 -- Sums over numbers.
 
@@ -92,10 +92,10 @@ none-counted {A} p (y ∷ xs) h = go (p y) refl h (λ e. none-counted p xs e)
 
 -- what is counted of the start of one caller
 start-count : (scripts : List Script) (r t : ℕ) → count_by (λ (s : Script). is_caller r t s.caller) scripts ≤ 1
-    → waiting_count r t (thread_starts scripts r t) ≡ count_by (λ (s : Script). is_caller r t s.caller) scripts
+    → active_count r t (thread_starts scripts r t) ≡ count_by (λ (s : Script). is_caller r t s.caller) scripts
 start-count scripts r t once = go (find (is_script_of (record { rank = r; thread = t })) scripts) refl
   where
-    go : (o : Option Script) → find (is_script_of (record { rank = r; thread = t })) scripts ≡ o → waiting_count r t (starting o) ≡ count_by (λ (s : Script). is_caller r t s.caller) scripts
+    go : (o : Option Script) → find (is_script_of (record { rank = r; thread = t })) scripts ≡ o → active_count r t (starting o) ≡ count_by (λ (s : Script). is_caller r t s.caller) scripts
     go None is = sym (none-counted (λ (s : Script). is_caller r t s.caller) scripts is)
     go (Some s) is =
         let pass = found-passes (λ (s : Script). is_caller r t s.caller) scripts s is in
@@ -104,7 +104,7 @@ start-count scripts r t once = go (find (is_script_of (record { rank = r; thread
         rw pass (omega arith)
 
 -- the start of another caller is not counted
-other-start : (scripts : List Script) (r t a b : ℕ) → ((a ≡ r) × (b ≡ t) → ⊥) → waiting_count r t (thread_starts scripts a b) ≡ 0
+other-start : (scripts : List Script) (r t a b : ℕ) → ((a ≡ r) × (b ≡ t) → ⊥) → active_count r t (thread_starts scripts a b) ≡ 0
 other-start scripts r t a b apart = go (find (is_script_of (record { rank = a; thread = b })) scripts) refl
   where
     is-false : (s : Script) → is_caller a b s.caller ≡ true → (x : Bool) → is_caller r t s.caller ≡ x → x ≡ false
@@ -114,7 +114,7 @@ other-start scripts r t a b apart = go (find (is_script_of (record { rank = a; t
         let there = both (s.caller.rank == r) (s.caller.thread == t) is in
         absurd (apart (sym (eqb-true s.caller.rank a here.0) ∙ eqb-true s.caller.rank r there.0, sym (eqb-true s.caller.thread b here.1) ∙ eqb-true s.caller.thread t there.1))
 
-    go : (o : Option Script) → find (is_script_of (record { rank = a; thread = b })) scripts ≡ o → waiting_count r t (starting o) ≡ 0
+    go : (o : Option Script) → find (is_script_of (record { rank = a; thread = b })) scripts ≡ o → active_count r t (starting o) ≡ 0
     go None is = refl
     go (Some s) is =
         let pass = found-passes (is_script_of (record { rank = a; thread = b })) scripts s is in
@@ -154,29 +154,29 @@ decide-both a r b t = go (a == r) (b == t) refl refl
     go false y p q = inr (λ h. eqb-false a r p h.0)
 
 -- how many callers that start are of a rank and thread: as many as scripts are
-starts-counted : (w : ShapeValue) (scripts : List Script) (r t : ℕ) → IsShape w → AreScriptsOf w scripts → waiting_count r t (starts w scripts) ≡ count_by (λ (s : Script). is_caller r t s.caller) scripts
+starts-counted : (w : ShapeValue) (scripts : List Script) (r t : ℕ) → IsShape w → AreScriptsOf w scripts → active_count r t (starts w scripts) ≡ count_by (λ (s : Script). is_caller r t s.caller) scripts
 starts-counted w scripts r t world are = go (find (is_script_of (record { rank = r; thread = t })) scripts) refl
   where
-    by-thread : (a : ℕ) → waiting_count r t (rank_starts scripts a) ≡ sum_by (λ b. waiting_count r t (thread_starts scripts a b)) (range_with_len 0 4)
+    by-thread : (a : ℕ) → active_count r t (rank_starts scripts a) ≡ sum_by (λ b. active_count r t (thread_starts scripts a b)) (range_with_len 0 4)
     by-thread a = count-flat_map (λ (x : ActiveCaller). is_caller r t x.caller) (thread_starts scripts a) (range_with_len 0 4)
 
-    by-rank : waiting_count r t (starts w scripts) ≡ sum_by (λ a. waiting_count r t (rank_starts scripts a)) (range_with_len 0 w.limits.ranks)
+    by-rank : active_count r t (starts w scripts) ≡ sum_by (λ a. active_count r t (rank_starts scripts a)) (range_with_len 0 w.limits.ranks)
     by-rank = count-flat_map (λ (x : ActiveCaller). is_caller r t x.caller) (rank_starts scripts) (range_with_len 0 w.limits.ranks)
 
-    other-rank : (a : ℕ) → (a ≡ r → ⊥) → waiting_count r t (rank_starts scripts a) ≡ 0
-    other-rank a apart = by-thread a ∙ sum-none (λ b. waiting_count r t (thread_starts scripts a b)) 0 4 (λ b low high. other-start scripts r t a b (λ h. apart h.0))
+    other-rank : (a : ℕ) → (a ≡ r → ⊥) → active_count r t (rank_starts scripts a) ≡ 0
+    other-rank a apart = by-thread a ∙ sum-none (λ b. active_count r t (thread_starts scripts a b)) 0 4 (λ b low high. other-start scripts r t a b (λ h. apart h.0))
 
-    missing : find (is_script_of (record { rank = r; thread = t })) scripts ≡ None → (a b : ℕ) → ((a ≡ r) × (b ≡ t)) ⊎ ((a ≡ r) × (b ≡ t) → ⊥) → waiting_count r t (thread_starts scripts a b) ≡ 0
+    missing : find (is_script_of (record { rank = r; thread = t })) scripts ≡ None → (a b : ℕ) → ((a ≡ r) × (b ≡ t)) ⊎ ((a ≡ r) × (b ≡ t) → ⊥) → active_count r t (thread_starts scripts a b) ≡ 0
     missing none a b (inl h) =
         let here : find (is_script_of (record { rank = a; thread = b })) scripts ≡ None =
         subst (λ (n : ℕ). find (is_script_of (record { rank = a; thread = n })) scripts ≡ None) (sym h.1) (subst (λ (n : ℕ). find (is_script_of (record { rank = n; thread = t })) scripts ≡ None) (sym h.0) none) in
         rw here refl
     missing none a b (inr apart) = other-start scripts r t a b apart
 
-    go : (o : Option Script) → find (is_script_of (record { rank = r; thread = t })) scripts ≡ o → waiting_count r t (starts w scripts) ≡ count_by (λ (s : Script). is_caller r t s.caller) scripts
+    go : (o : Option Script) → find (is_script_of (record { rank = r; thread = t })) scripts ≡ o → active_count r t (starts w scripts) ≡ count_by (λ (s : Script). is_caller r t s.caller) scripts
     go None is =
-        by-rank ∙ sum-none (λ a. waiting_count r t (rank_starts scripts a)) 0 w.limits.ranks (λ a low high.
-        by-thread a ∙ sum-none (λ b. waiting_count r t (thread_starts scripts a b)) 0 4 (λ b l h. missing is a b (decide-both a r b t)))
+        by-rank ∙ sum-none (λ a. active_count r t (rank_starts scripts a)) 0 w.limits.ranks (λ a low high.
+        by-thread a ∙ sum-none (λ b. active_count r t (thread_starts scripts a b)) 0 4 (λ b l h. missing is a b (decide-both a r b t)))
         ∙ sym (none-counted (λ (s : Script). is_caller r t s.caller) scripts is)
     go (Some s) is =
         let caller = script-caller w scripts r t s are is in
@@ -185,8 +185,8 @@ starts-counted w scripts r t world are = go (find (is_script_of (record { rank =
         let few = within.1 in
         let same = caller.2 in
         let same' = caller.3 in
-        by-rank ∙ sum-one (λ a. waiting_count r t (rank_starts scripts a)) 0 w.limits.ranks r (omega arith) (omega arith) other-rank
-        ∙ by-thread r ∙ sum-one (λ b. waiting_count r t (thread_starts scripts r b)) 0 4 t (omega arith) (omega arith) (λ b apart. other-start scripts r t r b (λ h. apart h.1))
+        by-rank ∙ sum-one (λ a. active_count r t (rank_starts scripts a)) 0 w.limits.ranks r (omega arith) (omega arith) other-rank
+        ∙ by-thread r ∙ sum-one (λ b. active_count r t (thread_starts scripts r b)) 0 4 t (omega arith) (omega arith) (λ b apart. other-start scripts r t r b (λ h. apart h.1))
         ∙ start-count scripts r t (scripts-once w scripts r t world are)
 
 -- where a caller that starts comes from

@@ -1,5 +1,5 @@
 -- What the program answers to what was told of an input, to a fault, and to an input that could not be read. (own choice)
-use Rattle.std.specs.Prelude.{◌≡◌, ◌⊎◌, ℕ, List, Option, Result, Ok, Err}
+use Rattle.std.specs.Prelude.{◌≡◌, ◌⊎◌, ℕ, false, List, Option, Result, Ok, Err}
 use Rattle.gaspi_io.specs.Faults.{HasCause}
 use Rattle.gaspi_io.specs.Sink.{with_more, AddsPrefix}
 use Rattle.gaspi_io.specs.declared.read.ReadStop.{ReadStop}
@@ -9,7 +9,7 @@ use Rattle.rank_script.specs.declared.scripts.ScriptFault.{ScriptFault}
 use Rattle.rank_script.specs.declared.scripts.ScriptFault.TheVariants.{At, NoMemory}
 use Rattle.gaspi_run.specs.Command.{fault_text, HasNoJournal}
 use Rattle.gaspi_run.specs.declared.commands.Answer.{Answer}
-use Rattle.gaspi_run.specs.declared.results.CommandResult.{CommandResult}
+use Rattle.gaspi_run.specs.Results.{ResultValue}
 
 -- An output stands here as what its sink held before and after, and how often its writes had failed.
 
@@ -28,8 +28,12 @@ module _ (held held' : Option (List ℕ)) (faults faults' : ℕ) (answer : Answe
   abbrev pub AnswersFault : TextFault → Type 0
   AnswersFault fault = (IsWritten 2 (fault_text fault) ⊎ IsSilent 7) × HasNoJournal answer
 
-  abbrev pub AnswersResult : Result CommandResult ScriptFault → Type 0
-  AnswersResult (Ok told) = IsWritten told.status told.text × (answer.journal ≡ told.journal) × (answer.tally ≡ told.tally)
+  -- a front part of a text was written that is not held, or nothing of it, and then there was no memory
+  abbrev pub IsCutShort : ResultValue → Type 0
+  IsCutShort told = (told.is_held ≡ false) × ((answer.status ≡ 7) × AddsPrefix told.text held held' × (faults' ≡ faults))
+
+  abbrev pub AnswersResult : Result ResultValue ScriptFault → Type 0
+  AnswersResult (Ok told) = (IsWritten told.status told.text × (answer.journal ≡ told.journal) × (answer.tally ≡ told.tally)) ⊎ (IsCutShort told × HasNoJournal answer)
   AnswersResult (Err (At number line)) = AnswersFault (record { number = number; line = line })
   AnswersResult (Err NoMemory) = IsSilent 7 × HasNoJournal answer
 

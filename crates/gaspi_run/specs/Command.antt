@@ -1,5 +1,5 @@
 -- What the program does with its words and its input. (own choice)
-use Rattle.std.specs.Prelude.{◌≡◌, ◌⊎◌, ◌≤◌, ◌<◌, ℕ, ◌+◌, ◌-◌, ◌*◌, ◌%◌, ◌^◌, length, Bool, true, false, List, [], ◌++◌, Option, Some, None, Result, Ok, Err, codes, if◌then◌else◌}
+use Rattle.std.specs.Prelude.{◌≡◌, ◌⊎◌, ◌≤◌, ◌<◌, ℕ, ◌+◌, ◌-◌, ◌*◌, ◌%◌, ◌^◌, length, Bool, true, false, List, [], ◌++◌, Option, Some, None, Result, Ok, Err, codes, not, if◌then◌else◌}
 use Rattle.std.specs.Option.{ForSome}
 use Rattle.std.specs.List.{list_any}
 use Rattle.std.specs.Fmt.{decimal}
@@ -141,6 +141,14 @@ is_plain Check = true
 is_plain (Why place) = true
 is_plain (Bench seed ranks rounds) = false
 
+-- a command whose text is that of its journal, which is not held
+abbrev pub writes_journal : Command → Bool
+writes_journal (Run workers limit brief) = not brief
+writes_journal (Step seed limit brief) = not brief
+writes_journal Check = false
+writes_journal (Why place) = false
+writes_journal (Bench seed ranks rounds) = false
+
 -- What a command tells of an input without a fault, and what it takes the world from.
 
 abbrev pub IsCommandResult : Command → List ℕ → List Event → AnswerTally → ℕ → List ℕ → Type 0
@@ -222,10 +230,21 @@ pub record WriteFailed (command : Command) (before after held held' : Option (Li
   pub still : faults' ≡ faults
   pub status : answer.status ≡ 6
 
--- want of memory, and nothing else: status 7; nothing was written, and at most one byte more was taken than an input may have
-pub record RanOutOfMemory (before after held held' : Option (List ℕ)) (faults faults' sink_faults sink_faults' : ℕ) (answer : Answer) : Type 0 where
+-- of a command that writes a journal a front part of its text was written, which is shorter than the text
+pub record WroteFront (command : Command) (before after held held' : Option (List ℕ)) : Type 0 where
+  pub text : List ℕ
+  pub journal : List Event
+  pub tally : AnswerTally
+  pub would_be : ℕ
+  pub journals : writes_journal command ≡ true
+  pub of : IsResultOf command before after journal tally would_be text
+  pub front : AddsPrefix text held held'
+
+-- want of memory, and nothing else: status 7; nothing was written, or a front part of a journal, and at most one byte more was taken
+-- than an input may have
+pub record RanOutOfMemory (command : Command) (before after held held' : Option (List ℕ)) (faults faults' sink_faults sink_faults' : ℕ) (answer : Answer) : Type 0 where
   pub taken : TakesAtMost (input_limit + 1) before after
-  pub kept : held' ≡ held
+  pub kept : (held' ≡ held) ⊎ WroteFront command before after held held'
   pub still : NothingFailed faults faults' sink_faults sink_faults'
   pub status : answer.status ≡ 7
   pub empty : HasNoJournal answer
@@ -237,7 +256,7 @@ AnswersInput command before after faults faults' held held' sink_faults sink_fau
     ⊎ (IsFaulty command before after held held' faults faults' sink_faults sink_faults' answer
     ⊎ (ReadFailed before after held held' faults faults' sink_faults sink_faults' answer
     ⊎ (WriteFailed command before after held held' faults faults' sink_faults sink_faults' answer
-    ⊎ RanOutOfMemory before after held held' faults faults' sink_faults sink_faults' answer)))
+    ⊎ RanOutOfMemory command before after held held' faults faults' sink_faults sink_faults' answer)))
 
 -- The answer of `bench`, which reads nothing.
 

@@ -8,11 +8,11 @@ use Rattle.call_texts.specs.Lines.{fed_lines}
 use Rattle.gaspi_model.specs.declared.states.Why.{Why}
 use Rattle.gaspi_model.specs.declared.states.Why.TheVariants as whys
 use Rattle.gaspi_texts.specs.JournalText.{journal_text, AreInRange, IsFaultyAt}
-use Rattle.call_journal.specs.Explanations.{IsWhyAnswer}
+use Rattle.call_journal.specs.Explanations.{IsExplanation}
 use Rattle.call_journal.specs.Verdicts.{IsVerdict}
-use Rattle.call_journal.specs.declared.answers.ArrivedWrite.{ArrivedWrite}
-use Rattle.call_journal.specs.declared.answers.WhyAnswer.{WhyAnswer}
-use Rattle.call_journal.specs.declared.answers.WhyAnswer.TheVariants as answers
+use Rattle.call_journal.specs.declared.answers.CoveredWrite.{CoveredWrite}
+use Rattle.call_journal.specs.declared.answers.Explanation.{Explanation}
+use Rattle.call_journal.specs.declared.answers.Explanation.TheVariants as answers
 use Rattle.call_journal.specs.declared.verdicts.Verdict.{Verdict}
 use Rattle.call_journal.specs.declared.verdicts.Verdict.TheVariants.{Legal, Illegal}
 use Rattle.gaspi_model.specs.ContributionCounts.{ContributesOnce}
@@ -47,21 +47,21 @@ verdict_status Legal = 0
 verdict_status (Illegal place why) = 4
 
 -- the line of a write: the place of the call that posted it, its number, and the place of its put
-abbrev pub write_line : ArrivedWrite → List ℕ
+abbrev pub write_line : CoveredWrite → List ℕ
 write_line w = decimal w.post ++ codes " " ++ decimal w.number ++ codes " " ++ decimal w.put ++ codes "\n"
 
-abbrev pub writes_text : ℕ → List ArrivedWrite → List ℕ
+abbrev pub writes_text : ℕ → List CoveredWrite → List ℕ
 writes_text place writes = codes "why " ++ decimal place ++ codes " writes " ++ decimal (length writes) ++ codes "\n" ++ flat_map write_line writes
 
 abbrev pub no_notification_text : ℕ → List ℕ
 no_notification_text place = codes "no notification " ++ decimal place ++ codes "\n"
 
-abbrev pub why_text : ℕ → WhyAnswer → List ℕ
+abbrev pub why_text : ℕ → Explanation → List ℕ
 why_text place (answers.Writes writes) = writes_text place writes
 why_text place answers.NoNotification = no_notification_text place
 why_text place (answers.Illegal at why) = illegal_text at why
 
-abbrev pub why_status : WhyAnswer → ℕ
+abbrev pub why_status : Explanation → ℕ
 why_status (answers.Writes writes) = 0
 why_status answers.NoNotification = 4
 why_status (answers.Illegal at why) = 4
@@ -85,8 +85,8 @@ pub record HasVerdict (world : ShapeValue) (journal : List Event) (status : ℕ)
 
 -- the writes told that a notification stands for
 pub record HasWrites (place : ℕ) (world : ShapeValue) (journal : List Event) (status : ℕ) (text : List ℕ) : Type 0 where
-  pub answer : WhyAnswer
-  pub told : IsWhyAnswer world journal place answer
+  pub answer : Explanation
+  pub told : IsExplanation world journal place answer
   pub status_is : status ≡ why_status answer
   pub text_is : text ≡ why_text place answer
 

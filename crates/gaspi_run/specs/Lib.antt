@@ -6,6 +6,7 @@ pub mod Joins
 pub mod Judging
 pub mod Looks
 pub mod ThreadBodies
+pub mod Results
 pub mod Runs
 pub mod Answering
 pub mod Schedule

@@ -114,13 +114,13 @@ answered limit t place w line (Some (ready.Join args)) = joined_iteration limit 
 answered limit t place w line (Some ready.NotReady) = looked limit t place w line
 
 -- whether its rank has no room for that
-abbrev pub is_full : State → CallerId → ScriptLine → Bool
-is_full s c line = nat_lt s.limits.events (used_room s c.rank + present_need s c line)
+abbrev pub lacks_room : State → CallerId → ScriptLine → Bool
+lacks_room s c line = nat_lt s.limits.events (used_room s c.rank + present_need s c line)
 
 -- the iteration of a caller whose script goes on: where its rank has no room for what the call needs, its run ends
 abbrev pub active_iteration : ℕ → ScheduleState → ℕ → ActiveCaller → ScriptLine → ScheduleState
 active_iteration limit t place w line =
-    if is_full t.state w.caller line
+    if lacks_room t.state w.caller line
     then with_active t place (record { caller = w.caller; cursor = stopped w.cursor halts.Limit; looks = 0 })
     else answered limit t place w line (answer_in t.state w.caller.rank w.caller.thread line.call)
 

@@ -107,17 +107,17 @@ module _ (world : TableValue Start) (scripts : List Script) (limit : ℕ) where
     pub part : HasRunThreadBody place task.body task.pass.known
 
 -- how the caller of a part ended, where it is a caller's
-abbrev pub finished_with : CallerId → Option RunOutcome → List EndedCaller
-finished_with caller None = []
-finished_with caller (Some outcome) = record { caller = caller; outcome = outcome } ∷ []
+abbrev pub ended_with : CallerId → Option RunOutcome → List EndedCaller
+ended_with caller None = []
+ended_with caller (Some outcome) = record { caller = caller; outcome = outcome } ∷ []
 
-abbrev pub finished_of : ThreadBody → List EndedCaller
-finished_of (Caller body) = finished_with body.script.now.caller body.outcome
-finished_of (Worker turns) = []
+abbrev pub ended_caller : ThreadBody → List EndedCaller
+ended_caller (Caller body) = ended_with body.script.now.caller body.outcome
+ended_caller (Worker turns) = []
 
 -- how the callers ended, in the order of the tasks
-abbrev pub finished_in : List (Task ThreadBody) → List EndedCaller
-finished_in tasks = flat_map (λ (task : Task ThreadBody). finished_of task.body) tasks
+abbrev pub ended_callers : List (Task ThreadBody) → List EndedCaller
+ended_callers tasks = flat_map (λ (task : Task ThreadBody). ended_caller task.body) tasks
 
 -- a run did not end for want of memory
 abbrev pub is_not_out_of_memory : RunOutcome → Bool
@@ -139,4 +139,4 @@ pub record HaveRun (world : TableValue Start) (scripts : List Script) (limit : �
   pub told : All (λ (t : Task ThreadBody). IsDone t.body) tasks
   pub count : length tasks ≡ world.passes
   pub passes_are : passes ≡ map (λ t. t.pass) tasks
-  pub finished_are : finished ≡ finished_in tasks
+  pub finished_are : finished ≡ ended_callers tasks

@@ -9,7 +9,8 @@ ghost use Rattle.command_line.specs.declared.words.Command.TheVariants as comman
 ghost use Rattle.gaspi_run.specs.Command.{fault_text, IsWithin, is_plain, HasNoJournal, Refuses, AnswersBench, Answers};
 ghost use Rattle.gaspi_run.specs.Answering.{AnswersFault, AnswersResult, AnswersStop};
 
-use crate::results::{CommandResult, bench_result, command_result, run_result};
+use crate::command_results::CommandResult;
+use crate::results::{bench_result, command_result, run_result};
 use command_line::{Command, read_words};
 use gaspi_io::{Failed, ReadStop, Sink, Source, read_all, write_all};
 use gaspi_texts::{Journal, write_number};
@@ -96,14 +97,17 @@ fn answer_result<K: Sink>(
     ensures { AnswersResult (K.held sink.old) (K.held sink.new) (K.faults sink.old) (K.faults sink.new) result told }
 {
     match told {
-        Ok(told) => {
-            let status = status_of(sink, told.text.as_slice(), told.status);
-            Answer {
-                status,
-                journal: told.journal,
-                tally: told.tally,
+        Ok(told) => match told.write(alloc, sink) {
+            Ok(status) => {
+                let (journal, tally) = told.into_history();
+                Answer {
+                    status,
+                    journal,
+                    tally,
+                }
             }
-        }
+            Err(NoMemory) => answer_without_journal(alloc, 7),
+        },
         Err(ScriptFault::At { number, line }) => answer_fault(alloc, sink, number, line),
         Err(ScriptFault::NoMemory) => answer_without_journal(alloc, 7),
     }

@@ -1,14 +1,14 @@
 //! What is told of a journal that was read: whether it is legal, or which writes a notification of it stands for.
 
-ghost use Rattle.std.specs.Prelude.{◌≡◌, ◌<◌, ◌≤◌, ◌+◌, ◌++◌, ◌^◌, ℕ, length, IfOk, OnOk, IsErrOf, Err, None};
+ghost use Rattle.std.specs.Prelude.{◌≡◌, ◌<◌, ◌≤◌, ◌+◌, ◌++◌, ◌^◌, ℕ, length, true, IfOk, OnOk, IsErrOf, Err, None};
 ghost use Rattle.std.specs.List.{flat_map};
 ghost use Rattle.rank_script.specs.WorldText.{checked_world};
 ghost use Rattle.rank_script.specs.declared.scripts.ScriptFault.TheVariants as script_faults;
 ghost use Rattle.call_texts.specs.Lines.{fed_lines};
 ghost use Rattle.gaspi_run.specs.Judging.{AnswersQuestion, HasVerdict, HasWrites, IsChecked, IsNoJournal, IsRead, illegal_text, verdict_status, verdict_text, why_status, why_text, why_word, write_line, writes_text, no_notification_text};
 
-use crate::results::CommandResult;
-use call_journal::{ArrivedWrite, Verdict, WhyAnswer, check, why};
+use crate::command_results::CommandResult;
+use call_journal::{CoveredWrite, Explanation, Verdict, check, why};
 use call_texts::first_line;
 use gaspi_model::Why;
 use gaspi_texts::{Journal, JournalFault, read, write_number};
@@ -81,38 +81,28 @@ fn verdict_status(verdict: Verdict) -> u8
 /// Tells that an input has no journal, and at which of its lines.
 fn no_journal_result(alloc: Global, line: u64) -> Result<CommandResult, NoMemory>
     ensures none { IfOk result (λ told. IsNoJournal line told.journal told.status told.text) }
-    ensures plain { IfOk result (λ told. told.tally ≡ None) }
+    ensures plain { IfOk result (λ told. (told.tally ≡ None) × (told.is_held ≡ true)) }
 {
     let mut text = Bytes::new(alloc);
     text.append(b"not a journal ")?;
     write_number(&mut text, line)?;
     text.append(b"\n")?;
-    Ok(CommandResult {
-        journal: Sequence::new(alloc),
-        tally: None,
-        status: 4,
-        text,
-    })
+    Ok(CommandResult::with_text(Sequence::new(alloc), None, 4, text))
 }
 
 /// Tells the verdict on a journal.
 fn verdict_result(alloc: Global, shape: &Shape, journal: Journal) -> Result<CommandResult, NoMemory>
     ensures verdict { IfOk result (λ told. HasVerdict shape.now told.journal told.status told.text) }
     ensures journal { IfOk result (λ told. told.journal ≡ journal) }
-    ensures plain { IfOk result (λ told. told.tally ≡ None) }
+    ensures plain { IfOk result (λ told. (told.tally ≡ None) × (told.is_held ≡ true)) }
 {
     let verdict = check(alloc, shape, &journal)?;
     let text = verdict_text(alloc, journal.len() as u64, verdict)?;
-    Ok(CommandResult {
-        journal,
-        tally: None,
-        status: verdict_status(verdict),
-        text,
-    })
+    Ok(CommandResult::with_text(journal, None, verdict_status(verdict), text))
 }
 
 /// Appends the line of a write: the places of the call that posted it and of its put, and its number between them.
-fn append_write(text: &mut Bytes, write: &ArrivedWrite) -> Result<(), NoMemory>
+fn append_write(text: &mut Bytes, write: &CoveredWrite) -> Result<(), NoMemory>
     ensures { OnOk result (text.new ≡ text.old ++ write_line write.now) }
 {
     write_number(text, write.post)?;
@@ -124,7 +114,7 @@ fn append_write(text: &mut Bytes, write: &ArrivedWrite) -> Result<(), NoMemory>
 }
 
 /// Appends the lines of writes.
-fn append_writes(text: &mut Bytes, writes: &[ArrivedWrite]) -> Result<(), NoMemory>
+fn append_writes(text: &mut Bytes, writes: &[CoveredWrite]) -> Result<(), NoMemory>
     ensures { OnOk result (text.new ≡ text.old ++ flat_map write_line writes.now) }
 {
     for write in writes {
@@ -134,7 +124,7 @@ fn append_writes(text: &mut Bytes, writes: &[ArrivedWrite]) -> Result<(), NoMemo
 }
 
 /// The text of the writes that the notification put at a place stands for.
-fn writes_text(alloc: Global, place: u64, writes: &[ArrivedWrite]) -> Result<Bytes, NoMemory>
+fn writes_text(alloc: Global, place: u64, writes: &[CoveredWrite]) -> Result<Bytes, NoMemory>
     ensures { IfOk result (λ text. text ≡ writes_text place writes.now) }
 {
     let mut text = Bytes::new(alloc);
@@ -159,23 +149,23 @@ fn no_notification_text(alloc: Global, place: u64) -> Result<Bytes, NoMemory>
 }
 
 /// The text of what is known of the notification that was put at a place.
-fn why_text(alloc: Global, place: u64, answer: &WhyAnswer) -> Result<Bytes, NoMemory>
+fn why_text(alloc: Global, place: u64, answer: &Explanation) -> Result<Bytes, NoMemory>
     ensures { IfOk result (λ text. text ≡ why_text place answer.now) }
 {
     match answer {
-        WhyAnswer::Writes(writes) => writes_text(alloc, place, writes.as_slice()),
-        WhyAnswer::NoNotification => no_notification_text(alloc, place),
-        WhyAnswer::Illegal { place, why } => illegal_text(alloc, *place, *why),
+        Explanation::Writes(writes) => writes_text(alloc, place, writes.as_slice()),
+        Explanation::NoNotification => no_notification_text(alloc, place),
+        Explanation::Illegal { place, why } => illegal_text(alloc, *place, *why),
     }
 }
 
 /// The status of what is known of a notification.
-fn why_status(answer: &WhyAnswer) -> u8
+fn why_status(answer: &Explanation) -> u8
     ensures { result ≡ why_status answer.now }
 {
     match answer {
-        WhyAnswer::Writes(_) => 0,
-        WhyAnswer::NoNotification | WhyAnswer::Illegal { .. } => 4,
+        Explanation::Writes(_) => 0,
+        Explanation::NoNotification | Explanation::Illegal { .. } => 4,
     }
 }
 
@@ -188,16 +178,11 @@ fn writes_result(
 ) -> Result<CommandResult, NoMemory>
     ensures writes { IfOk result (λ told. HasWrites place shape.now told.journal told.status told.text) }
     ensures journal { IfOk result (λ told. told.journal ≡ journal) }
-    ensures plain { IfOk result (λ told. told.tally ≡ None) }
+    ensures plain { IfOk result (λ told. (told.tally ≡ None) × (told.is_held ≡ true)) }
 {
     let answer = why(alloc, shape, &journal, place)?;
     let text = why_text(alloc, place, &answer)?;
-    Ok(CommandResult {
-        journal,
-        tally: None,
-        status: why_status(&answer),
-        text,
-    })
+    Ok(CommandResult::with_text(journal, None, why_status(&answer), text))
 }
 
 /// Tells of a journal what is asked.
@@ -209,7 +194,7 @@ fn question_result(
 ) -> Result<CommandResult, NoMemory>
     ensures answer { IfOk result (λ told. AnswersQuestion question shape.now told.journal told.status told.text) }
     ensures journal { IfOk result (λ told. told.journal ≡ journal) }
-    ensures plain { IfOk result (λ told. told.tally ≡ None) }
+    ensures plain { IfOk result (λ told. (told.tally ≡ None) × (told.is_held ≡ true)) }
 {
     match question {
         Question::Verdict => verdict_result(alloc, shape, journal),
@@ -242,7 +227,7 @@ fn journal_result(
 ) -> Result<CommandResult, NoMemory>
     requires { (1 ≤ number) × (number + length text.now < 2 ^ 63) }
     ensures read { IfOk result (λ told. IsRead question shape.now text.now number told.journal told.status told.text) }
-    ensures plain { IfOk result (λ told. told.tally ≡ None) }
+    ensures plain { IfOk result (λ told. (told.tally ≡ None) × (told.is_held ≡ true)) }
 {
     match read(alloc, text) {
         Ok(journal) => question_result(alloc, shape, journal, question),
@@ -258,7 +243,7 @@ pub fn judge_input(
     question: Question,
 ) -> Result<CommandResult, ScriptFault>
     ensures told { IfOk result (λ told. IsChecked question input.now told.journal told.status told.text) }
-    ensures plain { IfOk result (λ told. told.tally ≡ None) }
+    ensures plain { IfOk result (λ told. (told.tally ≡ None) × (told.is_held ≡ true)) }
     ensures fault { (number line : ℕ) → IsErrOf result (script_faults.At number line)
         → checked_world input.now ≡ Err (record { number = number; line = line }) }
 {

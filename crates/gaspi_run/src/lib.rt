@@ -5,7 +5,9 @@
 #![tactic(auto)]
 
 mod bodies;
+mod command_results;
 mod commands;
+mod journal_output;
 mod judging;
 mod looks;
 mod moves;

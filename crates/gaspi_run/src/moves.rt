@@ -9,7 +9,7 @@ ghost use Rattle.gaspi_model.specs.Calls.{recorded_reply};
 ghost use Rattle.gaspi_model.specs.Step.{step, answer_in, is_active, lacks_room_in, transfer_event};
 ghost use Rattle.gaspi_model.specs.Transfers.{transfers};
 ghost use Rattle.gaspi_run.specs.Generator.{picked};
-ghost use Rattle.gaspi_run.specs.Schedule.{made, looks_of, recorded, looked, join_args, joined, joined_iteration, is_full, active_iteration, end_iteration, caller_iteration, candidate_iteration, candidates, iterate, AreActive, IsCallerAt, MayBeRecorded};
+ghost use Rattle.gaspi_run.specs.Schedule.{made, looks_of, recorded, looked, join_args, joined, joined_iteration, lacks_room, active_iteration, end_iteration, caller_iteration, candidate_iteration, candidates, iterate, AreActive, IsCallerAt, MayBeRecorded};
 ghost use Rattle.plain_machine.specs.Looking.{IsEvaluationIn};
 ghost use Rattle.rank_script.specs.Runs.{advanced};
 ghost use Rattle.rank_script.specs.declared.scripts.ScriptLine.{ScriptLine};
@@ -23,12 +23,12 @@ use rank_script::{RunOutcome, RunStop, drawn};
 use std::alloc::Global;
 
 /// The candidate that a draw picks, of so many callers that wait and so many transfers.
-fn picked(x: u32, waiting: usize, transfers: usize) -> usize
-    requires { 0 < waiting + transfers }
-    ensures { result ≡ picked x (waiting + transfers) }
+fn picked(x: u32, active: usize, transfers: usize) -> usize
+    requires { 0 < active + transfers }
+    ensures { result ≡ picked x (active + transfers) }
 {
     let draw = (x / 65536) as usize;
-    match waiting.checked_add(transfers) {
+    match active.checked_add(transfers) {
         Some(count) => draw % count,
         // There are more candidates than a draw can be.
         None => draw,
@@ -59,83 +59,83 @@ fn make(schedule: &mut ScheduleState, alloc: Global, event: Event) -> Result<(),
     }
 }
 
-/// Brings the run of a waiting caller on by what a look at its present call found.
-fn bring_on(waiting: &mut ActiveCaller<'_>, ready: &Ready)
-    ensures { waiting.new ≡ record { caller = waiting.old.caller; cursor = advanced waiting.old.cursor (recorded_reply ready.now); looks = 0 } }
+/// Brings the run of an active caller on by what a look at its present call found.
+fn bring_on(active: &mut ActiveCaller<'_>, ready: &Ready)
+    ensures { active.new ≡ record { caller = active.old.caller; cursor = advanced active.old.cursor (recorded_reply ready.now); looks = 0 } }
 {
     match ready {
-        Ready::Reply(reply) => waiting.cursor.advance(reply),
-        Ready::Join(_) | Ready::NotReady => waiting.cursor.advance(&Reply::Timeout),
+        Ready::Reply(reply) => active.cursor.advance(reply),
+        Ready::Join(_) | Ready::NotReady => active.cursor.advance(&Reply::Timeout),
     }
-    waiting.looks = 0;
+    active.looks = 0;
 }
 
-/// Records a look at the present call of a waiting caller, which is a step.
+/// Records a look at the present call of an active caller, which is a step.
 fn record_call(
     schedule: &mut ScheduleState,
     alloc: Global,
-    place: usize,
+    index: usize,
     invocation: &Invocation<'_>,
     look: Evaluation,
 ) -> Result<(), NoMemory>
-    requires place { place < length schedule.old.active }
-    requires caller { IsCallerAt schedule.old place invocation.now.caller }
+    requires index { index < length schedule.old.active }
+    requires caller { IsCallerAt schedule.old index invocation.now.caller }
     requires active { is_active schedule.old.state invocation.now.caller.rank invocation.now.caller.thread ≡ true }
     requires look { IsEvaluationIn look schedule.old.state invocation.now.caller invocation.now.call.now }
     requires unjoined { is_joining look.ready ≡ false }
     requires steps { IsOk (step schedule.old.state (Called invocation.now.caller invocation.now.call.now (recorded_reply look.ready))) }
-    ensures { (w : ActiveCaller) → slice_get schedule.old.active place ≡ Some w → OnOk result (schedule.new ≡ recorded schedule.old place w invocation.now.call.now (recorded_reply look.ready)) }
+    ensures { (w : ActiveCaller) → slice_get schedule.old.active index ≡ Some w → OnOk result (schedule.new ≡ recorded schedule.old index w invocation.now.call.now (recorded_reply look.ready)) }
 {
     let call = invocation.call.copy(alloc)?;
-    bring_on(schedule.active.at_mut(place), &look.ready);
+    bring_on(schedule.active.at_mut(index), &look.ready);
     let reply = schedule.state.record(alloc, invocation, look)?;
     let event = Event::Called(invocation.caller, call, reply);
     schedule.journal.push(event)?;
     Ok(())
 }
 
-/// The end of a waiting caller whose run is over.
+/// The end of an active caller whose run is over.
 fn end_caller(
     schedule: &mut ScheduleState,
     alloc: Global,
-    place: usize,
+    index: usize,
     outcome: RunOutcome,
 ) -> Result<(), NoMemory>
-    requires { place < length schedule.old.active }
-    ensures { (w : ActiveCaller) → slice_get schedule.old.active place ≡ Some w → OnOk result (schedule.new ≡ end_iteration schedule.old place w outcome) }
+    requires { index < length schedule.old.active }
+    ensures { (w : ActiveCaller) → slice_get schedule.old.active index ≡ Some w → OnOk result (schedule.new ≡ end_iteration schedule.old index w outcome) }
 {
-    let end = Event::Called(schedule.active.at(place).caller, Call::End, Reply::Done);
-    let caller = schedule.active.at(place).caller;
-    drop(schedule.active.remove(place));
+    let end = Event::Called(schedule.active.at(index).caller, Call::End, Reply::Done);
+    let caller = schedule.active.at(index).caller;
+    drop(schedule.active.remove(index));
     schedule.ended.push(EndedCaller { caller, outcome })?;
     make(schedule, alloc, end)
 }
 
-/// A look at the present call of a waiting caller that is not ready: at the last one a timeout is recorded, which is a step.
+/// A look at the present call of an active caller that is not ready: at the last one a timeout is recorded, which is a step.
 fn look_again(
     schedule: &mut ScheduleState,
     alloc: Global,
     limit: u32,
-    place: usize,
+    index: usize,
     invocation: &Invocation<'_>,
     timeout: Timeout,
     look: Evaluation,
 ) -> Result<(), NoMemory>
-    requires place { place < length schedule.old.active }
-    requires caller { IsCallerAt schedule.old place invocation.now.caller }
+    requires index { index < length schedule.old.active }
+    requires caller { IsCallerAt schedule.old index invocation.now.caller }
     requires active { is_active schedule.old.state invocation.now.caller.rank invocation.now.caller.thread ≡ true }
     requires look { IsEvaluationIn look schedule.old.state invocation.now.caller invocation.now.call.now }
     requires not_ready { look.ready ≡ NotReady }
     requires steps { IsOk (step schedule.old.state (Called invocation.now.caller invocation.now.call.now (recorded_reply look.ready))) }
-    ensures { (w : ActiveCaller) (line : ScriptLine) → slice_get schedule.old.active place ≡ Some w → line.call ≡ invocation.now.call.now → line.timeout ≡ timeout
-        → OnOk result (schedule.new ≡ looked limit schedule.old place w line) }
+    ensures { (w : ActiveCaller) (line : ScriptLine) → slice_get schedule.old.active index ≡ Some w → line.call ≡ invocation.now.call.now → line.timeout ≡ timeout
+        → OnOk result (schedule.new ≡ looked limit schedule.old index w line) }
 {
-    let looks = schedule.active.at(place).looks;
+    let looks = schedule.active.at(index).looks;
     let most = looks_of(limit, timeout);
     if u64::from(most) <= u64::from(looks) + 1 {
-        return record_call(schedule, alloc, place, invocation, look);
+        return record_call(schedule, alloc, index, invocation, look);
     }
-    schedule.active.at_mut(place).looks = looks + 1;
+    schedule.active.at_mut(index).looks = looks + 1;
     Ok(())
 }
 
@@ -154,7 +154,7 @@ fn join_args(look: Evaluation) -> Option<Args>
     }
 }
 
-/// The join of the present call of a waiting caller to its group, where a look found that it may; it is a step. (GASPI: collectives)
+/// The join of the present call of an active caller to its group, where a look found that it may; it is a step. (GASPI: collectives)
 fn join_group(
     schedule: &mut ScheduleState,
     alloc: Global,
@@ -167,7 +167,7 @@ fn join_group(
     ensures joined { (w : ActiveCaller) (line : ScriptLine) → w.caller ≡ invocation.now.caller → line.call ≡ invocation.now.call.now → OnOk result (schedule.new ≡ joined schedule.old w line args) }
     ensures stepped { OnOk result (step schedule.old.state (join_event invocation.now.caller invocation.now.call.now args) ≡ Ok schedule.new.state) }
     ensures active { OnOk result (is_active schedule.new.state invocation.now.caller.rank invocation.now.caller.thread ≡ true) }
-    ensures waiting { schedule.new.active ≡ schedule.old.active }
+    ensures callers { schedule.new.active ≡ schedule.old.active }
 {
     soundness();
     let event = schedule.state.join(alloc, invocation, args)?;
@@ -175,113 +175,113 @@ fn join_group(
     Ok(())
 }
 
-/// The look at the present call of a waiting caller goes on, which has joined its group: what it finds is no join, and may be recorded.
+/// The look at the present call of an active caller goes on, which has joined its group: what it finds is no join, and may be recorded.
 fn look_joined(
     schedule: &mut ScheduleState,
     alloc: Global,
     limit: u32,
-    place: usize,
+    index: usize,
     invocation: &Invocation<'_>,
     timeout: Timeout,
 ) -> Result<(), NoMemory>
-    requires place { place < length schedule.old.active }
-    requires caller { IsCallerAt schedule.old place invocation.now.caller }
+    requires index { index < length schedule.old.active }
+    requires caller { IsCallerAt schedule.old index invocation.now.caller }
     requires active { is_active schedule.old.state invocation.now.caller.rank invocation.now.caller.thread ≡ true }
     requires recordable { MayBeRecorded schedule.old.state invocation.now.caller invocation.now.call.now }
-    ensures { (w : ActiveCaller) (line : ScriptLine) → slice_get schedule.old.active place ≡ Some w → line.call ≡ invocation.now.call.now → line.timeout ≡ timeout
-        → OnOk result (schedule.new ≡ joined_iteration limit schedule.old place w line) }
+    ensures { (w : ActiveCaller) (line : ScriptLine) → slice_get schedule.old.active index ≡ Some w → line.call ≡ invocation.now.call.now → line.timeout ≡ timeout
+        → OnOk result (schedule.new ≡ joined_iteration limit schedule.old index w line) }
 {
     let found = schedule.state.look(alloc, invocation)?;
     match found.ready {
-        Ready::Reply(_) => record_call(schedule, alloc, place, invocation, found),
+        Ready::Reply(_) => record_call(schedule, alloc, index, invocation, found),
         Ready::Join(_) => Ok(()),
-        Ready::NotReady => look_again(schedule, alloc, limit, place, invocation, timeout, found),
+        Ready::NotReady => look_again(schedule, alloc, limit, index, invocation, timeout, found),
     }
 }
 
-/// Whether the rank of a waiting caller has no room for what its present call needs.
-fn is_full(schedule: &ScheduleState, invocation: &Invocation<'_>) -> bool
+/// Whether the rank of an active caller has no room for what its present call needs.
+fn lacks_room(schedule: &ScheduleState, invocation: &Invocation<'_>) -> bool
     requires active { is_active schedule.now.state invocation.now.caller.rank invocation.now.caller.thread ≡ true }
     ensures room { result ≡ lacks_room_in schedule.now.state invocation.now.caller invocation.now.call.now }
-    ensures full { (w : ActiveCaller) (line : ScriptLine) → w.caller ≡ invocation.now.caller → line.call ≡ invocation.now.call.now → result ≡ is_full schedule.now.state w.caller line }
+    ensures full { (w : ActiveCaller) (line : ScriptLine) → w.caller ≡ invocation.now.caller → line.call ≡ invocation.now.call.now → result ≡ lacks_room schedule.now.state w.caller line }
 {
-    schedule.state.is_full(invocation)
+    schedule.state.lacks_room(invocation)
 }
 
-/// The iteration of a waiting caller whose script goes on.
+/// The iteration of an active caller whose script goes on.
 fn go_on(
     schedule: &mut ScheduleState,
     alloc: Global,
     limit: u32,
-    place: usize,
+    index: usize,
     call: &Call,
     timeout: Timeout,
 ) -> Result<(), NoMemory>
-    requires place { place < length schedule.old.active }
+    requires index { index < length schedule.old.active }
     requires active { AreActive schedule.old }
-    ensures { (w : ActiveCaller) (line : ScriptLine) → slice_get schedule.old.active place ≡ Some w → line.call ≡ call.now → line.timeout ≡ timeout
-        → OnOk result (schedule.new ≡ active_iteration limit schedule.old place w line) }
+    ensures { (w : ActiveCaller) (line : ScriptLine) → slice_get schedule.old.active index ≡ Some w → line.call ≡ call.now → line.timeout ≡ timeout
+        → OnOk result (schedule.new ≡ active_iteration limit schedule.old index w line) }
 {
-    let caller = schedule.active.at(place).caller;
+    let caller = schedule.active.at(index).caller;
     let invocation = Invocation::new(caller, call);
-    go_on_with(schedule, alloc, limit, place, &invocation, timeout)
+    go_on_with(schedule, alloc, limit, index, &invocation, timeout)
 }
 
-/// The iteration of a waiting caller whose script goes on, with its present call.
+/// The iteration of an active caller whose script goes on, with its present call.
 fn go_on_with(
     schedule: &mut ScheduleState,
     alloc: Global,
     limit: u32,
-    place: usize,
+    index: usize,
     invocation: &Invocation<'_>,
     timeout: Timeout,
 ) -> Result<(), NoMemory>
-    requires place { place < length schedule.old.active }
-    requires caller { IsCallerAt schedule.old place invocation.now.caller }
+    requires index { index < length schedule.old.active }
+    requires caller { IsCallerAt schedule.old index invocation.now.caller }
     requires active { is_active schedule.old.state invocation.now.caller.rank invocation.now.caller.thread ≡ true }
-    ensures { (w : ActiveCaller) (line : ScriptLine) → slice_get schedule.old.active place ≡ Some w → line.call ≡ invocation.now.call.now → line.timeout ≡ timeout
-        → OnOk result (schedule.new ≡ active_iteration limit schedule.old place w line) }
+    ensures { (w : ActiveCaller) (line : ScriptLine) → slice_get schedule.old.active index ≡ Some w → line.call ≡ invocation.now.call.now → line.timeout ≡ timeout
+        → OnOk result (schedule.new ≡ active_iteration limit schedule.old index w line) }
 {
     schedule.state.limits();
-    if is_full(schedule, invocation) {
-        let waiting = schedule.active.at_mut(place);
-        waiting.cursor.stop(RunStop::Limit);
-        waiting.looks = 0;
+    if lacks_room(schedule, invocation) {
+        let active = schedule.active.at_mut(index);
+        active.cursor.stop(RunStop::Limit);
+        active.looks = 0;
         return Ok(());
     }
     let look = schedule.state.look(alloc, invocation)?;
     match look.ready {
-        Ready::NotReady => look_again(schedule, alloc, limit, place, invocation, timeout, look),
-        Ready::Reply(_) => record_call(schedule, alloc, place, invocation, look),
+        Ready::NotReady => look_again(schedule, alloc, limit, index, invocation, timeout, look),
+        Ready::Reply(_) => record_call(schedule, alloc, index, invocation, look),
         Ready::Join(_) => match join_args(look) {
             Some(args) => {
                 join_group(schedule, alloc, invocation, args)?;
-                look_joined(schedule, alloc, limit, place, invocation, timeout)
+                look_joined(schedule, alloc, limit, index, invocation, timeout)
             }
             None => Ok(()),
         },
     }
 }
 
-/// The iteration of a waiting caller.
+/// The iteration of an active caller.
 fn caller_iteration(
     schedule: &mut ScheduleState,
     alloc: Global,
     limit: u32,
-    place: usize,
+    index: usize,
 ) -> Result<(), NoMemory>
-    requires place { place < length schedule.old.active }
+    requires index { index < length schedule.old.active }
     requires active { AreActive schedule.old }
-    ensures { (w : ActiveCaller) → slice_get schedule.old.active place ≡ Some w → OnOk result (schedule.new ≡ caller_iteration limit schedule.old place w) }
+    ensures { (w : ActiveCaller) → slice_get schedule.old.active index ≡ Some w → OnOk result (schedule.new ≡ caller_iteration limit schedule.old index w) }
 {
-    let cursor = &schedule.active.at(place).cursor;
+    let cursor = &schedule.active.at(index).cursor;
     if let Some(outcome) = cursor.outcome() {
-        return end_caller(schedule, alloc, place, outcome);
+        return end_caller(schedule, alloc, index, outcome);
     }
     match cursor.present() {
         Some((call, timeout)) => {
             let call = call.copy(alloc)?;
-            go_on(schedule, alloc, limit, place, &call, timeout)
+            go_on(schedule, alloc, limit, index, &call, timeout)
         }
         None => Ok(()),
     }
@@ -315,11 +315,11 @@ fn candidate_iteration(
     requires active { AreActive schedule.old }
     ensures { OnOk result (schedule.new ≡ candidate_iteration limit schedule.old candidate) }
 {
-    let waiting = schedule.active.len();
-    if candidate < waiting {
+    let active = schedule.active.len();
+    if candidate < active {
         return caller_iteration(schedule, alloc, limit, candidate);
     }
-    match schedule.state.transfer_at(candidate - waiting) {
+    match schedule.state.transfer_at(candidate - active) {
         Some(transfer) => transfer_iteration(schedule, alloc, &transfer),
         None => Ok(()),
     }
@@ -331,13 +331,13 @@ pub fn iterate(schedule: &mut ScheduleState, alloc: Global, limit: u32) -> Resul
     ensures over { result ≡ Ok false → (candidates schedule.old ≡ 0) × (schedule.new ≡ schedule.old) }
     ensures iterated { result ≡ Ok true → (0 < candidates schedule.old) × (schedule.new ≡ iterate limit schedule.old) }
 {
-    let waiting = schedule.active.len();
+    let active = schedule.active.len();
     let transfers = schedule.state.transfer_count();
-    if waiting == 0 && transfers == 0 {
+    if active == 0 && transfers == 0 {
         return Ok(false);
     }
     schedule.x = drawn(schedule.x);
-    let candidate = picked(schedule.x, waiting, transfers);
+    let candidate = picked(schedule.x, active, transfers);
     candidate_iteration(schedule, alloc, limit, candidate)?;
     Ok(true)
 }

@@ -1,14 +1,14 @@
 //! What the commands tell of their inputs.
 
-ghost use Rattle.std.specs.Prelude.{◌≡◌, ◌≤◌, ℕ, IfOk, IsErrOf, Err, None, true};
-ghost use Rattle.gaspi_texts.specs.JournalText.{HaveOwnValues};
+ghost use Rattle.std.specs.Prelude.{◌≡◌, ◌≤◌, ℕ, IfOk, IsErrOf, Err, None, true, false};
 ghost use Rattle.rank_script.specs.WorldText.{world_text};
 ghost use Rattle.rank_script.specs.declared.scripts.ScriptFault.TheVariants as script_faults;
 ghost use Rattle.command_line.specs.declared.words.Command.TheVariants as commands;
 ghost use Rattle.gaspi_model.specs.Step.{is_legal};
 ghost use Rattle.call_journal.specs.Numbers.{AreNumbers};
-ghost use Rattle.gaspi_run.specs.Command.{has_failed_or_stuck, is_any_limit, run_status, run_text, numbers_text, IsWithin, is_plain, HasRunOnThreads, HasBenched, IsStepped, IsCommandResult, world_read};
+ghost use Rattle.gaspi_run.specs.Command.{has_failed_or_stuck, is_any_limit, run_status, run_text, numbers_text, IsWithin, is_plain, writes_journal, HasRunOnThreads, HasBenched, IsStepped, IsCommandResult, world_read};
 
+use crate::command_results::CommandResult;
 use crate::judging::{Question, judge_input};
 use crate::schedule_states::EndedCaller;
 use crate::scheduling::schedule;
@@ -19,23 +19,13 @@ use call_journal::{
 };
 use command_line::Command;
 use gaspi_model::StepFault;
-use gaspi_texts::{Journal, write, write_number};
+use gaspi_texts::{Journal, write_number};
 use gaspi_types::{Bytes, NoMemory, Shape};
 use gaspi_world::Tally;
 use rank_script::{RunOutcome, ScriptFault, Scripts, bench_world, read_world};
 use std::alloc::Global;
 use std::sync::Wait;
 use std::thread::Threads;
-
-/// What a command tells of its input: the history, what is known of the closed world where threads ran it, the status, and the
-/// text.
-#[derive(Drop)]
-pub struct CommandResult {
-    pub journal: Journal,
-    pub tally: Option<Tally>,
-    pub status: u8,
-    pub text: Bytes,
-}
 
 /// Whether a caller has failed or is stuck.
 fn is_any_wrong(finished: &[EndedCaller]) -> bool
@@ -71,24 +61,24 @@ fn run_status(finished: &[EndedCaller]) -> u8
     }
 }
 
-/// The text of a run: what each caller was told, or the journal.
-fn run_text(
+/// What is told of a run: what each caller was told, or the journal. Only the former is held.
+fn told_of_run(
     alloc: Global,
     brief: bool,
     shape: &Shape,
     scripts: &Scripts,
-    journal: &Journal,
-) -> Result<Bytes, NoMemory>
-    requires { HaveOwnValues journal.now }
-    ensures { IfOk result (λ text. text ≡ run_text brief shape.now scripts.now journal.now) }
+    journal: Journal,
+    tally: Option<Tally>,
+    status: u8,
+) -> Result<CommandResult, NoMemory>
+    ensures { IfOk result (λ told. told ≡ record { journal = journal; tally = tally; status = status; text = run_text brief shape.now scripts.now journal; is_held = brief }) }
 {
-    let mut text = Bytes::new(alloc);
-    if brief {
-        write_transcripts(&mut text, shape, scripts, journal)?;
-    } else {
-        write(&mut text, journal)?;
+    if !brief {
+        return Ok(CommandResult::with_journal_text(journal, tally, status));
     }
-    Ok(text)
+    let mut text = Bytes::new(alloc);
+    write_transcripts(&mut text, shape, scripts, &journal)?;
+    Ok(CommandResult::with_text(journal, tally, status, text))
 }
 
 /// Runs a world text on threads, with so many workers and that many looks for a call that blocks.
@@ -103,6 +93,7 @@ pub fn run_result<R: Threads + Wait + Sync>(
     requires limit { 1 ≤ limit }
     requires workers { (1 ≤ workers) × (workers ≤ 4) }
     ensures told { IfOk result (λ told. HasRunOnThreads workers limit brief input.now told.journal told.tally told.status told.text) }
+    ensures held { IfOk result (λ told. told.is_held ≡ false → writes_journal (commands.Run workers limit brief) ≡ true) }
     ensures fault { (number line : ℕ) → IsErrOf result (script_faults.At number line)
         → world_text input.now ≡ Err (record { number = number; line = line }) }
 {
@@ -112,14 +103,9 @@ pub fn run_result<R: Threads + Wait + Sync>(
         tally,
         outcomes,
     } = run_on_threads(rt, alloc, &shape, &scripts, workers, limit)?;
-    let text = run_text(alloc, brief, &shape, &scripts, &journal)?;
     let status = run_status(outcomes.as_slice());
-    Ok(CommandResult {
-        journal,
-        tally: Some(tally),
-        status,
-        text,
-    })
+    let told = told_of_run(alloc, brief, &shape, &scripts, journal, Some(tally), status)?;
+    Ok(told)
 }
 
 /// The text of the numbers of a journal.
@@ -161,7 +147,8 @@ pub fn bench_result<R: Threads + Wait + Sync>(
     rounds: u32,
 ) -> Result<CommandResult, NoMemory>
     requires { IsWithin (commands.Bench seed ranks rounds) }
-    ensures { IfOk result (λ told. HasBenched seed ranks rounds told.journal told.tally told.status told.text) }
+    ensures told { IfOk result (λ told. HasBenched seed ranks rounds told.journal told.tally told.status told.text) }
+    ensures held { IfOk result (λ told. told.is_held ≡ true) }
 {
     bench_calls();
     bench_transfers();
@@ -176,12 +163,7 @@ pub fn bench_result<R: Threads + Wait + Sync>(
     let numbers = numbers_of(alloc, &shape, &journal)?;
     let text = numbers_text(alloc, numbers)?;
     let status = run_status(outcomes.as_slice());
-    Ok(CommandResult {
-        journal,
-        tally: Some(tally),
-        status,
-        text,
-    })
+    Ok(CommandResult::with_text(journal, Some(tally), status, text))
 }
 
 /// Runs a world text on one thread, from a seed and with that many looks for a call that blocks.
@@ -195,19 +177,15 @@ fn step_result(
     requires { 1 ≤ limit }
     ensures told { IfOk result (λ told. IsStepped seed limit brief input.now told.journal told.status told.text) }
     ensures plain { IfOk result (λ told. told.tally ≡ None) }
+    ensures held { IfOk result (λ told. told.is_held ≡ false → writes_journal (commands.Step seed limit brief) ≡ true) }
     ensures fault { (number line : ℕ) → IsErrOf result (script_faults.At number line)
         → world_text input.now ≡ Err (record { number = number; line = line }) }
 {
     let (shape, scripts) = read_world(alloc, input)?;
     let ran = schedule(alloc, &shape, &scripts, seed, limit)?;
-    let text = run_text(alloc, brief, &shape, &scripts, &ran.journal)?;
     let status = run_status(ran.outcomes.as_slice());
-    Ok(CommandResult {
-        journal: ran.journal,
-        tally: None,
-        status,
-        text,
-    })
+    let told = told_of_run(alloc, brief, &shape, &scripts, ran.journal, None, status)?;
+    Ok(told)
 }
 
 /// What a command that needs no threads tells of an input, or the first fault of the world text in it.
@@ -219,6 +197,7 @@ pub fn command_result(
     requires within { IsWithin command }
     requires plain { is_plain command ≡ true }
     ensures told { IfOk result (λ told. IsCommandResult command input.now told.journal told.tally told.status told.text) }
+    ensures held { IfOk result (λ told. told.is_held ≡ false → writes_journal command ≡ true) }
     ensures fault { (number line : ℕ) → IsErrOf result (script_faults.At number line)
         → world_read command input.now ≡ Err (record { number = number; line = line }) }
 {

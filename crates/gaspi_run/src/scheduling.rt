@@ -1,7 +1,7 @@
 //! The schedule of a world's scripts on one thread.
 
 ghost use Rattle.std.specs.Prelude.{◌≡◌, ℕ, ◌<◌, ◌≤◌, ◌++◌, OnOk, IfOk, true};
-ghost use Rattle.gaspi_texts.specs.JournalText.{AreInRange, HaveOwnValues};
+ghost use Rattle.gaspi_texts.specs.JournalText.{AreInRange};
 ghost use Rattle.gaspi_types.specs.World.{IsShape};
 ghost use Rattle.gaspi_model.specs.Step.{is_legal};
 ghost use Rattle.rank_script.specs.PlainScripts.{ArePlain};
@@ -27,37 +27,37 @@ pub struct ScheduleResult {
 
 /// A caller at its start, added to those before where it has a script.
 fn add_start<'a>(
-    waiting: &mut Sequence<ActiveCaller<'a>>,
+    active: &mut Sequence<ActiveCaller<'a>>,
     caller: CallerId,
     scripts: &'a Scripts,
 ) -> Result<(), NoMemory>
-    ensures { OnOk result (waiting.new ≡ waiting.old ++ thread_starts scripts.now caller.rank caller.thread) }
+    ensures { OnOk result (active.new ≡ active.old ++ thread_starts scripts.now caller.rank caller.thread) }
 {
     let Some(script) = scripts.of(caller) else {
         return Ok(());
     };
-    waiting.push(ActiveCaller {
+    active.push(ActiveCaller {
         caller: script.caller,
-        cursor: Cursor::new(waiting.allocator(), script)?,
+        cursor: Cursor::new(active.allocator(), script)?,
         looks: 0,
     })
 }
 
 /// The callers of a rank at their start, by thread, added to those of the ranks before.
 fn add_starts<'a>(
-    waiting: &mut Sequence<ActiveCaller<'a>>,
+    active: &mut Sequence<ActiveCaller<'a>>,
     rank: u32,
     scripts: &'a Scripts,
 ) -> Result<(), NoMemory>
     requires { rank < 16 }
-    ensures { OnOk result (waiting.new ≡ waiting.old ++ rank_starts scripts.now rank) }
+    ensures { OnOk result (active.new ≡ active.old ++ rank_starts scripts.now rank) }
 {
     for thread in 0..4u32 {
         let caller = CallerId {
             rank: RankId::of(rank),
             thread: ThreadId::of(thread),
         };
-        add_start(waiting, caller, scripts)?;
+        add_start(active, caller, scripts)?;
     }
     Ok(())
 }
@@ -68,16 +68,16 @@ fn starts<'a>(
     shape: &Shape,
     scripts: &'a Scripts,
 ) -> Result<Sequence<ActiveCaller<'a>>, NoMemory>
-    ensures waiting { IfOk result (λ waiting. waiting ≡ starts shape.now scripts.now) }
+    ensures active { IfOk result (λ active. active ≡ starts shape.now scripts.now) }
     ensures world { IsShape shape.now }
     ensures plain { ArePlain scripts.now }
 {
     let limits = shape.limits();
-    let mut waiting = Sequence::with_capacity(alloc, scripts.len())?;
+    let mut active = Sequence::with_capacity(alloc, scripts.len())?;
     for rank in 0..limits.ranks {
-        add_starts(&mut waiting, rank, scripts)?;
+        add_starts(&mut active, rank, scripts)?;
     }
-    Ok(waiting)
+    Ok(active)
 }
 
 /// The scheduled history of a world's scripts, and how each caller ended. A call that blocks has `limit` looks, at least
@@ -96,7 +96,6 @@ pub fn schedule(
     ensures settled { IfOk result (λ ran. HasSettled shape.now ran.journal) }
     ensures runs { IfOk result (λ ran. HaveEnded shape.now scripts.now ran.journal ran.outcomes) }
     ensures ranges { IfOk result (λ ran. AreInRange ran.journal) }
-    ensures values { IfOk result (λ ran. HaveOwnValues ran.journal) }
 {
     soundness();
     enabled();

@@ -6,7 +6,7 @@ ghost use Rattle.gaspi_types.specs.declared.shapes.CallerId.{CallerId};
 ghost use Rattle.gaspi_world.specs.Callers.{IsPassOf};
 ghost use Rattle.rank_script.specs.PlainScripts.{ArePlain};
 ghost use Rattle.rank_script.specs.WorldText.{AreScriptsOf};
-ghost use Rattle.gaspi_run.specs.ThreadBodies.{made_pass, AreCallersThere, EachAt, BodyNeeds, IsBodyOf, IsReady, HaveAllRun, IsDone, HaveRun, finished_of, finished_in};
+ghost use Rattle.gaspi_run.specs.ThreadBodies.{made_pass, AreCallersThere, EachAt, BodyNeeds, IsBodyOf, IsReady, HaveAllRun, IsDone, HaveRun, ended_caller, ended_callers};
 
 use crate::ScriptBody;
 use crate::schedule_states::EndedCaller;
@@ -144,10 +144,10 @@ fn run_tasks<R: Threads + Wait + Sync>(
 }
 
 /// How the caller of a part ended, where it is a caller's. Only a caller that found no memory, or that has not run, is an error.
-fn finished_of(part: &ThreadBody<'_>) -> Result<Option<EndedCaller>, NoMemory>
-    ensures finished { IfOk result (λ finished. option_to_list finished ≡ finished_of part.now) }
+fn ended_caller(part: &ThreadBody<'_>) -> Result<Option<EndedCaller>, NoMemory>
+    ensures finished { IfOk result (λ finished. option_to_list finished ≡ ended_caller part.now) }
     ensures told { OnOk result (IsDone part.now) }
-    ensures starved { OnErr result (¬ IsDone part.now) }
+    ensures undone { OnErr result (¬ IsDone part.now) }
 {
     match part {
         ThreadBody::Caller(body) => match body.outcome {
@@ -162,17 +162,17 @@ fn finished_of(part: &ThreadBody<'_>) -> Result<Option<EndedCaller>, NoMemory>
 }
 
 /// How the callers ended, of whom there are so many, in the order of the tasks.
-fn outcomes_of(
+fn ended_callers_of(
     alloc: Global,
     callers: usize,
     tasks: &[Task<ThreadBody<'_>>],
 ) -> Result<Sequence<EndedCaller>, NoMemory>
-    ensures finished { IfOk result (λ finished. finished ≡ finished_in tasks.now) }
+    ensures finished { IfOk result (λ finished. finished ≡ ended_callers tasks.now) }
     ensures told { OnOk result (All (λ t. IsDone t.body) tasks.now) }
 {
     let mut outcomes = Sequence::with_capacity(alloc, callers)?;
     for task in tasks {
-        if let Some(finished) = finished_of(&task.body)? {
+        if let Some(finished) = ended_caller(&task.body)? {
             outcomes.push(finished)?;
         }
     }
@@ -192,7 +192,7 @@ fn passes_of(alloc: Global, tasks: Vec<Task<ThreadBody<'_>>>) -> Result<Passes, 
 
 /// Runs the scripts of a world and makes its transfers, each caller and each worker on a thread of its own. Only want of memory
 /// is an error.
-pub(crate) fn run_parts<R: Threads + Wait + Sync>(
+pub(crate) fn run_bodies<R: Threads + Wait + Sync>(
     rt: &R,
     alloc: Global,
     world: &World,
@@ -211,7 +211,7 @@ pub(crate) fn run_parts<R: Threads + Wait + Sync>(
     let callers = scripts.len();
     let mut tasks = tasks_of(alloc, world, scripts, passes, limit)?;
     run_tasks(rt, alloc, world, &mut tasks);
-    let outcomes = outcomes_of(alloc, callers, tasks.as_slice())?;
+    let outcomes = ended_callers_of(alloc, callers, tasks.as_slice())?;
     let passes = passes_of(alloc, tasks)?;
     Ok(ThreadsResult { passes, outcomes })
 }

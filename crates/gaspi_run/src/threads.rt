@@ -1,7 +1,6 @@
 //! The scripts of a world on threads: each caller and each worker on one of its own.
 
 ghost use Rattle.std.specs.Prelude.{◌≡◌, ◌≤◌, IfOk, true, Some, map};
-ghost use Rattle.gaspi_texts.specs.JournalText.{HaveOwnValues};
 ghost use Rattle.commit_table.specs.Calls.{AreWhole};
 ghost use Rattle.gaspi_model.specs.Step.{is_legal};
 ghost use Rattle.gaspi_model.specs.ContributionCounts.{ContributesOnce};
@@ -11,7 +10,7 @@ ghost use Rattle.rank_script.specs.WorldText.{AreScriptsOf};
 ghost use Rattle.gaspi_run.specs.Threads.{HasRunWorld};
 
 use crate::schedule_states::EndedCaller;
-use crate::tasks::{ThreadsResult, run_parts};
+use crate::tasks::{ThreadsResult, run_bodies};
 use gaspi_model::{notification_order, settling};
 use gaspi_texts::{Journal, journal_is_in_range};
 use gaspi_types::{NoMemory, Sequence, Shape};
@@ -59,14 +58,13 @@ pub fn run_on_threads<R: Threads + Wait + Sync>(
     requires limit { 1 ≤ limit }
     requires workers { (1 ≤ workers) × (workers ≤ 4) }
     requires scripts { AreScriptsOf shape.now scripts.now }
-    ensures ran { IfOk result (λ ran. HasRunWorld shape.now scripts.now workers limit ran.journal (Some ran.tally) ran.outcomes) }
-    ensures values { IfOk result (λ ran. HaveOwnValues ran.journal) }
+    ensures { IfOk result (λ ran. HasRunWorld shape.now scripts.now workers limit ran.journal (Some ran.tally) ran.outcomes) }
 {
     settling();
     notification_order();
     waits_last();
     let Started { world, passes } = World::start(alloc, shape, workers)?;
-    let ThreadsResult { passes, outcomes } = run_parts(rt, alloc, &world, scripts, passes, limit)?;
+    let ThreadsResult { passes, outcomes } = run_bodies(rt, alloc, &world, scripts, passes, limit)?;
     let (journal, tally) = closed(alloc, world, passes)?;
     prove!(journal_is_in_range(&journal));
     Ok(RunResult {

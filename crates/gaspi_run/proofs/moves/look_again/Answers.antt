@@ -15,6 +15,6 @@ returns-then-from c = λ w line there call timeout.
     let most : c.looks_of-most.result ≡ looks_of c.args.limit line.timeout = c.looks_of-most.ensures ∙ ap (looks_of c.args.limit) (sym timeout) in
     let last : nat_le (looks_of c.args.limit line.timeout) (w.looks + 1) ≡ true = grind (arith, nat_tests) in
     rw last
-    (subst (λ (x : Call). OnOk c.record_call.result (c.record_call.new.schedule ≡ recorded c.args.schedule.now c.args.place w x replies.Timeout)) (sym call)
-    (subst (λ (x : Ready). OnOk c.record_call.result (c.record_call.new.schedule ≡ recorded c.args.schedule.now c.args.place w c.args.invocation.now.call.now (recorded_reply x))) c.requires.not_ready
+    (subst (λ (x : Call). OnOk c.record_call.result (c.record_call.new.schedule ≡ recorded c.args.schedule.now c.args.index w x replies.Timeout)) (sym call)
+    (subst (λ (x : Ready). OnOk c.record_call.result (c.record_call.new.schedule ≡ recorded c.args.schedule.now c.args.index w c.args.invocation.now.call.now (recorded_reply x))) c.requires.not_ready
     (c.record_call.ensures w there)))

@@ -4,4 +4,4 @@ use Rattle.gaspi_run.specs.Schedule.{thread_starts}
 use Rattle.gaspi_run.proofs.scheduling.add_starts.Given as goal
 
 abbrev pub invariant-loop-thread : goal.invariant-loop-thread
-invariant-loop-thread l = l.waiting ≡ l.fn.waiting ++ flat_map (thread_starts l.scripts l.rank) (range_with_len 0 l.thread)
+invariant-loop-thread l = l.active ≡ l.fn.active ++ flat_map (thread_starts l.scripts l.rank) (range_with_len 0 l.thread)

@@ -4,4 +4,4 @@ use Rattle.gaspi_run.specs.Schedule.{rank_starts}
 use Rattle.gaspi_run.proofs.scheduling.starts.Given as goal
 
 abbrev pub invariant-loop-rank : goal.invariant-loop-rank
-invariant-loop-rank l = l.waiting ≡ flat_map (rank_starts l.scripts) (range_with_len 0 l.rank)
+invariant-loop-rank l = l.active ≡ flat_map (rank_starts l.scripts) (range_with_len 0 l.rank)
