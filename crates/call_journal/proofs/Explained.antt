@@ -15,13 +15,13 @@ use Rattle.gaspi_model.proofs.Ordered.Notifications.{order}
 use Rattle.call_journal.specs.Explanations.{IsNotificationPut, IsCovered, IsExplained}
 use Rattle.call_journal.specs.LaneWrites.{arrived, arrived_one, arrived_with, put_at, put_of}
 use Rattle.call_journal.specs.Tracked.{IsPutAt, HasPut, IsListed, IsTracked, Rise}
-use Rattle.call_journal.specs.declared.answers.ArrivedWrite.{ArrivedWrite}
+use Rattle.call_journal.specs.declared.answers.CoveredWrite.{CoveredWrite}
 use Rattle.call_journal.specs.declared.lane_writes.EntryPut.{EntryPut}
 use Rattle.call_journal.specs.declared.lane_writes.LaneWrite.{LaneWrite}
 use Rattle.call_journal.proofs.Places.{parted, step-at, taken-from}
 
 -- where a write comes from that arrived
-record IsArrived (number : ℕ) (writes : List LaneWrite) (y : ArrivedWrite) : Type 0 where
+record IsArrived (number : ℕ) (writes : List LaneWrite) (y : CoveredWrite) : Type 0 where
   place : ℕ
   x : LaneWrite
   there : slice_get writes place ≡ Some x
@@ -30,7 +30,7 @@ record IsArrived (number : ℕ) (writes : List LaneWrite) (y : ArrivedWrite) : T
   post_is : y.post ≡ x.post
   number_is : y.number ≡ x.number
 
-one-from : (number : ℕ) (writes : List LaneWrite) (place : ℕ) (x : LaneWrite) (k : ℕ) (y : ArrivedWrite) → slice_get writes place ≡ Some x → slice_get (arrived_one number x) k ≡ Some y → IsArrived number writes y
+one-from : (number : ℕ) (writes : List LaneWrite) (place : ℕ) (x : LaneWrite) (k : ℕ) (y : CoveredWrite) → slice_get writes place ≡ Some x → slice_get (arrived_one number x) k ≡ Some y → IsArrived number writes y
 one-from number writes place x k y there h = go (nat_lt x.number number) refl
   where
     with-put : x.number < number → (o : Option ℕ) → x.put ≡ o → (k : ℕ) → slice_get (arrived_with x o) k ≡ Some y → IsArrived number writes y
@@ -42,17 +42,17 @@ one-from number writes place x k y there h = go (nat_lt x.number number) refl
           x = x;
           there = there;
           smaller = less;
-          put = is ∙ ap (λ (z : ArrivedWrite). Some z.put) same;
-          post_is = ap (λ (z : ArrivedWrite). z.post) (sym same);
-          number_is = ap (λ (z : ArrivedWrite). z.number) (sym same);
+          put = is ∙ ap (λ (z : CoveredWrite). Some z.put) same;
+          post_is = ap (λ (z : CoveredWrite). z.post) (sym same);
+          number_is = ap (λ (z : CoveredWrite). z.number) (sym same);
         }
     with-put less (Some put) is (suc k) at = absurd (let no : ⊥ = cc in no)
 
     go : (b : Bool) → nat_lt x.number number ≡ b → IsArrived number writes y
     go true is = with-put (ltb-true x.number number is) x.put refl k (rw is at h)
-    go false is = absurd (let none : slice_get {X = ArrivedWrite} [] k ≡ Some y = rw is at h in let no : ⊥ = cc in no)
+    go false is = absurd (let none : slice_get {X = CoveredWrite} [] k ≡ Some y = rw is at h in let no : ⊥ = cc in no)
 
-arrived-from : (number : ℕ) (writes : List LaneWrite) (k : ℕ) (y : ArrivedWrite) → slice_get (arrived number writes) k ≡ Some y → IsArrived number writes y
+arrived-from : (number : ℕ) (writes : List LaneWrite) (k : ℕ) (y : CoveredWrite) → slice_get (arrived number writes) k ≡ Some y → IsArrived number writes y
 arrived-from number writes k y h =
     let parts = flat_map-parts (arrived_one number) writes k y h in
     one-from number writes parts.0 parts.1 parts.2 y parts.3 parts.4
@@ -69,11 +69,11 @@ arrived-at number (w ∷ writes) (suc j) x put at less is =
     (length (arrived_one number w) + rest.0, behind-of-joined (arrived_one number w) (arrived number writes) rest.0 (length (arrived_one number w) + rest.0) refl ∙ rest.1)
 
 -- the numbers of what arrived rise
-abbrev RiseFrom : ℕ → List ArrivedWrite → Type 0
+abbrev RiseFrom : ℕ → List CoveredWrite → Type 0
 RiseFrom low [] = Unit {0}
 RiseFrom low (y ∷ ys) = (low ≤ y.number) × RiseFrom (y.number + 1) ys
 
-rise-less : (low low' : ℕ) (ys : List ArrivedWrite) → low ≤ low' → RiseFrom low' ys → RiseFrom low ys
+rise-less : (low low' : ℕ) (ys : List CoveredWrite) → low ≤ low' → RiseFrom low' ys → RiseFrom low ys
 rise-less low low' [] less rise = tt
 rise-less low low' (y ∷ ys) less rise = ((let here = rise.0 in omega arith), rise.1)
 
@@ -86,18 +86,18 @@ arrived-rise number low (x ∷ writes) high rise = go (nat_lt x.number number) x
     go true None rest = rise-less low (x.number + 1) (arrived number writes) (let here = rise.0 in omega arith) rest
     go false o rest = rise-less low (x.number + 1) (arrived number writes) (let here = rise.0 in omega arith) rest
 
-rise-above : (low : ℕ) (ys : List ArrivedWrite) (k : ℕ) (y : ArrivedWrite) → RiseFrom low ys → slice_get ys k ≡ Some y → low ≤ y.number
+rise-above : (low : ℕ) (ys : List CoveredWrite) (k : ℕ) (y : CoveredWrite) → RiseFrom low ys → slice_get ys k ≡ Some y → low ≤ y.number
 rise-above low [] k y rise at = absurd (let no : ⊥ = cc in no)
-rise-above low (x ∷ ys) zero y rise at = let same : x ≡ y = cc in subst (λ (z : ArrivedWrite). low ≤ z.number) same rise.0
+rise-above low (x ∷ ys) zero y rise at = let same : x ≡ y = cc in subst (λ (z : CoveredWrite). low ≤ z.number) same rise.0
 rise-above low (x ∷ ys) (suc k) y rise at = let rest = rise-above (x.number + 1) ys k y rise.1 at in let here = rise.0 in omega arith
 
-rise-apart : (low : ℕ) (ys : List ArrivedWrite) (j k : ℕ) (x y : ArrivedWrite) → RiseFrom low ys → j < k → slice_get ys j ≡ Some x → slice_get ys k ≡ Some y → x.number < y.number
+rise-apart : (low : ℕ) (ys : List CoveredWrite) (j k : ℕ) (x y : CoveredWrite) → RiseFrom low ys → j < k → slice_get ys j ≡ Some x → slice_get ys k ≡ Some y → x.number < y.number
 rise-apart low [] j k x y rise less hx hy = absurd (let no : ⊥ = cc in no)
 rise-apart low (z ∷ ys) zero zero x y rise less hx hy = absurd (let no : ⊥ = omega arith in no)
 rise-apart low (z ∷ ys) zero (suc k) x y rise less hx hy =
     let same : z ≡ x = cc in
     let above = rise-above (z.number + 1) ys k y rise.1 hy in
-    subst (λ (v : ArrivedWrite). v.number < y.number) same (omega arith)
+    subst (λ (v : CoveredWrite). v.number < y.number) same (omega arith)
 rise-apart low (z ∷ ys) (suc j) zero x y rise less hx hy = absurd (let no : ⊥ = omega arith in no)
 rise-apart low (z ∷ ys) (suc j) (suc k) x y rise less hx hy = rise-apart (z.number + 1) ys j k x y rise.1 (omega arith) hx hy
 
@@ -195,7 +195,7 @@ module _ (w : ShapeValue) (world : IsShape w) (journal : List Event) (legal : is
             (new.0, record { post = old.1.post; number = old.1.number; put = put.0 }, new.1, old.3, old.4);
       }
     where
-      put-of : IsNotificationInLane w (take place journal) at.origin at.queue at.target at.number → (k : ℕ) (y : ArrivedWrite) → slice_get (arrived at.number writes) k ≡ Some y
+      put-of : IsNotificationInLane w (take place journal) at.origin at.queue at.target at.number → (k : ℕ) (y : CoveredWrite) → slice_get (arrived at.number writes) k ≡ Some y
           → (y.put < place) × (slice_get journal y.put ≡ Some (Put at.origin at.queue at.target y.number Applied))
       put-of note k y h =
           let from = arrived-from at.number writes k y h in

@@ -17,7 +17,7 @@ use Rattle.gaspi_model.specs.declared.states.Why.TheVariants as whys
 use Rattle.gaspi_model.proofs.FoundEntries.{find_entry-ok}
 use Rattle.gaspi_model.proofs.Histories.{after-both, after-first, after-joined, after-step, leads}
 use Rattle.gaspi_model.proofs.Ordered.Notifications.{found-number}
-use Rattle.gaspi_model.proofs.Sound.Rising.{place_of-rising}
+use Rattle.gaspi_model.proofs.Sound.Rising.{position_of-rising}
 use Rattle.call_journal.proofs.Standing.{InQueues}
 
 -- an entry of a lane of a rank
@@ -73,7 +73,7 @@ pub is-standing : (s : State) (origin queue target m : ℕ) (kind : Kind) (posts
     → (e : Entry) × (entry_after s origin queue target m ≡ Some e) × (e.kind ≡ kind)
 is-standing s origin queue target m kind posts sound there i =
     let has = i.in_queue.has in
-    let at = place_of-rising posts.next i.in_queue.lane has.place has.entry (lane-rising s origin queue target m kind posts i sound there) has.there in
+    let at = position_of-rising posts.next i.in_queue.lane has.place has.entry (lane-rising s origin queue target m kind posts i sound there) has.there in
     let found : find_entry posts queue target has.entry.number whys.Put ≡ Ok (record { queue = i.q; lane = i.in_queue.lane; position = has.place; entry = has.entry }) =
     rw (i.queue_there, i.in_queue.lane_there, at, has.there) refl in
     let stands : entry_after s origin queue target has.entry.number ≡ Some has.entry = rw (there, found) refl in

@@ -9,7 +9,7 @@ use Rattle.gaspi_types.specs.declared.replies.Reply.{Reply}
 use Rattle.gaspi_model.specs.Step.{recorded_calls}
 use Rattle.rank_script.specs.Bench.{bench_bytes, left_of}
 use Rattle.call_journal.specs.Laws.{RanToTheEnd}
-use Rattle.call_journal.specs.Numbers.{is_call, is_notification, is_set_value}
+use Rattle.call_journal.specs.Numbers.{is_call, is_found_reset, is_set_value}
 use Rattle.rank_script.specs.Runs.{end_pair}
 use Rattle.call_journal.proofs.Callers.{bench-first}
 use Rattle.call_journal.proofs.Counts.{Pair, pair_test, count-all, count-alike, count-append}
@@ -63,15 +63,15 @@ is_found call reply = false
 abbrev pub is_found_pair : Pair → Bool
 is_found_pair pair = is_found pair.0 pair.1
 
-notification-alike : (e : Event) → is_notification e ≡ pair_test is_found_pair e
+notification-alike : (e : Event) → is_found_reset e ≡ pair_test is_found_pair e
 notification-alike (Called c (Reset call) reply) = refl
 notification-alike (Called c call reply) = refl
 notification-alike (Joined c id args) = refl
 notification-alike (Take origin queue target number outcome) = refl
 notification-alike (Put origin queue target number outcome) = refl
 
-pub notifications-counted : (seed ranks rounds : ℕ) (journal : List Event) → RanToTheEnd seed ranks rounds journal → count_by is_notification journal ≡ ranks * rounds
+pub notifications-counted : (seed ranks rounds : ℕ) (journal : List Event) → RanToTheEnd seed ranks rounds journal → count_by is_found_reset journal ≡ ranks * rounds
 notifications-counted seed ranks rounds journal ran =
-    count-alike is_notification (pair_test is_found_pair) journal notification-alike
+    count-alike is_found_reset (pair_test is_found_pair) journal notification-alike
     ∙ total-count seed ranks rounds journal is_found_pair 1 ran (λ rank bytes loaded stored posted waited met. refl)
     ∙ ap (λ (n : ℕ). ranks * n) (let same : rounds * 1 + 0 ≡ rounds = omega arith in same)

@@ -8,9 +8,9 @@ use Rattle.gaspi_types.specs.declared.events.Outcome.TheVariants.{Applied}
 use Rattle.gaspi_model.specs.Order.{IsWriteInLane, IsNotificationInLane, is_purge_of}
 use Rattle.gaspi_model.specs.Step.{is_legal}
 use Rattle.call_journal.specs.Verdicts.{IsIllegalAt}
-use Rattle.call_journal.specs.declared.answers.ArrivedWrite.{ArrivedWrite}
-use Rattle.call_journal.specs.declared.answers.WhyAnswer.{WhyAnswer}
-use Rattle.call_journal.specs.declared.answers.WhyAnswer.TheVariants.{Writes, NoNotification, Illegal}
+use Rattle.call_journal.specs.declared.answers.CoveredWrite.{CoveredWrite}
+use Rattle.call_journal.specs.declared.answers.Explanation.{Explanation}
+use Rattle.call_journal.specs.declared.answers.Explanation.TheVariants.{Writes, NoNotification, Illegal}
 
 -- a notification that stands in a lane is put at a place
 pub record IsNotificationPut (w : ShapeValue) (history : List Event) (place origin queue target number : ℕ) : Type 0 where
@@ -37,22 +37,22 @@ pub record IsCovered (w : ShapeValue) (history : List Event) (place origin queue
 
 -- these are all the writes for which the notification stands that is put at a place, by rising number, and their puts stand where they
 -- say, before that place
-pub record IsExplained (w : ShapeValue) (history : List Event) (place : ℕ) (writes : List ArrivedWrite) : Type 0 where
+pub record IsExplained (w : ShapeValue) (history : List Event) (place : ℕ) (writes : List CoveredWrite) : Type 0 where
   pub origin : ℕ
   pub queue : ℕ
   pub target : ℕ
   pub number : ℕ
   pub note : IsNotificationPut w history place origin queue target number
-  pub rising : (j k : ℕ) (x y : ArrivedWrite) → j < k → slice_get writes j ≡ Some x → slice_get writes k ≡ Some y → x.number < y.number
-  pub covered : (k : ℕ) (x : ArrivedWrite) → slice_get writes k ≡ Some x → IsCovered w history place origin queue target number x.post x.number
-  pub arrived : (k : ℕ) (x : ArrivedWrite) → slice_get writes k ≡ Some x → x.put < place
-  pub put : (k : ℕ) (x : ArrivedWrite) → slice_get writes k ≡ Some x → slice_get history x.put ≡ Some (Put origin queue target x.number Applied)
+  pub rising : (j k : ℕ) (x y : CoveredWrite) → j < k → slice_get writes j ≡ Some x → slice_get writes k ≡ Some y → x.number < y.number
+  pub covered : (k : ℕ) (x : CoveredWrite) → slice_get writes k ≡ Some x → IsCovered w history place origin queue target number x.post x.number
+  pub arrived : (k : ℕ) (x : CoveredWrite) → slice_get writes k ≡ Some x → x.put < place
+  pub put : (k : ℕ) (x : CoveredWrite) → slice_get writes k ≡ Some x → slice_get history x.put ≡ Some (Put origin queue target x.number Applied)
   pub all : (post m : ℕ) → IsCovered w history place origin queue target number post m
-      → (k : ℕ) × (x : ArrivedWrite) × (slice_get writes k ≡ Some x) × (x.post ≡ post) × (x.number ≡ m)
+      → (k : ℕ) × (x : CoveredWrite) × (slice_get writes k ≡ Some x) × (x.post ≡ post) × (x.number ≡ m)
 
 -- the answer for a place of a journal
-abbrev pub IsWhyAnswer : ShapeValue → List Event → ℕ → WhyAnswer → Type 0
-IsWhyAnswer w journal place (Writes writes) = (is_legal w journal ≡ true) × IsExplained w journal place writes
-IsWhyAnswer w journal place NoNotification =
+abbrev pub IsExplanation : ShapeValue → List Event → ℕ → Explanation → Type 0
+IsExplanation w journal place (Writes writes) = (is_legal w journal ≡ true) × IsExplained w journal place writes
+IsExplanation w journal place NoNotification =
     (is_legal w journal ≡ true) × ((origin queue target number : ℕ) → IsNotificationPut w journal place origin queue target number → ⊥)
-IsWhyAnswer w journal place (Illegal first why) = IsIllegalAt w journal first why
+IsExplanation w journal place (Illegal first why) = IsIllegalAt w journal first why

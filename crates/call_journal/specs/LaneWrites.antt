@@ -10,7 +10,7 @@ use Rattle.gaspi_types.specs.declared.events.Outcome.TheVariants.{Applied}
 use Rattle.gaspi_types.specs.declared.replies.Reply.TheVariants as replies
 use Rattle.gaspi_model.specs.Order.{is_purge_of}
 use Rattle.std.specs.List.{flat_map, slice_get}
-use Rattle.call_journal.specs.declared.answers.ArrivedWrite.{ArrivedWrite}
+use Rattle.call_journal.specs.declared.answers.CoveredWrite.{CoveredWrite}
 use Rattle.call_journal.specs.declared.lane_writes.EntryPut.{EntryPut}
 use Rattle.call_journal.specs.declared.lane_writes.Post.{Post}
 use Rattle.call_journal.specs.declared.lane_writes.LaneWrite.{LaneWrite}
@@ -94,12 +94,12 @@ writes_after at place event next writes =
     (if is_purge_of at.origin at.queue event then [] else with_put (put_in at event) place writes) ++ new_writes place next (writes_to at (post_of at.origin event))
 
 -- of the writes with a smaller number those that are put, with the places of their puts
-abbrev pub arrived_with : LaneWrite → Option ℕ → List ArrivedWrite
+abbrev pub arrived_with : LaneWrite → Option ℕ → List CoveredWrite
 arrived_with x None = []
 arrived_with x (Some put) = record { post = x.post; number = x.number; put = put } ∷ []
 
-abbrev pub arrived_one : ℕ → LaneWrite → List ArrivedWrite
+abbrev pub arrived_one : ℕ → LaneWrite → List CoveredWrite
 arrived_one number x = if nat_lt x.number number then arrived_with x x.put else []
 
-abbrev pub arrived : ℕ → List LaneWrite → List ArrivedWrite
+abbrev pub arrived : ℕ → List LaneWrite → List CoveredWrite
 arrived number writes = flat_map (arrived_one number) writes

@@ -30,9 +30,9 @@ is_set_value (Value n) = not (n == 0)
 is_set_value _ = false
 
 -- a reset that found its notification set (GASPI: notify_reset)
-abbrev pub is_notification : Event → Bool
-is_notification (Called caller (Reset call) reply) = is_set_value reply
-is_notification _ = false
+abbrev pub is_found_reset : Event → Bool
+is_found_reset (Called caller (Reset call) reply) = is_set_value reply
+is_found_reset _ = false
 
 -- the words at offset 8 of segment 0 of so many ranks, added, with 0 for a rank where there is none
 abbrev pub words_until : State → ℕ → ℕ
@@ -44,7 +44,7 @@ words_until s (suc rank) = words_until s rank + unwrap_or (word_in s rank 0 8) 0
 pub record AreNumbers (w : ShapeValue) (journal : List Event) (n : Numbers4) : Type 0 where
   pub calls : n.calls ≡ count_by is_call journal
   pub transfers : n.transfers ≡ count_by is_transfer journal
-  pub notifications : n.notifications ≡ count_by is_notification journal
+  pub notifications : n.notifications ≡ count_by is_found_reset journal
   pub state : State
   pub leads : reached w journal ≡ Ok state
   pub sum : n.sum ≡ words_until state w.limits.ranks % 2 ^ 64

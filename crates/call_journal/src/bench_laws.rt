@@ -3,7 +3,7 @@
 ghost use Rattle.std.specs.Prelude.{◌≡◌, ℕ, ◌+◌, ◌-◌, ◌*◌, ◌<◌, List, Some, count_by};
 ghost use Rattle.gaspi_types.specs.declared.events.Event.{Event};
 ghost use Rattle.rank_script.specs.Bench.{bench_draw, left_of};
-ghost use Rattle.call_journal.specs.Numbers.{is_call, is_notification, is_transfer, words_until};
+ghost use Rattle.call_journal.specs.Numbers.{is_call, is_found_reset, is_transfer, words_until};
 ghost use Rattle.plain_machine.specs.Words.{word_in};
 ghost use Rattle.call_journal.specs.Laws.{RanToTheEnd, draws_until};
 
@@ -14,7 +14,7 @@ pub fn bench_calls()
 
 /// The notifications of a run: one of each rank in each round.
 pub fn bench_notifications()
-    ensures { (seed ranks rounds : ℕ) (journal : List Event) → RanToTheEnd seed ranks rounds journal → count_by is_notification journal ≡ ranks * rounds }
+    ensures { (seed ranks rounds : ℕ) (journal : List Event) → RanToTheEnd seed ranks rounds journal → count_by is_found_reset journal ≡ ranks * rounds }
 {}
 
 /// The transfers of a run: each rank posts a write and a notification in each round, and each of them is taken and put.

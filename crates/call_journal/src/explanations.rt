@@ -1,11 +1,11 @@
 //! Which writes a notification stands for.
 
 ghost use Rattle.std.specs.Prelude.{◌≡◌, ◌*◌, ◌≤◌, true, length, IfOk};
-ghost use Rattle.call_journal.specs.Explanations.{IsWhyAnswer};
+ghost use Rattle.call_journal.specs.Explanations.{IsExplanation};
 ghost use Rattle.gaspi_model.specs.Step.{is_legal};
 ghost use Rattle.gaspi_types.specs.World.{ShapeValue, IsShape};
 
-use crate::answers::WhyAnswer;
+use crate::answers::Explanation;
 use crate::lane_writes::{arrived, lane_writes, put_at};
 use crate::verdicts::{Verdict, check};
 use gaspi_model::history_lengths;
@@ -14,19 +14,19 @@ use gaspi_types::{NoMemory, Shape};
 use std::alloc::Global;
 
 /// The answer for a place of a journal that is legal.
-fn explained(alloc: Global, journal: &Journal, place: u64) -> Result<WhyAnswer, NoMemory>
+fn explained(alloc: Global, journal: &Journal, place: u64) -> Result<Explanation, NoMemory>
     requires { length journal.now ≤ 16 * 65536 }
-    ensures { IfOk result (λ answer. (w : ShapeValue) → IsShape w → is_legal w journal.now ≡ true → IsWhyAnswer w journal.now place answer) }
+    ensures { IfOk result (λ answer. (w : ShapeValue) → IsShape w → is_legal w journal.now ≡ true → IsExplanation w journal.now place answer) }
 {
     let Some(at) = put_at(journal, place) else {
-        return Ok(WhyAnswer::NoNotification);
+        return Ok(Explanation::NoNotification);
     };
     let found = lane_writes(alloc, journal, place as usize, &at)?;
     if !found.notified {
-        return Ok(WhyAnswer::NoNotification);
+        return Ok(Explanation::NoNotification);
     }
     let writes = arrived(alloc, &found.writes, at.number)?;
-    Ok(WhyAnswer::Writes(writes))
+    Ok(Explanation::Writes(writes))
 }
 
 /// Which writes the notification stands for that is put at a place of a journal: those of its lane that were posted before it, and after
@@ -38,13 +38,13 @@ pub fn why(
     shape: &Shape,
     journal: &Journal,
     place: u64,
-) -> Result<WhyAnswer, NoMemory>
-    ensures { IfOk result (λ answer. IsWhyAnswer shape.now journal.now place answer) }
+) -> Result<Explanation, NoMemory>
+    ensures { IfOk result (λ answer. IsExplanation shape.now journal.now place answer) }
 {
     history_lengths();
     shape.limits();
     match check(alloc, shape, journal)? {
         Verdict::Legal => explained(alloc, journal, place),
-        Verdict::Illegal { place, why } => Ok(WhyAnswer::Illegal { place, why }),
+        Verdict::Illegal { place, why } => Ok(Explanation::Illegal { place, why }),
     }
 }

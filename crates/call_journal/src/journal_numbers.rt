@@ -1,7 +1,7 @@
 //! The numbers that are told of a journal.
 
 ghost use Rattle.std.specs.Prelude.{◌≡◌, ◌+◌, ◌%◌, ◌^◌, ◌<◌, ◌≤◌, IfOk, IfErr, [], ◌∷◌, count_by};
-ghost use Rattle.call_journal.specs.Numbers.{AreNumbers, IsIllegal, is_call, is_notification, is_set_value, is_transfer, words_until};
+ghost use Rattle.call_journal.specs.Numbers.{AreNumbers, IsIllegal, is_call, is_found_reset, is_set_value, is_transfer, words_until};
 
 use gaspi_model::StepFault;
 use gaspi_texts::Journal;
@@ -30,14 +30,14 @@ impl Numbers4 {
         requires notifications { self.old.notifications + 1 < 2 ^ 64 }
         ensures calls { self.new.calls ≡ self.old.calls + count_by is_call (event.now ∷ []) }
         ensures transfers { self.new.transfers ≡ self.old.transfers + count_by is_transfer (event.now ∷ []) }
-        ensures notifications { self.new.notifications ≡ self.old.notifications + count_by is_notification (event.now ∷ []) }
+        ensures notifications { self.new.notifications ≡ self.old.notifications + count_by is_found_reset (event.now ∷ []) }
     {
         match event {
             Event::Called(..) => self.calls += 1,
             Event::Joined(..) => {}
             Event::Take(..) | Event::Put(..) => self.transfers += 1,
         }
-        if is_notification(event) {
+        if is_found_reset(event) {
             self.notifications += 1;
         }
     }
@@ -54,8 +54,8 @@ fn is_set_value(reply: &Reply) -> bool
 }
 
 /// Whether an event is a reset that found its notification set. (GASPI: notify_reset)
-fn is_notification(event: &Event) -> bool
-    ensures { result ≡ is_notification event.now }
+fn is_found_reset(event: &Event) -> bool
+    ensures { result ≡ is_found_reset event.now }
 {
     match event {
         Event::Called(_, Call::Reset(_), reply) => is_set_value(reply),

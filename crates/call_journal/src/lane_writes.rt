@@ -8,7 +8,7 @@ ghost use Rattle.gaspi_types.specs.World.{ShapeValue, IsShape};
 ghost use Rattle.call_journal.specs.LaneWrites.{writes_in, posts_notification, post_of, goes_to, entries_in, writes_to, is_notification_of, put_in, put_of, put_at, with_put, new_writes, writes_after, arrived, arrived_one};
 ghost use Rattle.call_journal.specs.Tracked.{IsTracked, Rise};
 
-use crate::answers::ArrivedWrite;
+use crate::answers::CoveredWrite;
 use gaspi_texts::Journal;
 use gaspi_types::{Call, Event, NoMemory, Outcome, Posting, QueueId, RankId, Reply, Sequence};
 use std::alloc::Global;
@@ -268,13 +268,13 @@ pub fn arrived(
     alloc: Global,
     writes: &[LaneWrite],
     number: u32,
-) -> Result<Sequence<ArrivedWrite>, NoMemory>
+) -> Result<Sequence<CoveredWrite>, NoMemory>
     ensures { IfOk result (λ list. list ≡ arrived number writes.now) }
 {
     let mut list = Sequence::new(alloc);
     for write in writes {
         match write.put {
-            Some(put) if write.number < number => list.push(ArrivedWrite {
+            Some(put) if write.number < number => list.push(CoveredWrite {
                 post: write.post,
                 number: write.number,
                 put,

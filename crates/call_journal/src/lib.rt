@@ -11,7 +11,7 @@ mod own_calls;
 mod transcripts;
 mod verdicts;
 
-pub use answers::{ArrivedWrite, WhyAnswer};
+pub use answers::{CoveredWrite, Explanation};
 pub use bench_laws::{bench_calls, bench_notifications, bench_transfers, bench_words};
 pub use explanations::why;
 pub use journal_numbers::{Numbers4, bench_numbers};

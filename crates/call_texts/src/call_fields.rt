@@ -16,7 +16,7 @@ use gaspi_types::{
 };
 use std::alloc::Global;
 
-pub(crate) fn take_alloc(fields: &mut FieldWords) -> Option<Call>
+pub(crate) fn read_alloc_call(fields: &mut FieldWords) -> Option<Call>
     ensures { option_map (λ call. (call, words_in fields.new)) result ≡ call_taken call_words.Alloc (words_in fields.old) }
 {
     Some(Call::Alloc(Alloc {
@@ -25,7 +25,7 @@ pub(crate) fn take_alloc(fields: &mut FieldWords) -> Option<Call>
     }))
 }
 
-pub(crate) fn take_register(fields: &mut FieldWords) -> Option<Call>
+pub(crate) fn read_register_call(fields: &mut FieldWords) -> Option<Call>
     ensures { option_map (λ call. (call, words_in fields.new)) result ≡ call_taken call_words.Register (words_in fields.old) }
 {
     Some(Call::Register(Register {
@@ -34,7 +34,7 @@ pub(crate) fn take_register(fields: &mut FieldWords) -> Option<Call>
     }))
 }
 
-pub(crate) fn take_delete(fields: &mut FieldWords) -> Option<Call>
+pub(crate) fn read_delete_call(fields: &mut FieldWords) -> Option<Call>
     ensures { option_map (λ call. (call, words_in fields.new)) result ≡ call_taken call_words.Delete (words_in fields.old) }
 {
     Some(Call::Delete(Delete {
@@ -42,7 +42,10 @@ pub(crate) fn take_delete(fields: &mut FieldWords) -> Option<Call>
     }))
 }
 
-pub(crate) fn take_store(alloc: Global, fields: &mut FieldWords) -> Result<Option<Call>, NoMemory>
+pub(crate) fn read_store_call(
+    alloc: Global,
+    fields: &mut FieldWords,
+) -> Result<Option<Call>, NoMemory>
     ensures { IfOk result (λ call. option_map (λ c. (c, words_in fields.new)) call ≡ call_taken call_words.Store (words_in fields.old)) }
 {
     let Some(seg) = fields.number() else {
@@ -57,7 +60,7 @@ pub(crate) fn take_store(alloc: Global, fields: &mut FieldWords) -> Result<Optio
     Ok(Some(Call::Store(Store { seg, offset, bytes })))
 }
 
-pub(crate) fn take_load(fields: &mut FieldWords) -> Option<Call>
+pub(crate) fn read_load_call(fields: &mut FieldWords) -> Option<Call>
     ensures { option_map (λ call. (call, words_in fields.new)) result ≡ call_taken call_words.Load (words_in fields.old) }
 {
     Some(Call::Load(Load {
@@ -67,7 +70,7 @@ pub(crate) fn take_load(fields: &mut FieldWords) -> Option<Call>
     }))
 }
 
-pub(crate) fn take_write(fields: &mut FieldWords) -> Option<Call>
+pub(crate) fn read_write_call(fields: &mut FieldWords) -> Option<Call>
     ensures { option_map (λ call. (call, words_in fields.new)) result ≡ call_taken call_words.Write (words_in fields.old) }
 {
     Some(Call::Write(Write {
@@ -81,7 +84,7 @@ pub(crate) fn take_write(fields: &mut FieldWords) -> Option<Call>
     }))
 }
 
-pub(crate) fn take_read(fields: &mut FieldWords) -> Option<Call>
+pub(crate) fn read_read_call(fields: &mut FieldWords) -> Option<Call>
     ensures { option_map (λ call. (call, words_in fields.new)) result ≡ call_taken call_words.Read (words_in fields.old) }
 {
     Some(Call::Read(Read {
@@ -95,7 +98,7 @@ pub(crate) fn take_read(fields: &mut FieldWords) -> Option<Call>
     }))
 }
 
-pub(crate) fn take_notify(fields: &mut FieldWords) -> Option<Call>
+pub(crate) fn read_notify_call(fields: &mut FieldWords) -> Option<Call>
     ensures { option_map (λ call. (call, words_in fields.new)) result ≡ call_taken call_words.Notify (words_in fields.old) }
 {
     Some(Call::Notify(Notify {
@@ -107,7 +110,7 @@ pub(crate) fn take_notify(fields: &mut FieldWords) -> Option<Call>
     }))
 }
 
-pub(crate) fn take_write_notify(fields: &mut FieldWords) -> Option<Call>
+pub(crate) fn read_write_notify_call(fields: &mut FieldWords) -> Option<Call>
     ensures { option_map (λ call. (call, words_in fields.new)) result ≡ call_taken call_words.WriteNotify (words_in fields.old) }
 {
     Some(Call::WriteNotify(WriteNotify {
@@ -123,7 +126,7 @@ pub(crate) fn take_write_notify(fields: &mut FieldWords) -> Option<Call>
     }))
 }
 
-pub(crate) fn take_read_notify(fields: &mut FieldWords) -> Option<Call>
+pub(crate) fn read_read_notify_call(fields: &mut FieldWords) -> Option<Call>
     ensures { option_map (λ call. (call, words_in fields.new)) result ≡ call_taken call_words.ReadNotify (words_in fields.old) }
 {
     Some(Call::ReadNotify(ReadNotify {
@@ -138,7 +141,7 @@ pub(crate) fn take_read_notify(fields: &mut FieldWords) -> Option<Call>
     }))
 }
 
-pub(crate) fn take_write_list(
+pub(crate) fn read_write_list_call(
     alloc: Global,
     fields: &mut FieldWords,
 ) -> Result<Option<Call>, NoMemory>
@@ -156,7 +159,7 @@ pub(crate) fn take_write_list(
     Ok(Some(Call::WriteList(WriteList { rank, queue, items })))
 }
 
-pub(crate) fn take_write_list_notify(
+pub(crate) fn read_write_list_notify_call(
     alloc: Global,
     fields: &mut FieldWords,
 ) -> Result<Option<Call>, NoMemory>
@@ -190,7 +193,7 @@ pub(crate) fn take_write_list_notify(
     })))
 }
 
-pub(crate) fn take_read_list(
+pub(crate) fn read_read_list_call(
     alloc: Global,
     fields: &mut FieldWords,
 ) -> Result<Option<Call>, NoMemory>
@@ -208,7 +211,7 @@ pub(crate) fn take_read_list(
     Ok(Some(Call::ReadList(ReadList { rank, queue, items })))
 }
 
-pub(crate) fn take_read_list_notify(
+pub(crate) fn read_read_list_notify_call(
     alloc: Global,
     fields: &mut FieldWords,
 ) -> Result<Option<Call>, NoMemory>
@@ -238,7 +241,7 @@ pub(crate) fn take_read_list_notify(
     })))
 }
 
-pub(crate) fn take_wait(fields: &mut FieldWords) -> Option<Call>
+pub(crate) fn read_wait_call(fields: &mut FieldWords) -> Option<Call>
     ensures { option_map (λ call. (call, words_in fields.new)) result ≡ call_taken call_words.Wait (words_in fields.old) }
 {
     Some(Call::Wait(Wait {
@@ -246,7 +249,7 @@ pub(crate) fn take_wait(fields: &mut FieldWords) -> Option<Call>
     }))
 }
 
-pub(crate) fn take_purge(fields: &mut FieldWords) -> Option<Call>
+pub(crate) fn read_purge_call(fields: &mut FieldWords) -> Option<Call>
     ensures { option_map (λ call. (call, words_in fields.new)) result ≡ call_taken call_words.Purge (words_in fields.old) }
 {
     Some(Call::Purge(Purge {
@@ -254,7 +257,7 @@ pub(crate) fn take_purge(fields: &mut FieldWords) -> Option<Call>
     }))
 }
 
-pub(crate) fn take_qsize(fields: &mut FieldWords) -> Option<Call>
+pub(crate) fn read_qsize_call(fields: &mut FieldWords) -> Option<Call>
     ensures { option_map (λ call. (call, words_in fields.new)) result ≡ call_taken call_words.Qsize (words_in fields.old) }
 {
     Some(Call::Qsize(Qsize {
@@ -262,7 +265,7 @@ pub(crate) fn take_qsize(fields: &mut FieldWords) -> Option<Call>
     }))
 }
 
-pub(crate) fn take_waitsome(fields: &mut FieldWords) -> Option<Call>
+pub(crate) fn read_waitsome_call(fields: &mut FieldWords) -> Option<Call>
     ensures { option_map (λ call. (call, words_in fields.new)) result ≡ call_taken call_words.Waitsome (words_in fields.old) }
 {
     Some(Call::Waitsome(Waitsome {
@@ -272,7 +275,7 @@ pub(crate) fn take_waitsome(fields: &mut FieldWords) -> Option<Call>
     }))
 }
 
-pub(crate) fn take_reset(fields: &mut FieldWords) -> Option<Call>
+pub(crate) fn read_reset_call(fields: &mut FieldWords) -> Option<Call>
     ensures { option_map (λ call. (call, words_in fields.new)) result ≡ call_taken call_words.Reset (words_in fields.old) }
 {
     Some(Call::Reset(Reset {
@@ -281,7 +284,7 @@ pub(crate) fn take_reset(fields: &mut FieldWords) -> Option<Call>
     }))
 }
 
-pub(crate) fn take_passive_send(fields: &mut FieldWords) -> Option<Call>
+pub(crate) fn read_passive_send_call(fields: &mut FieldWords) -> Option<Call>
     ensures { option_map (λ call. (call, words_in fields.new)) result ≡ call_taken call_words.PassiveSend (words_in fields.old) }
 {
     Some(Call::PassiveSend(PassiveSend {
@@ -292,7 +295,7 @@ pub(crate) fn take_passive_send(fields: &mut FieldWords) -> Option<Call>
     }))
 }
 
-pub(crate) fn take_passive_receive(fields: &mut FieldWords) -> Option<Call>
+pub(crate) fn read_passive_receive_call(fields: &mut FieldWords) -> Option<Call>
     ensures { option_map (λ call. (call, words_in fields.new)) result ≡ call_taken call_words.PassiveReceive (words_in fields.old) }
 {
     Some(Call::PassiveReceive(PassiveReceive {
@@ -302,7 +305,7 @@ pub(crate) fn take_passive_receive(fields: &mut FieldWords) -> Option<Call>
     }))
 }
 
-pub(crate) fn take_fetch_add(fields: &mut FieldWords) -> Option<Call>
+pub(crate) fn read_fetch_add_call(fields: &mut FieldWords) -> Option<Call>
     ensures { option_map (λ call. (call, words_in fields.new)) result ≡ call_taken call_words.FetchAdd (words_in fields.old) }
 {
     Some(Call::FetchAdd(FetchAdd {
@@ -313,7 +316,7 @@ pub(crate) fn take_fetch_add(fields: &mut FieldWords) -> Option<Call>
     }))
 }
 
-pub(crate) fn take_compare_swap(fields: &mut FieldWords) -> Option<Call>
+pub(crate) fn read_compare_swap_call(fields: &mut FieldWords) -> Option<Call>
     ensures { option_map (λ call. (call, words_in fields.new)) result ≡ call_taken call_words.CompareSwap (words_in fields.old) }
 {
     Some(Call::CompareSwap(CompareSwap {
@@ -325,7 +328,7 @@ pub(crate) fn take_compare_swap(fields: &mut FieldWords) -> Option<Call>
     }))
 }
 
-pub(crate) fn take_group_add(fields: &mut FieldWords) -> Option<Call>
+pub(crate) fn read_group_add_call(fields: &mut FieldWords) -> Option<Call>
     ensures { option_map (λ call. (call, words_in fields.new)) result ≡ call_taken call_words.GroupAdd (words_in fields.old) }
 {
     Some(Call::GroupAdd(GroupAdd {
@@ -334,7 +337,7 @@ pub(crate) fn take_group_add(fields: &mut FieldWords) -> Option<Call>
     }))
 }
 
-pub(crate) fn take_group_delete(fields: &mut FieldWords) -> Option<Call>
+pub(crate) fn read_group_delete_call(fields: &mut FieldWords) -> Option<Call>
     ensures { option_map (λ call. (call, words_in fields.new)) result ≡ call_taken call_words.GroupDelete (words_in fields.old) }
 {
     Some(Call::GroupDelete(GroupDelete {
@@ -342,7 +345,7 @@ pub(crate) fn take_group_delete(fields: &mut FieldWords) -> Option<Call>
     }))
 }
 
-pub(crate) fn take_commit(fields: &mut FieldWords) -> Option<Call>
+pub(crate) fn read_commit_call(fields: &mut FieldWords) -> Option<Call>
     ensures { option_map (λ call. (call, words_in fields.new)) result ≡ call_taken call_words.Commit (words_in fields.old) }
 {
     Some(Call::Commit(Commit {
@@ -350,7 +353,7 @@ pub(crate) fn take_commit(fields: &mut FieldWords) -> Option<Call>
     }))
 }
 
-pub(crate) fn take_barrier(fields: &mut FieldWords) -> Option<Call>
+pub(crate) fn read_barrier_call(fields: &mut FieldWords) -> Option<Call>
     ensures { option_map (λ call. (call, words_in fields.new)) result ≡ call_taken call_words.Barrier (words_in fields.old) }
 {
     Some(Call::Barrier(Barrier {
@@ -358,7 +361,7 @@ pub(crate) fn take_barrier(fields: &mut FieldWords) -> Option<Call>
     }))
 }
 
-pub(crate) fn take_allreduce(
+pub(crate) fn read_allreduce_call(
     alloc: Global,
     fields: &mut FieldWords,
 ) -> Result<Option<Call>, NoMemory>
@@ -376,7 +379,7 @@ pub(crate) fn take_allreduce(
     Ok(Some(Call::Allreduce(Allreduce { group, op, values })))
 }
 
-pub(crate) fn take_create(fields: &mut FieldWords) -> Option<Call>
+pub(crate) fn read_create_call(fields: &mut FieldWords) -> Option<Call>
     ensures { option_map (λ call. (call, words_in fields.new)) result ≡ call_taken call_words.Create (words_in fields.old) }
 {
     Some(Call::Create(Create {

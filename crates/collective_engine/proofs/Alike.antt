@@ -20,15 +20,15 @@ module _ (given other : ℕ → Option Contribution) where
   made-alike [] all = refl
   made-alike (m ∷ xs) all = ap (λ (o : Option Contribution). record { rank = m; generation = generation_in o } ∷ made_by given xs) all.0 ∙ ap (λ (rest : List MemberSegment). record { rank = m; generation = generation_in (other m) } ∷ rest) (made-alike xs all.1)
 
-  pub fold-alike : (op : Op) (t : NumType) (total : List ℤ) (xs : List ℕ) → AllByRecursion (λ m. given m ≡ other m) xs → reduced_onto given op t total xs ≡ reduced_onto other op t total xs
-  fold-alike op t total [] all = refl
-  fold-alike op t total (m ∷ xs) all =
-      ap (λ (o : Option Contribution). reduced_onto given op t (combined op t total (values_in o)) xs) all.0 ∙ fold-alike op t (combined op t total (values_in (other m))) xs all.1
+  pub reduction_of-alike : (op : Op) (t : NumType) (total : List ℤ) (xs : List ℕ) → AllByRecursion (λ m. given m ≡ other m) xs → reduced_onto given op t total xs ≡ reduced_onto other op t total xs
+  reduction_of-alike op t total [] all = refl
+  reduction_of-alike op t total (m ∷ xs) all =
+      ap (λ (o : Option Contribution). reduced_onto given op t (combined op t total (values_in o)) xs) all.0 ∙ reduction_of-alike op t (combined op t total (values_in (other m))) xs all.1
 
-  pub folded-alike : (op : Op) (t : NumType) (xs : List ℕ) → AllByRecursion (λ m. given m ≡ other m) xs → reduced_values given op t xs ≡ reduced_values other op t xs
-  folded-alike op t [] all = refl
-  folded-alike op t (m ∷ xs) all =
-      ap (λ (o : Option Contribution). reduced_onto given op t (values_in o) xs) all.0 ∙ fold-alike op t (values_in (other m)) xs all.1
+  pub reduced-alike : (op : Op) (t : NumType) (xs : List ℕ) → AllByRecursion (λ m. given m ≡ other m) xs → reduced_values given op t xs ≡ reduced_values other op t xs
+  reduced-alike op t [] all = refl
+  reduced-alike op t (m ∷ xs) all =
+      ap (λ (o : Option Contribution). reduced_onto given op t (values_in o) xs) all.0 ∙ reduction_of-alike op t (values_in (other m)) xs all.1
 
   -- it is enough for being full that the same have given
   pub full-counted : (xs : List ℕ) → AllByRecursion (λ m. is_some (given m) ≡ is_some (other m)) xs → is_full given xs ≡ is_full other xs

@@ -19,13 +19,13 @@ use Rattle.gaspi_types.specs.declared.replies.Refusal.{Refusal}
 use Rattle.gaspi_model.specs.RoundRules.{coll_in}
 use Rattle.collective_engine.specs.Rounds.{round_buffers, IsRounds}
 use Rattle.collective_engine.specs.KeptContributions.{HasItsValues, GivesNumbers}
-use Rattle.collective_engine.specs.RoundBuffers.{RoundBuffers, ranks_of, is_in, IsMember, joined_by, completed_by, buffer_of, contribution_by, with_contribution, with_round_completed, is_full_for, may_join, StandsFor}
+use Rattle.collective_engine.specs.RoundBuffers.{RoundBuffers, ranks_of, is_in, IsMember, joined_by, completed_by, buffer_of, contribution_by, with_contribution, with_round_completed, is_full_for, may_join, Represents}
 use Rattle.collective_engine.specs.declared.buffers.Buffers.{Buffers}
 use Rattle.collective_engine.specs.declared.rounds.Rounds.TheInside.{Inside}
 use Rattle.collective_engine.proofs.Alike.{full-counted}
 use Rattle.collective_engine.proofs.Giving.{less, not_less, slot}
 use Rattle.collective_engine.proofs.Members.{all_members, each_member, all_tested}
-use Rattle.collective_engine.proofs.StandsFor.{members-same, first-stands, made-stands, fold-stands, stands-joined, stands-left}
+use Rattle.collective_engine.proofs.Represents.{members-same, first-stands, made-stands, reduction_of-stands, stands-joined, stands-left}
 use Rattle.collective_engine.proofs.RoundSteps.{was_member, full_for, rounds-given, rounds-left}
 
 -- who has given, by the counts
@@ -49,8 +49,8 @@ parts_of one a b h =
     (second.0, eqb-true a b second.1, ltb-true a 4294967295 first.1)
 
 module _ (r : Inside) (now : RoundBuffers) (view : round_buffers r ≡ now) (ok : IsRounds r) (rank : ℕ) (below : rank < 16) where
-  standing : (g : Group) → StandsFor g now → StandsFor g (round_buffers r)
-  standing g stands = subst (λ (t : RoundBuffers). StandsFor g t) (sym view) stands
+  standing : (g : Group) → Represents g now → Represents g (round_buffers r)
+  standing g stands = subst (λ (t : RoundBuffers). Represents g t) (sym view) stands
 
   pub may : (coll : Coll) → may_join now rank coll ≡ true → (is_in (fixed_by r.members coll) rank ≡ true) × (joined_by r.buffers rank ≡ completed_by r.buffers rank) × (joined_by r.buffers rank < 4294967295)
   may coll yes_it_may = parts_of (is_in (fixed_by r.members coll) rank) (joined_by r.buffers rank) (completed_by r.buffers rank) (subst (λ (t : RoundBuffers). may_join t rank coll ≡ true) (sym view) yes_it_may)
@@ -62,17 +62,17 @@ module _ (r : Inside) (now : RoundBuffers) (view : round_buffers r ≡ now) (ok 
   full_in full = subst (λ (t : RoundBuffers). is_full_for t rank ≡ true) (sym view) full
 
   pub checks : (coll : Coll) (result : Result (Unit {0}) Refusal) (ranks : List ℕ) → may_join now rank coll ≡ true → ranks ≡ r.ranks
-      → result ≡ fits (first_contribution (contribution_by r.buffers (completed_by r.buffers rank)) ranks) coll → (g : Group) → StandsFor g now → result ≡ round_checks g rank coll
+      → result ≡ fits (first_contribution (contribution_by r.buffers (completed_by r.buffers rank)) ranks) coll → (g : Group) → Represents g now → result ≡ round_checks g rank coll
   checks coll result ranks mine same is g stands =
       let one = first-stands g (round_buffers r) rank ok.rounds (standing g stands) below (was_member r.members coll rank (may coll mine).0) in
       let all = same ∙ ok.ranks in
       is ∙ ap (λ (o : Option Contribution). fits o coll) (rw all (sym one))
 
   pub fulls : (result : Bool) (ranks : List ℕ) → ranks ≡ r.ranks → result ≡ is_full (contribution_by r.buffers (completed_by r.buffers rank)) ranks
-      → (g : Group) → StandsFor g now → result ≡ is_round_full g rank
+      → (g : Group) → Represents g now → result ≡ is_round_full g rank
   fulls result ranks same is g stands = is ∙ (let all = same ∙ ok.ranks in rw all (sym there))
     where
-      here : StandsFor g (round_buffers r)
+      here : Represents g (round_buffers r)
       here = standing g stands
 
       one : (m : ℕ) → IsMember r.members m → is_some (contribution_in g (completed_by r.buffers rank) m) ≡ is_some (contribution_by r.buffers (completed_by r.buffers rank) m)
@@ -91,7 +91,7 @@ module _ (r : Inside) (now : RoundBuffers) (view : round_buffers r ≡ now) (ok 
           (all_members r.members (λ m. is_some (contribution_in g (completed_by r.buffers rank) m) ≡ is_some (contribution_by r.buffers (completed_by r.buffers rank) m)) one))
 
   pub makes : (result : List MemberSegment) (ranks : List ℕ) → is_in now.members rank ≡ true → ranks ≡ r.ranks
-      → result ≡ made_by (contribution_by r.buffers (completed_by r.buffers rank)) ranks → (g : Group) → StandsFor g now → result ≡ round_segments g rank
+      → result ≡ made_by (contribution_by r.buffers (completed_by r.buffers rank)) ranks → (g : Group) → Represents g now → result ≡ round_segments g rank
   makes result ranks mine same is g stands =
       let one = made-stands g (round_buffers r) rank ok.rounds (standing g stands) below (λ m its. member mine) in
       let all = same ∙ ok.ranks in
@@ -131,8 +131,8 @@ module _ (r : Inside) (now : RoundBuffers) (view : round_buffers r ≡ now) (ok 
   pub folds : (result : TypedNumbers) (ranks : List ℕ) (own : Option Coll) (op : Op) (t : NumType) (n : ℕ) → is_in now.members rank ≡ true → ranks ≡ r.ranks
       → own ≡ coll_in (contribution_by r.buffers (completed_by r.buffers rank) rank) → own ≡ Some (Allreduce op t n)
       → result ≡ reduction_of (contribution_by r.buffers (completed_by r.buffers rank)) op t ranks
-      → (g : Group) (op' : Op) (t' : NumType) (n' : ℕ) → StandsFor g now → coll_in (contribution_in g (round_of g rank) rank) ≡ Some (Allreduce op' t' n') → result ≡ round_reduction g rank op' t'
-  folds result ranks own op t n mine same is coll folded g op' t' n' stands there =
+      → (g : Group) (op' : Op) (t' : NumType) (n' : ℕ) → Represents g now → coll_in (contribution_in g (round_of g rank) rank) ≡ Some (Allreduce op' t' n') → result ≡ round_reduction g rank op' t'
+  folds result ranks own op t n mine same is coll reduced g op' t' n' stands there =
       let here = standing g stands in
       let round = here.completed rank in
       let greatest = ok.rounds.close.greatest rank in
@@ -141,9 +141,9 @@ module _ (r : Inside) (now : RoundBuffers) (view : round_buffers r ≡ now) (ok 
       let alike : ◌≡◌ {A = Option Coll} (Some (Allreduce op t n)) (Some (Allreduce op' t' n')) = sym coll ∙ is ∙ sym (ap coll_in given) ∙ given_there in
       let ops : op ≡ op' = cc in
       let types : t ≡ t' = cc in
-      let one = fold-stands g (round_buffers r) rank ok.rounds here below (λ m its. member mine) op' t' in
+      let one = reduction_of-stands g (round_buffers r) rank ok.rounds here below (λ m its. member mine) op' t' in
       let all = same ∙ ok.ranks in
-      folded ∙ (rw (all, ops, types) (sym one))
+      reduced ∙ (rw (all, ops, types) (sym one))
 
   pub joined-one : is_in now.members rank ≡ true → is_full_for now rank ≡ true → joined_by r.buffers rank ≡ completed_by r.buffers rank + 1
   joined-one mine full =
@@ -155,7 +155,7 @@ module _ (r : Inside) (now : RoundBuffers) (view : round_buffers r ≡ now) (ok 
   leaves b mine full is = rw is (record { ranks = ok.ranks; rounds = rounds-left r.members r.buffers rank ok.rounds below (member mine) (full_in full) })
 
   pub left-stands : (b : Buffers) → is_in now.members rank ≡ true → is_full_for now rank ≡ true → b ≡ with_round_completed r.buffers rank
-      → (g : Group) → StandsFor g now → StandsFor (with_completed g rank) (record { members = r.members; buffers = b })
+      → (g : Group) → Represents g now → Represents (with_completed g rank) (record { members = r.members; buffers = b })
   left-stands b mine full is g stands =
       rw is (stands-left g (round_buffers r) rank ok.rounds (standing g stands) below (member mine) (full_in full) (full_for r.members r.buffers (completed_by r.buffers rank) (full_in full) rank (below, member mine)))
 
@@ -171,5 +171,5 @@ module _ (r : Inside) (now : RoundBuffers) (view : round_buffers r ≡ now) (ok 
       })
 
   pub joined-stands : (c : Contribution) (members : Option ℕ) (b : Buffers) → members ≡ fixed_by r.members c.args.coll → b ≡ with_contribution r.buffers rank c
-      → (g : Group) → StandsFor g now → rank < length g.contributions → StandsFor (with_joined g rank c) (record { members = members; buffers = b })
+      → (g : Group) → Represents g now → rank < length g.contributions → Represents (with_joined g rank c) (record { members = members; buffers = b })
   joined-stands c members b fixed given g stands within = rw (given, fixed) (stands-joined g (round_buffers r) rank c ok.rounds (standing g stands) below within)

@@ -3,5 +3,5 @@ pub mod Answering
 pub mod Giving
 pub mod Members
 pub mod Opening
-pub mod StandsFor
+pub mod Represents
 pub mod RoundSteps

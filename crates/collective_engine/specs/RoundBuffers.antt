@@ -82,7 +82,7 @@ pub record AreRoundBuffers (members : Option ℕ) (b : Buffers) : Type 0 where
   pub agree : AreSameCollective members b
 
 -- The buffers stand for a group: its members and counts are theirs, and so is what each rank has given to its last two rounds.
-pub record StandsFor (g : Group) (t : RoundBuffers) : Type 0 where
+pub record Represents (g : Group) (t : RoundBuffers) : Type 0 where
   pub members : g.members ≡ t.members
   pub joined : (rank : ℕ) → length (contributions_of g rank).contributions ≡ joined_by t.buffers rank
   pub completed : (rank : ℕ) → (contributions_of g rank).completed ≡ completed_by t.buffers rank

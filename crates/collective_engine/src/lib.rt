@@ -8,10 +8,10 @@
 #![tactic(auto)]
 
 mod buffers;
-mod folding;
 mod generations;
 mod kept_contributions;
 mod reading;
+mod reductions;
 mod rounds;
 
 pub use gaspi_model::{check_count, check_type};

@@ -10,9 +10,9 @@ ghost use Rattle.gaspi_model.specs.RoundRules.{coll_in};
 ghost use Rattle.collective_engine.specs.RoundBuffers.{ranks_of};
 
 use crate::buffers::{Buffers, contribute, counts, leave, opening};
-use crate::folding::fold;
 use crate::generations::Generations;
 use crate::reading::{check, generations, is_full, own_coll};
+use crate::reductions::reduction_of;
 use gaspi_model::{Members, members_of};
 use gaspi_types::{Args, Coll, NoMemory, Numbers, RankId, Refusal, Sequence, is_member};
 use std::alloc::Global;
@@ -61,12 +61,12 @@ fn fix(members: &mut Option<u32>, ranks: &mut Members, coll: Coll)
 
 impl Rounds {
     ghost use Rattle.collective_engine.specs.KeptContributions.{HasItsValues, elements_of, TakesFold};
-    ghost use Rattle.collective_engine.specs.RoundBuffers.{is_in, may_join, own_contribution, is_full_for, StandsFor, IsOpening};
+    ghost use Rattle.collective_engine.specs.RoundBuffers.{is_in, may_join, own_contribution, is_full_for, Represents, IsOpening};
 
     /// A group that no rank has joined. Of group 0 the members are told, bit r for rank r; of another they are fixed by its first
     /// join. All memory is taken here. (GASPI: groups)
     pub fn new(alloc: Global, members: Option<u32>) -> Result<Rounds, NoMemory>
-        ensures { IfOk result (λ rounds. (g : Group) → IsOpening g members → StandsFor g rounds) }
+        ensures { IfOk result (λ rounds. (g : Group) → IsOpening g members → Represents g rounds) }
     {
         Ok(Rounds {
             members,
@@ -79,7 +79,7 @@ impl Rounds {
     /// join, as `may_join` tells. (GASPI: collectives)
     pub fn fits(&self, rank: RankId, args: &Args) -> Result<(), Refusal>
         requires { may_join self.now rank args.now.coll ≡ true }
-        ensures { (g : Group) → StandsFor g self.now → result ≡ round_checks g rank args.now.coll }
+        ensures { (g : Group) → Represents g self.now → result ≡ round_checks g rank args.now.coll }
     {
         check(&self.buffers, self.ranks.ranks(), rank.index(), args.coll)
     }
@@ -91,9 +91,9 @@ impl Rounds {
     pub fn join(&mut self, rank: RankId, args: &Args, generation: u32) -> Result<(), Refusal>
         requires rank { may_join self.old rank args.now.coll ≡ true }
         requires values { HasItsValues args.now }
-        ensures answer { (g : Group) → StandsFor g self.old → result ≡ round_checks g rank args.now.coll }
-        ensures joined { OnOk result ((g : Group) → StandsFor g self.old → rank < length g.contributions
-            → StandsFor (with_joined g rank (record { args = args.now; generation = generation })) self.new) }
+        ensures answer { (g : Group) → Represents g self.old → result ≡ round_checks g rank args.now.coll }
+        ensures joined { OnOk result ((g : Group) → Represents g self.old → rank < length g.contributions
+            → Represents (with_joined g rank (record { args = args.now; generation = generation })) self.new) }
         ensures refused { OnErr result (self.new ≡ self.old) }
     {
         let place = rank.index();
@@ -128,8 +128,8 @@ impl Rounds {
     /// Whether every member has joined the round of a rank, the first that it has not left. (GASPI: collectives)
     pub fn full(&self, rank: RankId) -> bool
         ensures value { result ≡ is_full_for self.now rank }
-        ensures group { (g : Group) → StandsFor g self.now → result ≡ is_round_full g rank }
-        ensures own { (g : Group) → StandsFor g self.now → contribution_in g (round_of g rank) rank ≡ own_contribution self.now rank }
+        ensures group { (g : Group) → Represents g self.now → result ≡ is_round_full g rank }
+        ensures own { (g : Group) → Represents g self.now → contribution_in g (round_of g rank) rank ≡ own_contribution self.now rank }
     {
         let round = self.buffers.completed[rank.index()];
         is_full(&self.buffers, round, self.ranks.ranks())
@@ -153,14 +153,14 @@ impl Rounds {
         requires full { is_full_for self.now rank ≡ true }
         requires reserved { TakesFold (elements_of (coll_in (own_contribution self.now rank))) (length reserved) }
         ensures fits { length result.items ≤ length reserved }
-        ensures numbers { (g : Group) (op : Op) (t : NumType) (n : ℕ) → StandsFor g self.now
+        ensures numbers { (g : Group) (op : Op) (t : NumType) (n : ℕ) → Represents g self.now
             → coll_in (contribution_in g (round_of g rank) rank) ≡ Some (Allreduce op t n) → result ≡ round_reduction g rank op t }
     {
         let round = self.buffers.completed[rank.index()];
         match own_coll(&self.buffers, rank) {
             Some(Coll::Allreduce(op, num_type, count)) => {
                 let members = self.ranks.ranks();
-                fold(&self.buffers, round, op, num_type, count, reserved, members)
+                reduction_of(&self.buffers, round, op, num_type, count, reserved, members)
             }
             _ => unreachable!(),
         }
@@ -170,7 +170,7 @@ impl Rounds {
     /// (GASPI: segment_create)
     pub fn generations(&self, rank: RankId) -> Generations
         requires { is_in self.now.members rank ≡ true }
-        ensures { (g : Group) → StandsFor g self.now → result ≡ round_segments g rank }
+        ensures { (g : Group) → Represents g self.now → result ≡ round_segments g rank }
     {
         let round = self.buffers.completed[rank.index()];
         generations(&self.buffers, round, self.ranks.ranks())
@@ -180,7 +180,7 @@ impl Rounds {
     pub fn leave(&mut self, rank: RankId)
         requires member { is_in self.old.members rank ≡ true }
         requires full { is_full_for self.old rank ≡ true }
-        ensures { (g : Group) → StandsFor g self.old → StandsFor (with_completed g rank) self.new }
+        ensures { (g : Group) → Represents g self.old → Represents (with_completed g rank) self.new }
     {
         leave(&mut self.buffers, rank.index());
     }

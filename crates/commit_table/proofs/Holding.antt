@@ -20,7 +20,7 @@ use Rattle.commit_table.specs.Rule.{Free, Held, IsShard, ViewFits, Rule}
 use Rattle.commit_table.specs.Calls.{word_of, slot_of, HasSoundView, MissWitness}
 use Rattle.commit_table.specs.Steps.{Of, TakesShard, FetchesSlot, takes, returns_slot, fetches_slot, frees_word}
 use Rattle.commit_table.proofs.Lists.{prefix_self, at_here, one_there, held_here, held_else}
-use Rattle.commit_table.proofs.LockHistories.{own_lock_records, lock_record_made, lock_record_missed, locks_kept}
+use Rattle.commit_table.proofs.LockHistories.{own_lock_operations, lock_record_made, lock_record_missed, locks_kept}
 use Rattle.commit_table.proofs.Moves.{with_view, still_with, moved, updated, updated_here, updated_else}
 
 module _ {S X E : Type 0} (of : S → Machine X E) (laws : (s : S) → Laws (of s)) (start : S) (n : ℕ) where
@@ -127,7 +127,7 @@ module _ {S X E : Type 0} (of : S → Machine X E) (laws : (s : S) → Laws (of 
         before = r.lock_history;
         first = λ q its. let same : p ≡ q = cc in ap (λ (z : ℕ). let t : LockRecord = record { shard = i; party = z; op = lock_op.Missed } in t ∷ r.lock_history) same;
         goes_on = r.locks.met id (at_rest v) at;
-        own = λ q its. own_lock_records s.views r.lock_history q id (at_rest v) at refl refl (r.seat q) (f.party q its).1 (r.locks.parties q);
+        own = λ q its. own_lock_operations s.views r.lock_history q id (at_rest v) at refl refl (r.seat q) (f.party q its).1 (r.locks.parties q);
         other = other.1;
         holds = other.4;
         apart = λ its.

@@ -21,8 +21,8 @@ use Rattle.commit_table.specs.Rule.{Free, Held, IsShard, RemembersParty, Account
 use Rattle.commit_table.specs.Calls.{word_of, slot_of, spread, AreShards, Closed, PassValue}
 use Rattle.commit_table.specs.Steps.{EndsTable, opens_closer, looks_last}
 use Rattle.commit_table.proofs.Lists.{prefix_self, prefix_none, prefix_trans, prefix_length, events_between, at_here, one_there, at_end, found_there, get_some, some_get, spread_at, map_more}
-use Rattle.commit_table.specs.LockHistory.{lock_records_by, Extends, AreLockRecords}
-use Rattle.commit_table.proofs.LockHistories.{none_before, own_lock_records, unmade_lock_records, holders_kept, holders_grown, lock_records_kept, lock_records_grown, locks_kept, locks_grown}
+use Rattle.commit_table.specs.LockHistory.{lock_operations_by, Extends, AreLockOperations}
+use Rattle.commit_table.proofs.LockHistories.{none_before, own_lock_operations, unmade_lock_records, holders_kept, holders_grown, lock_records_kept, lock_records_grown, locks_kept, locks_grown}
 use Rattle.commit_table.proofs.Seen.{longer_begins, first_begins, second_begins, shorter_begins, first_whole, second_whole}
 use Rattle.commit_table.proofs.Moves.{with_view, shard_kept, party_kept, whole_kept, still, updated, updated_here, updated_else}
 use Rattle.commit_table.proofs.Holding.{rest_fits}
@@ -197,9 +197,9 @@ module _ {S X E : Type 0} (of : S → Machine X E) (laws : (s : S) → Laws (of 
         locks = record {
           holders = λ i below. holders_grown (set s.views id left) r.lock_history i right (r.holder i) (holders_kept s.views r.lock_history i id v left at (r.holder i) (λ e p its. absurd cc) (r.locks.holders i below));
           parties = λ p. dite (ℕ_discrete p k)
-              (λ same. subst (λ o. AreLockRecords (set s.views id left ++ right ∷ []) r.lock_history p o) (sym (updated_here M start n r.seat k p (Some new) same))
-              (right, at_last (set s.views id left) right new refl, inl (ap Some (sym same), ap (λ z. lock_records_by z r.lock_history) same ∙ unmade_lock_records s.views r.lock_history k id v at refl refl (r.seat k) mine.1 (r.locks.parties k))))
-              (λ ne. subst (λ o. AreLockRecords (set s.views id left ++ right ∷ []) r.lock_history p o) (sym (updated_else M start n r.seat k p (Some new) ne))
+              (λ same. subst (λ o. AreLockOperations (set s.views id left ++ right ∷ []) r.lock_history p o) (sym (updated_here M start n r.seat k p (Some new) same))
+              (right, at_last (set s.views id left) right new refl, inl (ap Some (sym same), ap (λ z. lock_operations_by z r.lock_history) same ∙ unmade_lock_records s.views r.lock_history k id v at refl refl (r.seat k) mine.1 (r.locks.parties k))))
+              (λ ne. subst (λ o. AreLockOperations (set s.views id left ++ right ∷ []) r.lock_history p o) (sym (updated_else M start n r.seat k p (Some new) ne))
               (lock_records_grown (set s.views id left) r.lock_history p right (r.seat p) (lock_records_kept s.views r.lock_history r.lock_history p id v left at (r.seat p)
               (λ e a. ⊎_elim (λ x. absurd (let its = x.0 in cc)) (λ x. ⊎_elim (λ y. inr (inl (let z = y.0 in omega arith, y.1, y.2))) (λ y. absurd (let on = y.0 in cc)) x) a) refl (r.locks.parties p))));
           met = λ j u there. ⊎_elim
@@ -335,9 +335,9 @@ module _ {S X E : Type 0} (of : S → Machine X E) (laws : (s : S) → Laws (of 
           holders = λ i lt. holders_kept (set s.views id both) r.lock_history i other (at_rest w) joined_seat there (r.holder i) (λ e q its. absurd (unheld_by s r other (at_rest w) was i lt (bare i) e))
               (holders_kept s.views r.lock_history i id v both at (r.holder i) (λ e q its. absurd cc) (r.locks.holders i lt));
           parties = λ q. dite (ℕ_discrete q p)
-              (λ is. subst (λ o. AreLockRecords two.views r.lock_history q o) (sym (updated_here M start n r.seat p q (Some id) is))
-              (both, stays, inr (inr (refl, length l, w, at_last l w (length l) refl, party ∙ ap Some (sym is), ap (λ z. lock_records_by z r.lock_history) is ∙ own_lock_records s.views r.lock_history p other (at_rest w) was refl refl (r.seat p) own.1 (r.locks.parties p)))))
-              (λ ne. subst (λ o. AreLockRecords two.views r.lock_history q o) (sym (updated_else M start n r.seat p q (Some id) ne))
+              (λ is. subst (λ o. AreLockOperations two.views r.lock_history q o) (sym (updated_here M start n r.seat p q (Some id) is))
+              (both, stays, inr (inr (refl, length l, w, at_last l w (length l) refl, party ∙ ap Some (sym is), ap (λ z. lock_operations_by z r.lock_history) is ∙ own_lock_operations s.views r.lock_history p other (at_rest w) was refl refl (r.seat p) own.1 (r.locks.parties p)))))
+              (λ ne. subst (λ o. AreLockOperations two.views r.lock_history q o) (sym (updated_else M start n r.seat p q (Some id) ne))
               (lock_records_kept (set s.views id both) r.lock_history r.lock_history q other (at_rest w) joined_seat there (r.seat q)
               (λ e a. absurd (⊎_elim (λ x. ne (let its = x.0 in cc)) (λ x. ⊎_elim (λ y. let lt = y.1 in omega arith) (λ y. let on = y.0 in cc) x) a)) refl
               (lock_records_kept s.views r.lock_history r.lock_history q id v both at (r.seat q)
@@ -410,9 +410,9 @@ module _ {S X E : Type 0} (of : S → Machine X E) (laws : (s : S) → Laws (of 
   party_first ws xs p (yes lt) = subst (λ b. IsParty M start n (opening ws xs (splitting_seat start 0 n)) [] p (cond b (Some 0) None)) (sym (lt-ltb p n lt)) (splitting_seat start 0 n, refl, inr (inl (omega arith, lt)))
   party_first ws xs p (no over) = subst (λ b. IsParty M start n (opening ws xs (splitting_seat start 0 n)) [] p (cond b (Some 0) None)) (sym (le-ltb p n (omega arith))) refl
 
-  lock_records_first : (p : ℕ) → Dec (p < n) → AreLockRecords {S = S} {E = E} (splitting_seat start 0 n ∷ []) [] p (cond (ltb p n) (Some 0) None)
-  lock_records_first p (yes lt) = subst (λ b. AreLockRecords {S = S} {E = E} (splitting_seat start 0 n ∷ []) [] p (cond b (Some 0) None)) (sym (lt-ltb p n lt)) (splitting_seat start 0 n, refl, inr (inl (omega arith, lt, refl)))
-  lock_records_first p (no over) = subst (λ b. AreLockRecords {S = S} {E = E} (splitting_seat start 0 n ∷ []) [] p (cond b (Some 0) None)) (sym (le-ltb p n (omega arith))) refl
+  lock_records_first : (p : ℕ) → Dec (p < n) → AreLockOperations {S = S} {E = E} (splitting_seat start 0 n ∷ []) [] p (cond (ltb p n) (Some 0) None)
+  lock_records_first p (yes lt) = subst (λ b. AreLockOperations {S = S} {E = E} (splitting_seat start 0 n ∷ []) [] p (cond b (Some 0) None)) (sym (lt-ltb p n lt)) (splitting_seat start 0 n, refl, inr (inl (omega arith, lt, refl)))
+  lock_records_first p (no over) = subst (λ b. AreLockOperations {S = S} {E = E} (splitting_seat start 0 n ∷ []) [] p (cond b (Some 0) None)) (sym (le-ltb p n (omega arith))) refl
 
   lock_history_first : (id : ℕ) (v : V) → get_elem? (splitting_seat start 0 n ∷ []) id ≡ some v → Extends v.known.lock_history []
   lock_history_first zero v there = subst (λ (z : V). Extends z.known.lock_history []) (some-injective (splitting_seat start 0 n) v there) (none_before [])

@@ -9,7 +9,7 @@ use Rattle.commit_table.specs.declared.views.LockRecord.{LockRecord}
 use Rattle.commit_table.specs.declared.views.LockOp.{LockOp}
 use Rattle.commit_table.specs.declared.views.LockOp.TheVariants.{Took, GaveBack, Missed}
 use Rattle.commit_table.specs.declared.views.SeatView.{SeatView}
-use Rattle.commit_table.specs.LockHistory.{holder_by, holder_in, lock_records_by, Extends, HolderAgrees, KnowsLockRecords, AreLockRecords, LocksAgree}
+use Rattle.commit_table.specs.LockHistory.{holder_by, holder_in, lock_operations_by, Extends, HolderAgrees, KnowsLockRecords, AreLockOperations, LocksAgree}
 use Rattle.commit_table.proofs.Lists.{at_here, one_there, at_end}
 
 pub none_before : (records : List LockRecord) → Extends [] records
@@ -52,11 +52,11 @@ module _ {S E : Type 0} where
   holders_grown views records i u None r = r
   holders_grown views records i u (Some k) r = (r.0, r.1, at_longer views (u ∷ []) k r.0 r.2, r.3, r.4)
 
-  recalls_same : (records more : List LockRecord) (p : ℕ) (v : SeatView S E) → lock_records_by p more ≡ lock_records_by p records → KnowsLockRecords records v p → KnowsLockRecords more v p
+  recalls_same : (records more : List LockRecord) (p : ℕ) (v : SeatView S E) → lock_operations_by p more ≡ lock_operations_by p records → KnowsLockRecords records v p → KnowsLockRecords more v p
   recalls_same records more p v e a = ⊎_elim (λ x. inl (x.0, e ∙ x.1)) (λ x. ⊎_elim (λ y. inr (inl (y.0, y.1, e ∙ y.2))) (λ y. inr (inr (y.0, y.1, y.2, y.3, y.4, e ∙ y.5))) x) a
 
   pub lock_records_kept : (views : List (SeatView S E)) (records more : List LockRecord) (p id : ℕ) (v w : SeatView S E) → get_elem? views id ≡ some v → (o : Option ℕ)
-      → (o ≡ Some id → KnowsLockRecords records v p → KnowsLockRecords more w p) → lock_records_by p more ≡ lock_records_by p records → AreLockRecords views records p o → AreLockRecords (set views id w) more p o
+      → (o ≡ Some id → KnowsLockRecords records v p → KnowsLockRecords more w p) → lock_operations_by p more ≡ lock_operations_by p records → AreLockOperations views records p o → AreLockOperations (set views id w) more p o
   lock_records_kept views records more p id v w at None change same r = same ∙ r
   lock_records_kept views records more p id v w at (Some k) change same r = dite (ℕ_discrete k id)
       (λ is.
@@ -64,7 +64,7 @@ module _ {S E : Type 0} where
       (w, subst (λ (z : ℕ). get_elem? (set views id w) z ≡ some w) (sym is) (at_here views id w v at), change (ap Some is) (subst (λ (z : SeatView S E). KnowsLockRecords records z p) (sym be) r.2)))
       (λ ne. (r.0, set_else views id k w ne ∙ r.1, recalls_same records more p r.0 same r.2))
 
-  pub lock_records_grown : (views : List (SeatView S E)) (records : List LockRecord) (p : ℕ) (u : SeatView S E) (o : Option ℕ) → AreLockRecords views records p o → AreLockRecords (views ++ u ∷ []) records p o
+  pub lock_records_grown : (views : List (SeatView S E)) (records : List LockRecord) (p : ℕ) (u : SeatView S E) (o : Option ℕ) → AreLockOperations views records p o → AreLockOperations (views ++ u ∷ []) records p o
   lock_records_grown views records p u None r = r
   lock_records_grown views records p u (Some k) r = (r.0, at_longer views (u ∷ []) k r.0 r.1, r.2)
 
@@ -87,18 +87,18 @@ module _ {S E : Type 0} where
   }
 
   -- a pass's lock operations are all that its party has
-  pub own_lock_records : (views : List (SeatView S E)) (records : List LockRecord) (p id : ℕ) (v : SeatView S E) → get_elem? views id ≡ some v → v.end_party ≡ 0 → v.is_closer ≡ false → (o : Option ℕ) → o ≡ Some id
-      → AreLockRecords views records p o → lock_records_by p records ≡ v.known.lock_records
-  own_lock_records views records p id v at rests alone o is r =
-      let there : AreLockRecords views records p (Some id) = subst (λ z. AreLockRecords views records p z) is r in
+  pub own_lock_operations : (views : List (SeatView S E)) (records : List LockRecord) (p id : ℕ) (v : SeatView S E) → get_elem? views id ≡ some v → v.end_party ≡ 0 → v.is_closer ≡ false → (o : Option ℕ) → o ≡ Some id
+      → AreLockOperations views records p o → lock_operations_by p records ≡ v.known.lock_operations
+  own_lock_operations views records p id v at rests alone o is r =
+      let there : AreLockOperations views records p (Some id) = subst (λ z. AreLockOperations views records p z) is r in
       let be : v ≡ there.0 = one_there views id v there.0 at there.1 in
       ⊎_elim (λ x. x.1) (λ x. ⊎_elim (λ y. absurd (let lt = y.1 in omega (arith, lt, rests))) (λ y. absurd (let on = y.0 in cc)) x) (subst (λ (z : SeatView S E). KnowsLockRecords records z p) (sym be) there.2)
 
   -- a party whose pass is yet to be made has no lock operations
   pub unmade_lock_records : (views : List (SeatView S E)) (records : List LockRecord) (p id : ℕ) (v : SeatView S E) → get_elem? views id ≡ some v → v.known.party ≡ None → v.is_closer ≡ false → (o : Option ℕ) → o ≡ Some id
-      → AreLockRecords views records p o → lock_records_by p records ≡ []
+      → AreLockOperations views records p o → lock_operations_by p records ≡ []
   unmade_lock_records views records p id v at bare alone o is r =
-      let there : AreLockRecords views records p (Some id) = subst (λ z. AreLockRecords views records p z) is r in
+      let there : AreLockOperations views records p (Some id) = subst (λ z. AreLockOperations views records p z) is r in
       let be : v ≡ there.0 = one_there views id v there.0 at there.1 in
       ⊎_elim (λ x. absurd (let its = x.0 in cc)) (λ x. ⊎_elim (λ y. y.2) (λ y. absurd (let on = y.0 in cc)) x) (subst (λ (z : SeatView S E). KnowsLockRecords records z p) (sym be) there.2)
 
@@ -109,22 +109,22 @@ module _ {S E : Type 0} where
 
   -- the lock operations of all parties, with one more of a pass
   parties_moved : (views : List (SeatView S E)) (records : List LockRecord) (seat : ℕ → Option ℕ) (i p id : ℕ) (v w : SeatView S E) (op : LockOp) → get_elem? views id ≡ some v
-      → v.known.party ≡ Some p → w.known.party ≡ Some p → w.known.lock_records ≡ (i, op) ∷ v.known.lock_records → v.end_party ≡ 0 → v.is_closer ≡ false → seat p ≡ Some id
-      → ((q : ℕ) → AreLockRecords views records q (seat q)) → (q : ℕ) → AreLockRecords (set views id w) (record { shard = i; party = p; op = op } ∷ records) q (seat q)
+      → v.known.party ≡ Some p → w.known.party ≡ Some p → w.known.lock_operations ≡ (i, op) ∷ v.known.lock_operations → v.end_party ≡ 0 → v.is_closer ≡ false → seat p ≡ Some id
+      → ((q : ℕ) → AreLockOperations views records q (seat q)) → (q : ℕ) → AreLockOperations (set views id w) (record { shard = i; party = p; op = op } ∷ records) q (seat q)
   parties_moved views records seat i p id v w op at party its made rests alone sits parties q =
       let t : LockRecord = record { shard = i; party = p; op = op } in
       let views' = set views id w in
-      let own : lock_records_by p records ≡ v.known.lock_records = own_lock_records views records p id v at rests alone (seat p) sits (parties p) in
+      let own : lock_operations_by p records ≡ v.known.lock_operations = own_lock_operations views records p id v at rests alone (seat p) sits (parties p) in
       dite (ℕ_discrete q p)
-      (λ same. subst (λ (z : ℕ). AreLockRecords views' (t ∷ records) z (seat z)) (sym same) (subst (λ z. AreLockRecords views' (t ∷ records) p z) (sym sits)
-      (w, at_here views id w v at, inl (its, subst (λ b. cond {A = List (ℕ × LockOp)} b ((i, op) ∷ lock_records_by p records) (lock_records_by p records) ≡ (i, op) ∷ lock_records_by p records) (sym (eq-eqb p p refl)) refl ∙ (ap (λ z. (i, op) ∷ z) own ∙ sym made)))))
+      (λ same. subst (λ (z : ℕ). AreLockOperations views' (t ∷ records) z (seat z)) (sym same) (subst (λ z. AreLockOperations views' (t ∷ records) p z) (sym sits)
+      (w, at_here views id w v at, inl (its, subst (λ b. cond {A = List (ℕ × LockOp)} b ((i, op) ∷ lock_operations_by p records) (lock_operations_by p records) ≡ (i, op) ∷ lock_operations_by p records) (sym (eq-eqb p p refl)) refl ∙ (ap (λ z. (i, op) ∷ z) own ∙ sym made)))))
       (λ ne. lock_records_kept views records (t ∷ records) q id v w at (seat q)
       (λ e a. ⊎_elim (λ x. absurd (ne (let has = x.0 in cc))) (λ x. ⊎_elim (λ y. absurd (let lt = y.1 in omega (arith, lt, rests))) (λ y. absurd (let on = y.0 in cc)) x) a)
-      (subst (λ b. cond {A = List (ℕ × LockOp)} b ((i, op) ∷ lock_records_by q records) (lock_records_by q records) ≡ lock_records_by q records) (sym (ne_eqb q p ne)) refl) (parties q))
+      (subst (λ b. cond {A = List (ℕ × LockOp)} b ((i, op) ∷ lock_operations_by q records) (lock_operations_by q records) ≡ lock_operations_by q records) (sym (ne_eqb q p ne)) refl) (parties q))
 
   -- a pass takes a shard, or gives it back
   pub lock_record_made : (n : ℕ) (views : List (SeatView S E)) (records : List LockRecord) (holder seat : ℕ → Option ℕ) (i p id : ℕ) (v w : SeatView S E) (taken : Bool) → get_elem? views id ≡ some v
-      → v.known.party ≡ Some p → w.known.party ≡ Some p → w.known.lock_records ≡ (i, op_of taken) ∷ v.known.lock_records → w.known.lock_history ≡ v.known.lock_history → v.end_party ≡ 0 → v.is_closer ≡ false → seat p ≡ Some id
+      → v.known.party ≡ Some p → w.known.party ≡ Some p → w.known.lock_operations ≡ (i, op_of taken) ∷ v.known.lock_operations → w.known.lock_history ≡ v.known.lock_history → v.end_party ≡ 0 → v.is_closer ≡ false → seat p ≡ Some id
       → LocksAgree n views records holder seat → LocksAgree n (set views id w) (record { shard = i; party = p; op = op_of taken } ∷ records) (λ j. cond (eqb j i) (cond taken (Some id) None) (holder j)) seat
   lock_record_made n views records holder seat i p id v w taken at party its made met rests alone sits r =
       let t : LockRecord = record { shard = i; party = p; op = op_of taken } in
@@ -146,7 +146,7 @@ module _ {S E : Type 0} where
 
   -- a pass misses a shard, and no shard changes hands
   pub lock_record_missed : (n : ℕ) (views : List (SeatView S E)) (records : List LockRecord) (holder seat : ℕ → Option ℕ) (i p id : ℕ) (v w : SeatView S E) → get_elem? views id ≡ some v
-      → v.known.party ≡ Some p → w.known.party ≡ Some p → w.known.lock_records ≡ (i, Missed) ∷ v.known.lock_records → w.known.lock_history ≡ record { shard = i; party = p; op = Missed } ∷ records → v.end_party ≡ 0 → v.is_closer ≡ false → seat p ≡ Some id
+      → v.known.party ≡ Some p → w.known.party ≡ Some p → w.known.lock_operations ≡ (i, Missed) ∷ v.known.lock_operations → w.known.lock_history ≡ record { shard = i; party = p; op = Missed } ∷ records → v.end_party ≡ 0 → v.is_closer ≡ false → seat p ≡ Some id
       → LocksAgree n views records holder seat → LocksAgree n (set views id w) (record { shard = i; party = p; op = Missed } ∷ records) holder seat
   lock_record_missed n views records holder seat i p id v w at party its made met rests alone sits r =
       let t : LockRecord = record { shard = i; party = p; op = Missed } in

@@ -200,7 +200,7 @@ no_carry a b h here there full legal =
     full (subst (λ z. 0 < z) is room.0, room.1)
 
 -- nothing was done but a look
-looked_only : (v z : K) (h : List CounterEvent) (held : List (ℕ × Option (List CounterEvent))) (records : List (ℕ × LockOp)) → z ≡ record v { seen = h; looks = v.looks ++ length h ∷ []; held = held; lock_records = records }
+looked_only : (v z : K) (h : List CounterEvent) (held : List (ℕ × Option (List CounterEvent))) (records : List (ℕ × LockOp)) → z ≡ record v { seen = h; looks = v.looks ++ length h ∷ []; held = held; lock_operations = records }
     → counters.Legal h → IsPrefix v.seen h → IsOwn counters v.party h v.mine → IsLookedOnly counters v z
 looked_only v z h held records is legal longer own = subst (λ y. IsLookedOnly counters v y) (sym is) (record {
   goes_on = longer;

@@ -6,7 +6,7 @@ use Rattle.commit_table.specs.declared.views.LockOp.{LockOp}
 use Rattle.commit_table.specs.declared.views.LockOp.TheVariants as lock_op
 use Rattle.commit_table.specs.declared.views.LockRecord.{LockRecord}
 use Rattle.commit_table.specs.Machine.{Machine, IsOwn}
-use Rattle.commit_table.specs.LockHistory.{holder_in, lock_records_by, Extends}
+use Rattle.commit_table.specs.LockHistory.{holder_in, lock_operations_by, Extends}
 use Rattle.commit_table.specs.Views.{mine_after}
 
 module _ {S X E : Type 0} (m : Machine X E) where
@@ -39,7 +39,7 @@ module _ {S X E : Type 0} (m : Machine X E) where
     pub before : List LockRecord
     pub first : (p : ℕ) → v.party ≡ Some p → w.lock_history ≡ record { shard = shard; party = p; op = lock_op.Missed } ∷ before
     pub met : Extends v.lock_history before
-    pub added : (p : ℕ) → v.party ≡ Some p → (earlier : List (ℕ × LockOp)) × (later : List (ℕ × LockOp)) × (lock_records_by p before ≡ earlier ++ v.lock_records) × (w.lock_records ≡ later ++ ((shard, lock_op.Missed) ∷ (earlier ++ v.lock_records)))
+    pub added : (p : ℕ) → v.party ≡ Some p → (earlier : List (ℕ × LockOp)) × (later : List (ℕ × LockOp)) × (lock_operations_by p before ≡ earlier ++ v.lock_operations) × (w.lock_operations ≡ later ++ ((shard, lock_op.Missed) ∷ (earlier ++ v.lock_operations)))
     pub other : ℕ
     pub holds : holder_in before shard ≡ Some other
     pub apart : ¬ (v.party ≡ Some other)

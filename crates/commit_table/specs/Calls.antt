@@ -6,7 +6,7 @@ use Rattle.atomic_table.specs.Seated.{TableId}
 use Rattle.commit_table.specs.declared.views.PassView.{PassView}
 use Rattle.commit_table.specs.declared.views.LockRecord.{LockRecord}
 use Rattle.commit_table.specs.declared.views.LockOp.TheVariants as lock_op
-use Rattle.commit_table.specs.LockHistory.{holder_in, lock_records_by, Extends}
+use Rattle.commit_table.specs.LockHistory.{holder_in, lock_operations_by, Extends}
 use Rattle.commit_table.specs.Machine.{Machine, events_by, IsOwn}
 use Rattle.commit_table.specs.Views.{held_at, after_look, after_commit}
 
@@ -68,7 +68,7 @@ module _ {S E : Type 0} where
     pub before : List LockRecord
     pub first : (p : ℕ) → v.party ≡ Some p → records ≡ record { shard = i; party = p; op = lock_op.Missed } ∷ before
     pub goes_on : Extends v.lock_history before
-    pub own : (p : ℕ) → v.party ≡ Some p → lock_records_by p before ≡ v.lock_records
+    pub own : (p : ℕ) → v.party ≡ Some p → lock_operations_by p before ≡ v.lock_operations
     pub other : ℕ
     pub holds : holder_in before i ≡ Some other
     pub apart : ¬ (v.party ≡ Some other)

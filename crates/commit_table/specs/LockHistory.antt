@@ -22,9 +22,9 @@ holder_in [] i = None
 holder_in (t ∷ ts) i = holder_by (eqb i t.shard) t.op t.party (holder_in ts i)
 
 -- the lock operations of a party
-abbrev pub lock_records_by : ℕ → List LockRecord → List (ℕ × LockOp)
-lock_records_by p [] = []
-lock_records_by p (t ∷ ts) = cond (eqb p t.party) ((t.shard, t.op) ∷ lock_records_by p ts) (lock_records_by p ts)
+abbrev pub lock_operations_by : ℕ → List LockRecord → List (ℕ × LockOp)
+lock_operations_by p [] = []
+lock_operations_by p (t ∷ ts) = cond (eqb p t.party) ((t.shard, t.op) ∷ lock_operations_by p ts) (lock_operations_by p ts)
 
 -- these lock operations go on from those before
 abbrev pub Extends : List LockRecord → List LockRecord → Type 0
@@ -39,17 +39,17 @@ module _ {S E : Type 0} where
   -- the lock operations of a party are those that the view which answers for it knows as its own, or remembers
   abbrev pub KnowsLockRecords : List LockRecord → SeatView S E → ℕ → Type 0
   KnowsLockRecords records v p =
-      ((v.known.party ≡ Some p) × (lock_records_by p records ≡ v.known.lock_records))
-      ⊎ (((v.first_party ≤ p) × (p < v.end_party) × (lock_records_by p records ≡ []))
-      ⊎ ((v.is_closer ≡ true) × (k : ℕ) × (w : PassView S E) × (get_elem? v.joined_passes k ≡ some w) × (w.party ≡ Some p) × (lock_records_by p records ≡ w.lock_records)))
+      ((v.known.party ≡ Some p) × (lock_operations_by p records ≡ v.known.lock_operations))
+      ⊎ (((v.first_party ≤ p) × (p < v.end_party) × (lock_operations_by p records ≡ []))
+      ⊎ ((v.is_closer ≡ true) × (k : ℕ) × (w : PassView S E) × (get_elem? v.joined_passes k ≡ some w) × (w.party ≡ Some p) × (lock_operations_by p records ≡ w.lock_operations)))
 
   -- a party that no view answers for has no lock operations
-  abbrev pub AreLockRecords : List (SeatView S E) → List LockRecord → ℕ → Option ℕ → Type 0
-  AreLockRecords views records p None = lock_records_by p records ≡ []
-  AreLockRecords views records p (Some id) = (v : SeatView S E) × (get_elem? views id ≡ some v) × KnowsLockRecords records v p
+  abbrev pub AreLockOperations : List (SeatView S E) → List LockRecord → ℕ → Option ℕ → Type 0
+  AreLockOperations views records p None = lock_operations_by p records ≡ []
+  AreLockOperations views records p (Some id) = (v : SeatView S E) × (get_elem? views id ≡ some v) × KnowsLockRecords records v p
 
   pub record LocksAgree (shards : ℕ) (views : List (SeatView S E)) (records : List LockRecord) (holder seat : ℕ → Option ℕ) : Type 0 where
     pub holders : (i : ℕ) → i < shards → HolderAgrees views records i (holder i)
-    pub parties : (p : ℕ) → AreLockRecords views records p (seat p)
+    pub parties : (p : ℕ) → AreLockOperations views records p (seat p)
     -- what a view's last miss told goes on to what there is
     pub met : (id : ℕ) (v : SeatView S E) → get_elem? views id ≡ some v → Extends v.known.lock_history records

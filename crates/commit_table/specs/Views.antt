@@ -31,11 +31,11 @@ module _ {E : Type 0} where
 module _ {S E : Type 0} where
   -- the pass of a party before its first call, and a pass of no party that has seen a history
   abbrev pub new_pass : S → Option ℕ → List E → PassView S E
-  new_pass start party seen = record { start = Some start; party = party; seen = seen; mine = []; commits = []; looks = []; held = []; missed = []; lock_records = []; lock_history = [] }
+  new_pass start party seen = record { start = Some start; party = party; seen = seen; mine = []; commits = []; looks = []; held = []; missed = []; lock_operations = []; lock_history = [] }
 
   -- what a note of a pass tells: what it has seen, and no more
   abbrev pub noted : PassView S E → PassView S E
-  noted v = record { start = v.start; party = None; seen = v.seen; mine = []; commits = []; looks = []; held = []; missed = []; lock_records = []; lock_history = [] }
+  noted v = record { start = v.start; party = None; seen = v.seen; mine = []; commits = []; looks = []; held = []; missed = []; lock_operations = []; lock_history = [] }
 
   -- another seat's history was taken over, where it is the longer one
   abbrev pub also_seen : PassView S E → List E → PassView S E
@@ -43,13 +43,13 @@ module _ {S E : Type 0} where
 
   -- a shard was taken, whose value stands for g; it was missed, as these lock operations tell; it was given back
   abbrev pub after_take : PassView S E → ℕ → List E → PassView S E
-  after_take v i g = record v { held = (i, Some g) ∷ v.held; lock_records = (i, lock_op.Took) ∷ v.lock_records }
+  after_take v i g = record v { held = (i, Some g) ∷ v.held; lock_operations = (i, lock_op.Took) ∷ v.lock_operations }
 
   abbrev pub after_miss : PassView S E → ℕ → List LockRecord → PassView S E
-  after_miss v i met = record v { missed = v.missed ++ i ∷ []; lock_records = (i, lock_op.Missed) ∷ v.lock_records; lock_history = met }
+  after_miss v i met = record v { missed = v.missed ++ i ∷ []; lock_operations = (i, lock_op.Missed) ∷ v.lock_operations; lock_history = met }
 
   abbrev pub after_give_back : PassView S E → ℕ → PassView S E
-  after_give_back v i = record v { held = (i, None) ∷ v.held; lock_records = (i, lock_op.GaveBack) ∷ v.lock_records }
+  after_give_back v i = record v { held = (i, None) ∷ v.held; lock_operations = (i, lock_op.GaveBack) ∷ v.lock_operations }
 
   -- the history h was seen
   abbrev pub after_look : PassView S E → List E → PassView S E
@@ -96,4 +96,4 @@ module _ {S E : Type 0} where
 
   -- what is left of a seat that another took in
   abbrev pub joined_seat : SeatView S E
-  joined_seat = at_rest (record { start = None; party = None; seen = []; mine = []; commits = []; looks = []; held = []; missed = []; lock_records = []; lock_history = [] })
+  joined_seat = at_rest (record { start = None; party = None; seen = []; mine = []; commits = []; looks = []; held = []; missed = []; lock_operations = []; lock_history = [] })

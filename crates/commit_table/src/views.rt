@@ -22,7 +22,7 @@ pub struct PassView<S, E> {
     /// The shards that were missed.
     pub missed: LinkedList<u32>,
     /// The shards that this pass took, gave back and missed, the newest first, each with what it did.
-    pub lock_records: LinkedList<(u32, LockOp)>,
+    pub lock_operations: LinkedList<(u32, LockOp)>,
     /// The lock operations of all passes, as far as the last miss told them, the newest first. That miss is the first of them.
     pub lock_history: LinkedList<LockRecord>,
 }

@@ -1,6 +1,6 @@
 //! Which writes a notification stands for.
 
-use call_journal::{ArrivedWrite, WhyAnswer, why};
+use call_journal::{CoveredWrite, Explanation, why};
 use gaspi_model::Why;
 use gaspi_texts::read;
 use gaspi_types::{Sequence, Shape};
@@ -29,7 +29,7 @@ const ILLEGAL: &[u8] =
     b"journal 1\n0 called 0.0 write_notify 0 0 1 0 4 2 3 7 0 -> done\n1 take 0 0 1 0 ok\n2 put 0 0 1 0 ok\n3 take 0 0 1 1 ok\n4 put 0 0 1 1 ok\n5 put 0 0 1 2 ok\nend 6\n";
 
 /// Whether that is the answer for a place of a journal.
-fn is_answer(alloc: Global, text: &[u8], place: u64, wanted: &WhyAnswer) -> Result<bool, Fail> {
+fn is_answer(alloc: Global, text: &[u8], place: u64, wanted: &Explanation) -> Result<bool, Fail> {
     let shape = shape(alloc)?;
     match read(alloc, text) {
         Ok(journal) => match why(alloc, &shape, &journal, place) {
@@ -45,22 +45,22 @@ fn are_writes(
     alloc: Global,
     text: &[u8],
     place: u64,
-    writes: &[ArrivedWrite],
+    writes: &[CoveredWrite],
 ) -> Result<bool, Fail> {
     let writes = Sequence::copied_from(alloc, writes)?;
-    is_answer(alloc, text, place, &WhyAnswer::Writes(writes))
+    is_answer(alloc, text, place, &Explanation::Writes(writes))
 }
 
 #[test]
 fn a_notification_stands_for_the_write_before_it(rt: HostRuntime) -> Result<(), Fail> {
-    let write = ArrivedWrite {
+    let write = CoveredWrite {
         post: 0,
         number: 0,
         put: 2,
     };
     assert!(rt; are_writes(rt.alloc(), PUT, 4, &[write])?);
-    assert!(rt; is_answer(rt.alloc(), PUT, 2, &WhyAnswer::NoNotification)?);
-    assert!(rt; is_answer(rt.alloc(), PUT, u64::MAX, &WhyAnswer::NoNotification)?);
+    assert!(rt; is_answer(rt.alloc(), PUT, 2, &Explanation::NoNotification)?);
+    assert!(rt; is_answer(rt.alloc(), PUT, u64::MAX, &Explanation::NoNotification)?);
     Ok(())
 }
 
@@ -72,7 +72,7 @@ fn a_notification_does_not_stand_for_purged_writes(rt: HostRuntime) -> Result<()
 
 #[test]
 fn an_illegal_journal_is_told_as_such(rt: HostRuntime) -> Result<(), Fail> {
-    let wanted = WhyAnswer::Illegal {
+    let wanted = Explanation::Illegal {
         place: 5,
         why: Why::Put,
     };

@@ -7,7 +7,7 @@ use Rattle.gaspi_types.specs.declared.replies.Reply.{Reply}
 use Rattle.gaspi_types.specs.declared.replies.Reply.TheVariants as replies
 use Rattle.gaspi_types.specs.declared.replies.Refusal.{Refusal}
 use Rattle.gaspi_model.specs.State.{is_running, thread_at}
-use Rattle.gaspi_model.specs.Calls.{answer, call_result, recorded_reply, ready_of}
+use Rattle.gaspi_model.specs.Calls.{answer, call_result, recorded_reply, answer_of_result}
 use Rattle.gaspi_model.specs.declared.states.Posts.{Posts}
 use Rattle.gaspi_model.specs.declared.states.Memory.{Memory}
 
@@ -16,7 +16,7 @@ pub found-reply : (limits : Limits) (me : ℕ) (posts : Posts) (memory : Memory)
     → reply ≡ recorded_reply (answer limits me posts memory thread call) → is_idle reply ≡ false → call_result limits me posts memory call ≡ Ok (Some reply)
 found-reply limits me posts memory thread call reply is idle = by-thread (is_running (thread_at posts thread)) refl
   where
-    by-finds : (finds : Result (Option Reply) Refusal) → call_result limits me posts memory call ≡ finds → reply ≡ recorded_reply (ready_of finds) → call_result limits me posts memory call ≡ Ok (Some reply)
+    by-finds : (finds : Result (Option Reply) Refusal) → call_result limits me posts memory call ≡ finds → reply ≡ recorded_reply (answer_of_result finds) → call_result limits me posts memory call ≡ Ok (Some reply)
     by-finds (Ok (Some r)) h same = h ∙ ap (λ (x : Reply). Ok (Some x)) (sym same)
     by-finds (Ok None) h same = absurd (let out = rw same at idle in let no : ⊥ = cc in no)
     by-finds (Err refusal) h same = absurd (let out = rw same at idle in let no : ⊥ = cc in no)

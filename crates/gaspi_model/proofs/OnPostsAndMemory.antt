@@ -20,7 +20,7 @@ use Rattle.gaspi_types.specs.declared.footprints.DeclaredFootprint.TheVariants a
 use Rattle.gaspi_types.specs.declared.footprints.Footprint.{Footprint}
 use Rattle.gaspi_types.specs.declared.footprints.Footprint.TheVariants.{Alone, OwnMemory, PeerMemory, BothMemories, PeerPosts, Group, GroupAndMemory}
 use Rattle.gaspi_model.specs.State.{thread_at, is_running}
-use Rattle.gaspi_model.specs.Calls.{call_result, answer, recorded_reply, ready_of, memory_effect, memory_after}
+use Rattle.gaspi_model.specs.Calls.{call_result, answer, recorded_reply, answer_of_result, memory_effect, memory_after}
 use Rattle.gaspi_model.specs.Parts.{memory_or_none}
 use Rattle.gaspi_model.specs.Changes.{take_rank, put_rank}
 use Rattle.gaspi_model.specs.Transfers.{EntryPosition, PostsAndMemory, source_bytes, take_outcome, same_outcome}
@@ -148,7 +148,7 @@ pub answer-off_memory : (limits : Limits) (me : ℕ) (posts : Posts) (m m' : Mem
 answer-off_memory limits me posts m m' thread call h = go (is_running (thread_at posts thread)) refl
   where
     go : (b : Bool) → is_running (thread_at posts thread) ≡ b → answer limits me posts m thread call ≡ answer limits me posts m' thread call
-    go true is = rw is (ap ready_of (result-off_memory limits me posts m m' call h))
+    go true is = rw is (ap answer_of_result (result-off_memory limits me posts m m' call h))
     go false is = rw is refl
 
 called-off_memory : (limits : Limits) (me : ℕ) (posts : Posts) (brought : Option Message) (m m' : Memory) (thread : ℕ) (call : Call) (reply : Reply) (after : PostsAndMemory)

@@ -18,7 +18,7 @@ use Rattle.gaspi_types.specs.declared.replies.Reply as answers
 use Rattle.gaspi_types.specs.declared.replies.Reply.TheVariants.{Refused}
 use Rattle.gaspi_types.specs.declared.shapes.CallerId.{CallerId}
 use Rattle.gaspi_types.specs.declared.shapes.Limits.{Limits}
-use Rattle.gaspi_model.specs.Calls.{call_result, ready_of, answer, recorded_reply, charge, peer_after}
+use Rattle.gaspi_model.specs.Calls.{call_result, answer_of_result, answer, recorded_reply, charge, peer_after}
 use Rattle.gaspi_model.specs.CollectiveCalls.{collective_answer, is_reply_of, is_joining, group_of, join_event}
 use Rattle.gaspi_model.specs.Parts.{Parts, group_or_none, parts_of, with_parts, part_numbers, with_accessed_memory}
 use Rattle.gaspi_model.specs.Sound.{IsSound}
@@ -94,7 +94,7 @@ join-group s rank thread call args is =
     let p = answered-posts s rank thread call (Join args) is in
     go p.0 p.1 (row_of call).group refl
   where
-    never : (r : Result (Option answers.Reply) Refusal) → ready_of r ≡ Join args → ⊥
+    never : (r : Result (Option answers.Reply) Refusal) → answer_of_result r ≡ Join args → ⊥
     never (Ok None) h = (let no : ⊥ = cc in no)
     never (Ok (Some reply)) h = (let no : ⊥ = cc in no)
     never (Err refusal) h = (let no : ⊥ = cc in no)
@@ -104,7 +104,7 @@ join-group s rank thread call args is =
     go posts hp None plain =
         let running = running-is s rank thread posts true hp (join-active s rank thread call args is) in
         let answers = (answers-in s rank thread call posts (Join args) hp is).0 plain in
-        let finds : ready_of (call_result s.limits rank posts (call_memory s rank posts call) call) ≡ Join args = rw running at answers in
+        let finds : answer_of_result (call_result s.limits rank posts (call_memory s rank posts call) call) ≡ Join args = rw running at answers in
         absurd (never (call_result s.limits rank posts (call_memory s rank posts call) call) finds)
 
 -- What may be recorded of an ended caller.

@@ -68,16 +68,16 @@ call_result limits me posts memory call = finds_by (row_of call).posting
     finds_by None = plain_result limits me posts memory call
     finds_by (Some to) = post_request_result limits posts to.rank to.queue (requested_kinds limits me posts call)
 
-abbrev pub ready_of : Result (Option Reply) Refusal → Ready
-ready_of (Ok None) = ready.NotReady
-ready_of (Ok (Some reply)) = ready.Reply reply
-ready_of (Err refusal) = ready.Reply (replies.Refused refusal)
+abbrev pub answer_of_result : Result (Option Reply) Refusal → Ready
+answer_of_result (Ok None) = ready.NotReady
+answer_of_result (Ok (Some reply)) = ready.Reply reply
+answer_of_result (Err refusal) = ready.Reply (replies.Refused refusal)
 
 -- what a look at a call answers: that the caller has ended comes before everything else
 abbrev pub answer : Limits → ℕ → Posts → Memory → ℕ → Call → Ready
 answer limits me posts memory thread call =
     if is_running (thread_at posts thread)
-    then ready_of (call_result limits me posts memory call)
+    then answer_of_result (call_result limits me posts memory call)
     else ready.Reply (replies.Refused CallerEnded)
 
 -- the one reply with which the call may be recorded: what it answers, or where it is not ready a timeout (timeouts); a collective

@@ -22,10 +22,10 @@ pub(crate) fn read_field(fields: &[&[u8]]) -> Option<u32>
 }
 
 /// An operation, a type and a number of elements.
-fn read_allreduce(arguments: &[&[u8]]) -> Option<Coll>
-    ensures { result ≡ allreduce_of (map (λ word. word.now) arguments.now) }
+fn read_allreduce(words: &[&[u8]]) -> Option<Coll>
+    ensures { result ≡ allreduce_of (map (λ word. word.now) words.now) }
 {
-    let [op, num_type, count] = arguments else {
+    let [op, num_type, count] = words else {
         return None;
     };
     let op = read_op(op)?;
@@ -35,10 +35,10 @@ fn read_allreduce(arguments: &[&[u8]]) -> Option<Coll>
 }
 
 /// A segment and its size.
-fn read_create(arguments: &[&[u8]]) -> Option<Coll>
-    ensures { result ≡ create_of (map (λ word. word.now) arguments.now) }
+fn read_create(words: &[&[u8]]) -> Option<Coll>
+    ensures { result ≡ create_of (map (λ word. word.now) words.now) }
 {
-    let [segment, size] = arguments else {
+    let [segment, size] = words else {
         return None;
     };
     let segment = read_value(segment)?;
@@ -51,24 +51,24 @@ fn read_create(arguments: &[&[u8]]) -> Option<Coll>
 pub(crate) fn read_coll(fields: &[&[u8]]) -> Option<Coll>
     ensures { result ≡ coll_of (map (λ word. word.now) fields.now) }
 {
-    let [word, arguments @ ..] = fields else {
+    let [word, words @ ..] = fields else {
         return None;
     };
     if b"barrier".as_slice() == *word {
-        return if arguments.is_empty() {
+        return if words.is_empty() {
             Some(Coll::Barrier)
         } else {
             None
         };
     }
     if b"allreduce".as_slice() == *word {
-        return read_allreduce(arguments);
+        return read_allreduce(words);
     }
     if b"create".as_slice() == *word {
-        return read_create(arguments);
+        return read_create(words);
     }
     if b"commit".as_slice() == *word {
-        let mask = read_field(arguments)?;
+        let mask = read_field(words)?;
         return Some(Coll::Commit(mask));
     }
     None

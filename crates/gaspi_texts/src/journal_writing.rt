@@ -11,7 +11,7 @@ use crate::{Journal, write_event, write_number};
 use gaspi_types::{Bytes, Event, NoMemory};
 
 /// Adds the line of an event. Without memory a part of it may be there.
-fn append_event_line(text: &mut Bytes, place: u64, event: &Event) -> Result<(), NoMemory>
+pub fn write_event_line(text: &mut Bytes, place: u64, event: &Event) -> Result<(), NoMemory>
     ensures ok { OnOk result (text.new ≡ text.old ++ event_line place event.now) }
     ensures kept { KeepsPrefix text.old text.new }
 {
@@ -22,7 +22,7 @@ fn append_event_line(text: &mut Bytes, place: u64, event: &Event) -> Result<(), 
 }
 
 /// Adds the end line of a journal of so many events. Without memory a part of it may be there.
-fn append_end_line(text: &mut Bytes, count: u64) -> Result<(), NoMemory>
+pub fn write_end_line(text: &mut Bytes, count: u64) -> Result<(), NoMemory>
     ensures ok { OnOk result (text.new ≡ text.old ++ end_line count) }
     ensures kept { KeepsPrefix text.old text.new }
 {
@@ -38,9 +38,9 @@ fn append_journal(text: &mut Bytes, journal: &Journal) -> Result<(), NoMemory>
 {
     text.append(b"journal 1\n")?;
     for (place, event) in journal.as_slice().iter().enumerate() {
-        append_event_line(text, place as u64, event)?;
+        write_event_line(text, place as u64, event)?;
     }
-    append_end_line(text, journal.len() as u64)
+    write_end_line(text, journal.len() as u64)
 }
 
 /// Adds the text of a journal, where what callers join has the values that it says. Without memory nothing changes. What is

@@ -32,7 +32,7 @@ pub use journal_laws::journals_differ_in_text;
 pub use journal_ranges::journal_is_in_range;
 pub use journal_reading::{JournalFault, read};
 pub use journal_values::have_own_values;
-pub use journal_writing::write;
+pub use journal_writing::{write, write_end_line, write_event_line};
 pub use merging::MergeRoom;
 pub use own_values::has_own_values;
 pub use ranges::{event_is_in_range, reply_is_in_range};

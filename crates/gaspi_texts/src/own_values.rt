@@ -8,7 +8,7 @@ ghost use Rattle.gaspi_texts.specs.EventText.{HasOwnValues};
 use gaspi_types::{Coll, Event, NumType, Numbers};
 
 /// Whether numbers are of a type, and so many.
-fn are_so_many(values: &Numbers, num_type: NumType, count: u32) -> bool
+fn have_type_and_count(values: &Numbers, num_type: NumType, count: u32) -> bool
     ensures { IsTrue result ↔ ((values.now.num_type ≡ num_type) × (length values.now.items ≡ count)) }
 {
     values.num_type() == num_type && values.items().len() == count as usize
@@ -19,10 +19,10 @@ fn are_values_of(coll: Coll, values: &Numbers) -> bool
     ensures { IsTrue result ↔ AreValuesOf coll values.now }
 {
     match coll {
-        Coll::Allreduce(_, num_type, count) => are_so_many(values, num_type, count),
-        Coll::Barrier => are_so_many(values, NumType::Int, 0),
-        Coll::Create(_, _) => are_so_many(values, NumType::Int, 0),
-        Coll::Commit(_) => are_so_many(values, NumType::Int, 0),
+        Coll::Allreduce(_, num_type, count) => have_type_and_count(values, num_type, count),
+        Coll::Barrier => have_type_and_count(values, NumType::Int, 0),
+        Coll::Create(_, _) => have_type_and_count(values, NumType::Int, 0),
+        Coll::Commit(_) => have_type_and_count(values, NumType::Int, 0),
     }
 }
 

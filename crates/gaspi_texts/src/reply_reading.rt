@@ -82,30 +82,26 @@ fn read_refusal(number: u64, fields: &[&[u8]]) -> Option<Refusal>
 }
 
 /// A reply without an argument.
-fn read_plain(reply: Reply, arguments: &[&[u8]]) -> Option<Reply>
-    ensures { result ≡ plain_reply reply (map (λ word. word.now) arguments.now) }
+fn read_plain(reply: Reply, words: &[&[u8]]) -> Option<Reply>
+    ensures { result ≡ plain_reply reply (map (λ word. word.now) words.now) }
 {
-    if arguments.is_empty() {
-        Some(reply)
-    } else {
-        None
-    }
+    if words.is_empty() { Some(reply) } else { None }
 }
 
-fn read_value_reply(arguments: &[&[u8]]) -> Option<Reply>
-    ensures { result ≡ value_reply (map (λ word. word.now) arguments.now) }
+fn read_value_reply(words: &[&[u8]]) -> Option<Reply>
+    ensures { result ≡ value_reply (map (λ word. word.now) words.now) }
 {
-    let [word] = arguments else {
+    let [word] = words else {
         return None;
     };
     let number = read_number(word)?;
     Some(Reply::Value(number))
 }
 
-fn read_bytes_reply(alloc: Global, arguments: &[&[u8]]) -> Result<Option<Reply>, NoMemory>
-    ensures { IfOk result (λ reply. reply ≡ bytes_reply (map (λ word. word.now) arguments.now)) }
+fn read_bytes_reply(alloc: Global, words: &[&[u8]]) -> Result<Option<Reply>, NoMemory>
+    ensures { IfOk result (λ reply. reply ≡ bytes_reply (map (λ word. word.now) words.now)) }
 {
-    let [word] = arguments else {
+    let [word] = words else {
         return Ok(None);
     };
     let Some(bytes) = read_bytes(alloc, word)? else {
@@ -114,10 +110,10 @@ fn read_bytes_reply(alloc: Global, arguments: &[&[u8]]) -> Result<Option<Reply>,
     Ok(Some(Reply::Bytes(bytes)))
 }
 
-fn read_list_reply(alloc: Global, arguments: &[&[u8]]) -> Result<Option<Reply>, NoMemory>
-    ensures { IfOk result (λ reply. reply ≡ list_reply (map (λ word. word.now) arguments.now)) }
+fn read_list_reply(alloc: Global, words: &[&[u8]]) -> Result<Option<Reply>, NoMemory>
+    ensures { IfOk result (λ reply. reply ≡ list_reply (map (λ word. word.now) words.now)) }
 {
-    let [word, elements @ ..] = arguments else {
+    let [word, elements @ ..] = words else {
         return Ok(None);
     };
     let Some(num_type) = read_type(word) else {
@@ -129,10 +125,10 @@ fn read_list_reply(alloc: Global, arguments: &[&[u8]]) -> Result<Option<Reply>, 
     Ok(Some(Reply::List(Numbers::new(num_type, items))))
 }
 
-fn read_refused_reply(arguments: &[&[u8]]) -> Option<Reply>
-    ensures { result ≡ refused_reply (map (λ word. word.now) arguments.now) }
+fn read_refused_reply(words: &[&[u8]]) -> Option<Reply>
+    ensures { result ≡ refused_reply (map (λ word. word.now) words.now) }
 {
-    let [word, fields @ ..] = arguments else {
+    let [word, fields @ ..] = words else {
         return None;
     };
     let number = read_number(word)?;
@@ -140,37 +136,37 @@ fn read_refused_reply(arguments: &[&[u8]]) -> Option<Reply>
     Some(Reply::Refused(refusal))
 }
 
-fn read_id_reply(arguments: &[&[u8]]) -> Option<Reply>
-    ensures { result ≡ option_map Id (one_field (map (λ word. word.now) arguments.now)) }
+fn read_id_reply(words: &[&[u8]]) -> Option<Reply>
+    ensures { result ≡ option_map Id (one_field (map (λ word. word.now) words.now)) }
 {
-    let number = read_field(arguments)?;
+    let number = read_field(words)?;
     Some(Reply::Id(number))
 }
 
-fn read_mask_reply(arguments: &[&[u8]]) -> Option<Reply>
-    ensures { result ≡ option_map Mask (one_field (map (λ word. word.now) arguments.now)) }
+fn read_mask_reply(words: &[&[u8]]) -> Option<Reply>
+    ensures { result ≡ option_map Mask (one_field (map (λ word. word.now) words.now)) }
 {
-    let mask = read_field(arguments)?;
+    let mask = read_field(words)?;
     Some(Reply::Mask(mask))
 }
 
 /// The reply of a word and the words behind it. Only bytes and lists take memory.
-pub(crate) fn read_arguments(
+pub(crate) fn reply_with(
     alloc: Global,
     kind: ReplyWord,
-    arguments: &[&[u8]],
+    words: &[&[u8]],
 ) -> Result<Option<Reply>, NoMemory>
-    ensures ok { IfOk result (λ reply. reply ≡ reply_with kind (map (λ word. word.now) arguments.now)) }
+    ensures ok { IfOk result (λ reply. reply ≡ reply_with kind (map (λ word. word.now) words.now)) }
     ensures memory { OnErr result (holds_items kind ≡ true) }
 {
     match kind {
-        ReplyWord::Done => Ok(read_plain(Reply::Done, arguments)),
-        ReplyWord::Value => Ok(read_value_reply(arguments)),
-        ReplyWord::Id => Ok(read_id_reply(arguments)),
-        ReplyWord::Bytes => read_bytes_reply(alloc, arguments),
-        ReplyWord::Mask => Ok(read_mask_reply(arguments)),
-        ReplyWord::List => read_list_reply(alloc, arguments),
-        ReplyWord::Timeout => Ok(read_plain(Reply::Timeout, arguments)),
-        ReplyWord::Refused => Ok(read_refused_reply(arguments)),
+        ReplyWord::Done => Ok(read_plain(Reply::Done, words)),
+        ReplyWord::Value => Ok(read_value_reply(words)),
+        ReplyWord::Id => Ok(read_id_reply(words)),
+        ReplyWord::Bytes => read_bytes_reply(alloc, words),
+        ReplyWord::Mask => Ok(read_mask_reply(words)),
+        ReplyWord::List => read_list_reply(alloc, words),
+        ReplyWord::Timeout => Ok(read_plain(Reply::Timeout, words)),
+        ReplyWord::Refused => Ok(read_refused_reply(words)),
     }
 }

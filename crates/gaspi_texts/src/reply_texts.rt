@@ -10,7 +10,7 @@ ghost use Rattle.call_texts.specs.Words.{words_of};
 ghost use Rattle.call_texts.specs.Written.{spaced};
 
 use crate::collective_texts::append_coll;
-use crate::reply_reading::read_arguments;
+use crate::reply_reading::reply_with;
 use crate::reply_words::{ReplyWord, stage_word};
 use call_texts::{
     append_bytes, append_elements, append_line, append_numbers, append_word, type_word, words,
@@ -95,7 +95,7 @@ pub fn read_reply_words(alloc: Global, words: &[&[u8]]) -> Result<Option<Reply>,
     let Some(kind) = ReplyWord::of(word) else {
         return Ok(None);
     };
-    read_arguments(alloc, kind, arguments)
+    reply_with(alloc, kind, arguments)
 }
 
 /// The reply that a text spells, its words apart by spaces and tabs.

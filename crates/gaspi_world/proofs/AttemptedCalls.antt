@@ -41,7 +41,7 @@ use Rattle.rank_node.specs.HeldNodes.{peer_of, group_of as held_group}
 use Rattle.rank_node.specs.Lending.{Lends, LendsFor, AreLentFor}
 use Rattle.rank_node.specs.Making.{made_segment}
 use Rattle.rank_node.specs.Numbers.{ReplyFits, AnswerFits}
-use Rattle.rank_node.specs.Rooms.{HasMade, FitsRoom}
+use Rattle.rank_node.specs.Rooms.{HasMade, ReplyFitsReserved}
 use Rattle.rank_node.specs.Values.{PostsValue}
 use Rattle.rank_node.specs.declared.making.MadeSegment.{MadeSegment}
 use Rattle.rank_node.specs.declared.rooms.Room.{Room}
@@ -148,7 +148,7 @@ made-for p id args made free has = go args.coll refl
     go (colls.Commit mask) at = tt
 
 -- a reply without bytes that fits a list of numbers fits the room
-reply-fits : (reply : Reply) (room : Room) → ReplyFits reply room.numbers.caller → FitsRoom reply room
+reply-fits : (reply : Reply) (room : Room) → ReplyFits reply room.numbers.caller → ReplyFitsReserved reply room
 reply-fits (replies.Bytes bytes) room fits = absurd fits
 reply-fits reply room fits = fits
 

@@ -30,7 +30,7 @@ use Rattle.rank_node.specs.declared.held_nodes.OtherNode.TheVariants as others
 use Rattle.rank_node.specs.declared.nodes.Node.{Node}
 use Rattle.gaspi_world.specs.ShardProjections.{value_at, HaveStepped}
 use Rattle.gaspi_world.specs.Numbering.{by_ranks}
-use Rattle.gaspi_world.specs.RankJournals.{placed_at, noted_by, own-noted, none-noted}
+use Rattle.gaspi_world.specs.RankJournals.{placed_at, recorded_by, own-noted, none-noted}
 use Rattle.gaspi_world.specs.RankShards.{rank_other}
 use Rattle.gaspi_world.specs.ShardMachine.{HasParts}
 use Rattle.gaspi_world.proofs.HeldPairs.{here}
@@ -388,7 +388,7 @@ module _ (w : ShapeValue) (e : Event) (place : ℕ) (old new : HeldNodes) (footp
         let l = left s t on.0 in
         let after = steps s t e sound is in
         let still : t.limits ≡ w.limits = limits-stay s t e is ∙ limits in
-        let noted : ℕ → List PlacedEvent = λ rank. journal rank ++ noted_by rank place e in
+        let noted : ℕ → List PlacedEvent = λ rank. journal rank ++ recorded_by rank place e in
         let lends = subst (λ (r : Footprint). Lends t (owner_of e) r new.own.value (peer_of new.other) (group_of new.other)) (footprint-at s limits) l.lends in
         let own_journal : new.own.value.posts.journal ≡ noted (owner_of e) = l.journal ∙ (ap (λ (j : List PlacedEvent). j ++ placed_at place e ∷ []) on.1 ∙ ap (λ (j : List PlacedEvent). journal (owner_of e) ++ j) (sym (own-noted (owner_of e) place e refl))) in
         split (owner_of e) (shards.Rank new.own) (other_value other new.other) (λ i z. HasParts (by_ranks w) w (node_meaning w) i z t noted)
@@ -398,7 +398,7 @@ module _ (w : ShapeValue) (e : Event) (place : ℕ) (old new : HeldNodes) (footp
     where
       peer-journal : (s t : State) (journal : ℕ → List PlacedEvent) → IsSound s → s.limits ≡ w.limits → step s e ≡ Ok t
           → ((j : ℕ) (x : WorldShard) → value_at ((owner_of e, shards.Rank old.own) ∷ other_value other old.other) j ≡ Some x → HasParts (by_ranks w) w (node_meaning w) j x s journal)
-          → (rank : ℕ) → footprint_peer footprint ≡ Some rank → journal_at (peer_of new.other) ≡ journal_at (peer_of old.other) → journal_at (peer_of new.other) ≡ Some (journal rank ++ noted_by rank place e)
+          → (rank : ℕ) → footprint_peer footprint ≡ Some rank → journal_at (peer_of new.other) ≡ journal_at (peer_of old.other) → journal_at (peer_of new.other) ≡ Some (journal rank ++ recorded_by rank place e)
       peer-journal s t journal sound limits is has rank is_peer kept =
           let on = lent s t journal sound limits is has in
           kept ∙ (was rank is_peer ∙ ap (λ (l : List PlacedEvent). Some l) (sym (ap (λ (l : List PlacedEvent). journal rank ++ l) (none-noted rank place e (apart rank is_peer)) ∙ append-nil (journal rank))))

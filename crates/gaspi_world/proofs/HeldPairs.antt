@@ -11,7 +11,7 @@ use Rattle.commit_table.specs.declared.views.PassView.{PassView}
 use Rattle.commit_table.proofs.Lists.{held_here, held_else}
 use Rattle.gaspi_world.specs.ShardProjections.{value_at, TookBoth, Holds}
 use Rattle.gaspi_world.specs.Numbering.{Numbering}
-use Rattle.gaspi_world.specs.ShardMachine.{Meaning, StandsFor, shard_machine}
+use Rattle.gaspi_world.specs.ShardMachine.{Meaning, IsValueAfter, shard_machine}
 use Rattle.gaspi_world.proofs.HeldShards.{looked-holds, given-holds}
 
 module _ {X : Type 0} where
@@ -54,14 +54,14 @@ module _ {S X : Type 0} (n : Numbering) (w : ShapeValue) (m : Meaning X) (party 
   pub low-first : (v u z : PassView S Event) (low high number : ℕ) (h : List Event) (x y : X) → HoldsNone v → low ≢ high → low < n.shards → high < n.shards
       → TookBoth (shard_machine n w m party) v low high x y u → Looked (shard_machine n w m party) u number h z → Holds n w m party ((low, x) ∷ (high, y) ∷ []) z
   low-first v u z low high number h x y free ne lt also t l = looked-holds n w m party ((low, x) ∷ (high, y) ∷ []) u z number h l
-      (of-two (λ i q. (g : List Event) × (held_at u.held i ≡ Some g) × StandsFor n w m i q g) low high x y (t.first, took-low v u low high x y ne t, t.low_stands) (t.second, took-high v u low high x y t, t.high_stands))
+      (of-two (λ i q. (g : List Event) × (held_at u.held i ≡ Some g) × IsValueAfter n w m i q g) low high x y (t.first, took-low v u low high x y ne t, t.low_stands) (t.second, took-high v u low high x y t, t.high_stands))
       (of-two (λ i q. i < n.shards) low high x y lt also)
       (λ i at. took-none v u low high x y i free (not-first ((high, y) ∷ []) low i x at) (not-second low high i x y at) t)
 
   pub high-first : (v u z : PassView S Event) (low high number : ℕ) (h : List Event) (x y : X) → HoldsNone v → low ≢ high → low < n.shards → high < n.shards
       → TookBoth (shard_machine n w m party) v low high x y u → Looked (shard_machine n w m party) u number h z → Holds n w m party ((high, y) ∷ (low, x) ∷ []) z
   high-first v u z low high number h x y free ne lt also t l = looked-holds n w m party ((high, y) ∷ (low, x) ∷ []) u z number h l
-      (of-two (λ i q. (g : List Event) × (held_at u.held i ≡ Some g) × StandsFor n w m i q g) high low y x (t.second, took-high v u low high x y t, t.high_stands) (t.first, took-low v u low high x y ne t, t.low_stands))
+      (of-two (λ i q. (g : List Event) × (held_at u.held i ≡ Some g) × IsValueAfter n w m i q g) high low y x (t.second, took-high v u low high x y t, t.high_stands) (t.first, took-low v u low high x y ne t, t.low_stands))
       (of-two (λ i q. i < n.shards) high low y x also lt)
       (λ i at. took-none v u low high x y i free (not-second high low i y x at) (not-first ((low, x) ∷ []) high i y at) t)
 

@@ -16,18 +16,18 @@ use Rattle.commit_table.specs.declared.views.PassView.{PassView}
 use Rattle.commit_table.proofs.Lists.{held_among, held_apart, held_here, held_else}
 use Rattle.gaspi_world.specs.ShardProjections.{value_at, AreShardsOf, HaveStepped, HoldsAt, Holds, IsCommitted}
 use Rattle.gaspi_world.specs.Numbering.{Numbering}
-use Rattle.gaspi_world.specs.RankJournals.{journal_of, noted_by, journal-last}
+use Rattle.gaspi_world.specs.RankJournals.{journal_of, recorded_by, journal-last}
 use Rattle.gaspi_world.specs.ShardLaws.{parts-moved, agree-self, agree-back, arrives, limits-are, last-step}
-use Rattle.gaspi_world.specs.ShardMachine.{Meaning, state_after, HasParts, StandsFor, AgreeAt, shard_machine}
+use Rattle.gaspi_world.specs.ShardMachine.{Meaning, state_after, HasParts, IsValueAfter, AgreeAt, shard_machine}
 
 module _ {X : Type 0} (n : Numbering) (w : ShapeValue) (m : Meaning X) where
-  stands-at : (i : ℕ) (x : X) (h k : List Event) → StandsFor n w m i x h → AgreeAt n w i h k → StandsFor n w m i x k
+  stands-at : (i : ℕ) (x : X) (h k : List Event) → IsValueAfter n w m i x h → AgreeAt n w i h k → IsValueAfter n w m i x k
   stands-at i x h k has agree = parts-moved n w m i x (state_after w h) (state_after w k) (λ rank. journal_of rank h) (λ rank. journal_of rank k) agree.state agree.journals has
 
 module _ {S X : Type 0} (n : Numbering) (w : ShapeValue) (m : Meaning X) (party : Event → Option ℕ) where
   -- After a look, what was taken stands for what is seen.
   pub looked-holds : (values : List (ℕ × X)) (v u : PassView S Event) (number : ℕ) (h : List Event) → Looked (shard_machine n w m party) v number h u
-      → ((i : ℕ) (x : X) → value_at values i ≡ Some x → (g : List Event) × (held_at v.held i ≡ Some g) × StandsFor n w m i x g)
+      → ((i : ℕ) (x : X) → value_at values i ≡ Some x → (g : List Event) × (held_at v.held i ≡ Some g) × IsValueAfter n w m i x g)
       → ((i : ℕ) (x : X) → value_at values i ≡ Some x → i < n.shards)
       → ((i : ℕ) → value_at values i ≡ None → held_at v.held i ≡ None) → Holds n w m party values u
   looked-holds values v u number h l each within others =
@@ -49,7 +49,7 @@ module _ {S X : Type 0} (n : Numbering) (w : ShapeValue) (m : Meaning X) (party 
       }
 
   -- what is held stands for each history that agrees with what was seen on its shard
-  pub stands-too : (values : List (ℕ × X)) (v : PassView S Event) (k : List Event) (i : ℕ) (x : X) → Holds n w m party values v → value_at values i ≡ Some x → AgreeAt n w i v.seen k → StandsFor n w m i x k
+  pub stands-too : (values : List (ℕ × X)) (v : PassView S Event) (k : List Event) (i : ℕ) (x : X) → Holds n w m party values v → value_at values i ≡ Some x → AgreeAt n w i v.seen k → IsValueAfter n w m i x k
   stands-too values v k i x holds at agree = stands-at n w m i x v.seen k (holds.each i x at).stands agree
 
   -- An event whose shards are held may be committed, where it may follow what was seen.
@@ -79,14 +79,14 @@ module _ {S X : Type 0} (n : Numbering) (w : ShapeValue) (m : Meaning X) (party 
 
   -- the new values have the parts that the event makes where it was committed
   made-parts : (old new : List (ℕ × X)) (v u : PassView S Event) (e : Event) (place : ℕ) (k : List Event) → IsShape w → Holds n w m party old v → AreShardsOf n w e v.seen old → Committed (shard_machine n w m party) v e place k u
-      → HaveStepped n w m e place old new → (i : ℕ) (y : X) → value_at new i ≡ Some y → StandsFor n w m i y (k ++ e ∷ [])
+      → HaveStepped n w m e place old new → (i : ℕ) (y : X) → value_at new i ≡ Some y → IsValueAfter n w m i y (k ++ e ∷ [])
   made-parts old new v u e place k world holds shards c steps i y at =
       let legal = prefix w k (e ∷ []) c.legal in
       let sound = reached-sound w k (state_after w k) world (arrives w k legal) in
       let before : (j : ℕ) (x : X) → value_at old j ≡ Some x → HasParts n w m j x (state_after w k) (λ rank. journal_of rank k) = λ j x there. stands-too old v k j x holds there (c.agrees j (shards.only j x there)) in
       let parts = steps.stepped (state_after w k) (state_after w (k ++ e ∷ [])) (λ rank. journal_of rank k) sound (limits-are w k legal) (last-step w k e c.legal) before i y at in
-      let there : HasParts n w m i y (state_after w (k ++ e ∷ [])) (λ rank. journal_of rank k ++ noted_by rank (length k) e) =
-      subst (λ (p : ℕ). HasParts n w m i y (state_after w (k ++ e ∷ [])) (λ rank. journal_of rank k ++ noted_by rank p e)) c.place_is parts in
+      let there : HasParts n w m i y (state_after w (k ++ e ∷ [])) (λ rank. journal_of rank k ++ recorded_by rank (length k) e) =
+      subst (λ (p : ℕ). HasParts n w m i y (state_after w (k ++ e ∷ [])) (λ rank. journal_of rank k ++ recorded_by rank p e)) c.place_is parts in
       record {
         posts = λ rank p number is. subst (λ (j : List PlacedEvent). m.IsPosts y rank p j) (sym (journal-last rank k e)) (there.posts rank p number is);
         memory = there.memory;
@@ -107,7 +107,7 @@ module _ {S X : Type 0} (n : Numbering) (w : ShapeValue) (m : Meaning X) (party 
               upto = k ++ e ∷ [];
               held = ap (λ (z : PassView S Event). held_at z.held i) c.is ∙ held_among (numbers_of n.number (state_after w v.seen) e) (k ++ e ∷ []) v.held i on;
               agrees = subst (λ (z : List Event). AgreeAt n w i (k ++ e ∷ []) z) seen (agree-self n w i (k ++ e ∷ []));
-              stands = subst (λ (z : List Event). StandsFor n w m i y z) seen (made-parts old new v u e place k world holds shards c steps i y at);
+              stands = subst (λ (z : List Event). IsValueAfter n w m i y z) seen (made-parts old new v u e place k world holds shards c steps i y at);
             };
         within = λ i y at. let was = steps.from i y at in holds.within i was.0 was.1;
         others = λ i at.

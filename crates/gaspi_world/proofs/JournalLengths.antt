@@ -24,7 +24,7 @@ use Rattle.gaspi_model.proofs.Sound.Opening.{opens}
 use Rattle.gaspi_model.proofs.Sound.Steps.{steps, called-events, take-events, put-events, depth-few}
 use Rattle.gaspi_model.proofs.Sound.Registered.{registering, registered-from}
 use Rattle.gaspi_world.specs.ShardLaws.{arrives, limits-are, last-step, owner-within}
-use Rattle.gaspi_world.specs.RankJournals.{journal_of, journal_from, noted_by, placed_at, journal-last, own-noted}
+use Rattle.gaspi_world.specs.RankJournals.{journal_of, journal_from, recorded_by, placed_at, journal-last, own-noted}
 use Rattle.gaspi_world.specs.ShardMachine.{state_after}
 
 -- posts afterwards come from posts before, with one event more where they are the owner's
@@ -143,7 +143,7 @@ some-room w h e world legal =
     let count = journal-length w (h ++ e ∷ []) t (owner_of e) there.0 world (arrives w (h ++ e ∷ []) legal) there.1 in
     let room = (sound.posts (owner_of e) there.0 there.1).room in
     let events : t.limits.events ≡ w.limits.events = ap (λ (l : Limits). l.events) (limits-are w (h ++ e ∷ []) legal) in
-    let noted : noted_by (owner_of e) (length h) e ≡ placed_at (length h) e ∷ [] = own-noted (owner_of e) (length h) e refl in
+    let noted : recorded_by (owner_of e) (length h) e ≡ placed_at (length h) e ∷ [] = own-noted (owner_of e) (length h) e refl in
     let last : length (journal_of (owner_of e) (h ++ e ∷ [])) ≡ length (journal_of (owner_of e) h) + 1 =
     ap length (journal-last (owner_of e) h e ∙ ap (λ (l : List PlacedEvent). journal_of (owner_of e) h ++ l) noted) ∙ length-append (journal_of (owner_of e) h) (placed_at (length h) e ∷ []) in
     omega arith

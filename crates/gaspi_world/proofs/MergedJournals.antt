@@ -18,9 +18,9 @@ use Rattle.gaspi_texts.specs.Merges.{cut, joined, AreCutOf, AreRisingFrom}
 use Rattle.gaspi_texts.proofs.Cutting.{joined-are-cut, joined-rise, length-joined}
 use Rattle.rank_node.specs.Values.{PostsValue}
 use Rattle.gaspi_world.specs.Numbering.{by_ranks}
-use Rattle.gaspi_world.specs.RankJournals.{journal_of, journal_from, noted_by}
+use Rattle.gaspi_world.specs.RankJournals.{journal_of, journal_from, recorded_by}
 use Rattle.gaspi_world.specs.ShardLaws.{arrives, limits-are}
-use Rattle.gaspi_world.specs.ShardMachine.{StandsFor, state_after}
+use Rattle.gaspi_world.specs.ShardMachine.{IsValueAfter, state_after}
 use Rattle.gaspi_world.proofs.JournalLengths.{journal-length, owner-posts}
 use Rattle.gaspi_world.specs.Closing.{journals_of, rank_journals}
 use Rattle.gaspi_world.specs.Shards.{node_meaning}
@@ -46,7 +46,7 @@ no-more (shards.Group node ∷ values) = (let rest = no-more values in omega ari
 -- the events of a rank, in the words of the merge
 cut-is : (rank place : ℕ) (h : List Event) → cut owner_of rank place h ≡ journal_from rank place h
 cut-is rank place [] = refl
-cut-is rank place (e ∷ h) = ap (λ (l : List PlacedEvent). noted_by rank place e ++ l) (cut-is rank (suc place) h)
+cut-is rank place (e ∷ h) = ap (λ (l : List PlacedEvent). recorded_by rank place e ++ l) (cut-is rank (suc place) h)
 
 -- the events up to a place, and those behind it
 split-at : (h : List Event) (k : ℕ) (e : Event) → slice_get h k ≡ Some e → (take k h ++ e ∷ []) ++ drop (suc k) h ≡ h
@@ -83,7 +83,7 @@ module _ (w : ShapeValue) (h : List Event) (world : IsShape w) (legal : is_legal
       omega arith
 
   abbrev Stands : ℕ → WorldShard → Type 0
-  Stands i x = StandsFor (by_ranks w) w (node_meaning w) i x h
+  Stands i x = IsValueAfter (by_ranks w) w (node_meaning w) i x h
 
   -- behind the ranks there are groups
   group-stands : (i : ℕ) (node : _) → w.limits.ranks ≤ i → i < w.limits.ranks + 8 → Stands i (shards.Rank node) → ⊥

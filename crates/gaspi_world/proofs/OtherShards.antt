@@ -12,7 +12,7 @@ use Rattle.rank_node.specs.declared.held_nodes.OtherNode.{OtherNode}
 use Rattle.rank_node.specs.declared.held_nodes.OtherNode.TheVariants as others
 use Rattle.gaspi_world.specs.ShardProjections as held
 use Rattle.gaspi_world.specs.Numbering.{by_ranks}
-use Rattle.gaspi_world.specs.ShardMachine.{StandsFor}
+use Rattle.gaspi_world.specs.ShardMachine.{IsValueAfter}
 use Rattle.gaspi_world.proofs.HeldPairs.{here, elsewhere, of-two, not-first, not-second, second-given}
 use Rattle.gaspi_world.proofs.HeldShards.{looked-holds, may-give}
 use Rattle.gaspi_world.specs.HeldShards.{Holds, values_of, other_value, IsOther, IsOtherShard}
@@ -55,7 +55,7 @@ module _ {S : Type 0} (w : ShapeValue) (h : HeldShards) (v : PassView S Event) (
   both-held u z j number k seen value apart lt is taken look =
       let before = may-give (by_ranks w) w (node_meaning w) (party_of w) ((h.own, mine) ∷ []) v h.own mine one (here [] h.own h.own mine refl) in
       looked-holds (by_ranks w) w (node_meaning w) (party_of w) ((h.own, mine) ∷ (j, value) ∷ []) u z number seen look
-      (of-two (λ i q. (g : List Event) × (held_at u.held i ≡ Some g) × StandsFor (by_ranks w) w (node_meaning w) i q g) h.own j mine value
+      (of-two (λ i q. (g : List Event) × (held_at u.held i ≡ Some g) × IsValueAfter (by_ranks w) w (node_meaning w) i q g) h.own j mine value
       (before.0, ap (λ (y : PassView S Event). held_at y.held h.own) is ∙ (held_else v.held j h.own (Some k) (λ e. apart (sym e)) ∙ before.1), before.2)
       (k, ap (λ (y : PassView S Event). held_at y.held j) is ∙ held_here v.held j (Some k), taken.stands))
       (of-two (λ i q. i < (by_ranks w).shards) h.own j mine value (within-all w h.own holds.own) lt)
@@ -80,7 +80,7 @@ module _ {S : Type 0} (w : ShapeValue) (h : HeldShards) (v : PassView S Event) (
   two value is = subst (λ (l : List (ℕ × WorldShard)). held.Holds (by_ranks w) w (node_meaning w) (party_of w) ((h.own, shards.Rank h.nodes.own) ∷ l) v) (ap (λ (o : Option ℕ). other_value o h.nodes.other) some ∙ (ap (other_value (Some j)) (sym same) ∙ is)) holds.shards
 
   -- the other may be given back
-  pub may-leave : (value : WorldShard) → other_value (Some j) node ≡ (j, value) ∷ [] → (g : List Event) × (held_at v.held j ≡ Some g) × StandsFor (by_ranks w) w (node_meaning w) j value g
+  pub may-leave : (value : WorldShard) → other_value (Some j) node ≡ (j, value) ∷ [] → (g : List Event) × (held_at v.held j ≡ Some g) × IsValueAfter (by_ranks w) w (node_meaning w) j value g
   may-leave value is = may-give (by_ranks w) w (node_meaning w) (party_of w) ((h.own, shards.Rank h.nodes.own) ∷ (j, value) ∷ []) v j value (two value is)
       (elsewhere ((j, value) ∷ []) h.own j (shards.Rank h.nodes.own) apart-other.1 ∙ here [] j j value refl)
 

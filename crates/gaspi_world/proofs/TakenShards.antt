@@ -20,7 +20,7 @@ use Rattle.gaspi_world.specs.ShardProjections as held
 use Rattle.gaspi_world.specs.ShardProjections.{value_at, TookBoth}
 use Rattle.gaspi_world.specs.Numbering.{by_ranks}
 use Rattle.gaspi_world.specs.ShardLaws.{arrives, limits-are}
-use Rattle.gaspi_world.specs.ShardMachine.{StandsFor, state_after}
+use Rattle.gaspi_world.specs.ShardMachine.{IsValueAfter, state_after}
 use Rattle.gaspi_world.proofs.HeldPairs.{here, elsewhere, not-first}
 use Rattle.gaspi_world.proofs.HeldShards.{looked-holds}
 use Rattle.gaspi_world.specs.HeldShards.{Holds, values_of, IsOther, IsOtherShard}
@@ -38,7 +38,7 @@ module _ (w : ShapeValue) (world : IsShape w) where
       there-within (state_after w h).posts rank (subst (λ (n : ℕ). rank < n) (sym (sound.ranks ∙ ap (λ (l : Limits). l.ranks) (limits-are w h legal))) lt)
 
   -- the value of a rank's shard is a rank's node
-  pub rank-stands : (x : WorldShard) (h : List Event) (rank : ℕ) → is_legal w h ≡ true → rank < w.limits.ranks → StandsFor (by_ranks w) w (node_meaning w) rank x h → IsRankShard x
+  pub rank-stands : (x : WorldShard) (h : List Event) (rank : ℕ) → is_legal w h ≡ true → rank < w.limits.ranks → IsValueAfter (by_ranks w) w (node_meaning w) rank x h → IsRankShard x
   rank-stands (shards.Rank node) h rank legal lt has = tt
   rank-stands (shards.Group node) h rank legal lt has = (let p = rank-posts h rank legal lt in absurd (has.posts rank p.0 refl p.1))
 
@@ -54,12 +54,12 @@ module _ {S : Type 0} (w : ShapeValue) where
       same : (x q : WorldShard) → ◌≡◌ {A = Option WorldShard} (Some x) (Some q) → x ≡ q
       same x q e = cc
 
-      one : (i : ℕ) (q : WorldShard) → value_at ((own, x) ∷ []) i ≡ Some q → (k : List Event) × (held_at t.held i ≡ Some k) × StandsFor (by_ranks w) w (node_meaning w) i q k
+      one : (i : ℕ) (q : WorldShard) → value_at ((own, x) ∷ []) i ≡ Some q → (k : List Event) × (held_at t.held i ≡ Some k) × IsValueAfter (by_ranks w) w (node_meaning w) i q k
       one i q at = dite (ℕ_discrete i own)
           (λ e. (
             g,
             ap (λ (y : PassView S Event). held_at y.held i) is ∙ (ap (held_at ((own, Some g) ∷ v.held)) e ∙ held_here v.held own (Some g)),
-            subst (λ (j : ℕ). StandsFor (by_ranks w) w (node_meaning w) j q g) (sym e) (subst (λ (y : WorldShard). StandsFor (by_ranks w) w (node_meaning w) own y g) (same x q (sym (here [] own i x e) ∙ at)) taken.stands),
+            subst (λ (j : ℕ). IsValueAfter (by_ranks w) w (node_meaning w) j q g) (sym e) (subst (λ (y : WorldShard). IsValueAfter (by_ranks w) w (node_meaning w) own y g) (same x q (sym (here [] own i x e) ∙ at)) taken.stands),
           ))
           (λ ne. absurd (let none = sym (elsewhere [] own i x ne) ∙ at in let no : ⊥ = cc in no))
 

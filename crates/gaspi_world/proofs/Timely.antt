@@ -32,7 +32,7 @@ use Rattle.gaspi_types.specs.declared.replies.Reply.TheVariants as replies
 use Rattle.gaspi_types.specs.declared.shapes.Limits.{Limits}
 use Rattle.gaspi_types.proofs.Chains.{bind_then}
 use Rattle.gaspi_model.specs.AtomicCalls.{word_result}
-use Rattle.gaspi_model.specs.Calls.{plain_result, requested_kinds, call_result, ready_of, answer}
+use Rattle.gaspi_model.specs.Calls.{plain_result, requested_kinds, call_result, answer_of_result, answer}
 use Rattle.gaspi_model.specs.CollectiveCalls.{element_checks, staged_at, args_of, segment_checks, agreement_checks, full_reply, resumed_answer, resume_result, collective_result, collective_ready, collective_answer}
 use Rattle.gaspi_model.specs.Memories.{slots_of}
 use Rattle.gaspi_model.specs.PostCalls.{post_request_result}
@@ -142,7 +142,7 @@ call-none limits me posts memory call h = go (row_of call).posting refl
 abbrev IsTimely : Ready → Type 0
 IsTimely ok_or = ok_or ≡ ready.Reply replies.Timeout → ⊥
 
-ready-timely : (finds : Result (Option Reply) Refusal) → IsNoTimeout finds → IsTimely (ready_of finds)
+ready-timely : (finds : Result (Option Reply) Refusal) → IsNoTimeout finds → IsTimely (answer_of_result finds)
 ready-timely (Ok None) none h = (let no : ⊥ = cc in no)
 ready-timely (Ok (Some reply)) none h = none (let same : reply ≡ replies.Timeout = cc in ap (λ (r : Reply). Ok (Some r)) same)
 ready-timely (Err refusal) none h = (let no : ⊥ = cc in no)

@@ -129,7 +129,7 @@ module _ {S : Type 0} (w : ShapeValue) (world : IsShape w) (laws : FrontLaws) (h
 -- A transfer that was committed after one look, whatever others committed between, is recorded.
 module _ {S : Type 0} (w : ShapeValue) where
   moved-once : (h : HeldShards) (v u z : PassView S Event) (e : Event) (held : List (ℕ × Option (List Event))) (records : List (ℕ × LockOp)) → IsLookedOnly (world_machine w) v u → (a : IsCommitted w u e z) → Holds w h z
-      → IsCommittedOnce (world_machine w) v e (length a.before) (record z { held = held; lock_records = records })
+      → IsCommittedOnce (world_machine w) v e (length a.before) (record z { held = held; lock_operations = records })
   moved-once h v u z e held records look a holds = record {
     before = a.before;
     seen = a.seen;
@@ -151,5 +151,5 @@ module _ {S : Type 0} (w : ShapeValue) where
       (e, length a.before, is, subst (λ (y : PassView S Event). IsCommittedOnce (world_machine w) v e (length a.before) y) (sym left) (go other))
     where
       go : (other : Option ℕ) → IsCommittedOnce (world_machine w) v e (length a.before) (left_by own other z)
-      go None = moved-once h v u z e (after_give_back z own).held (after_give_back z own).lock_records look a holds
-      go (Some j) = moved-once h v u z e (after_give_back (after_give_back z j) own).held (after_give_back (after_give_back z j) own).lock_records look a holds
+      go None = moved-once h v u z e (after_give_back z own).held (after_give_back z own).lock_operations look a holds
+      go (Some j) = moved-once h v u z e (after_give_back (after_give_back z j) own).held (after_give_back (after_give_back z j) own).lock_operations look a holds

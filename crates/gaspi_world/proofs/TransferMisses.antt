@@ -20,7 +20,7 @@ module _ {S X E : Type 0} (m : Machine X E) (May : List E → ℕ → Type 0) wh
     first = met.first;
     met = met.goes_on;
     tried = met.own;
-    lock_records = refl;
+    lock_operations = refl;
     other = met.other;
     holds = met.holds;
     apart = met.apart;

@@ -26,7 +26,7 @@ use Rattle.gaspi_world.specs.Numbering.{by_ranks}
 use Rattle.gaspi_world.specs.RankJournals.{journal_of}
 use Rattle.gaspi_world.specs.RankShards.{rank_other}
 use Rattle.gaspi_world.specs.ShardLaws.{arrives, limits-are, parts-moved}
-use Rattle.gaspi_world.specs.ShardMachine.{StandsFor, state_after}
+use Rattle.gaspi_world.specs.ShardMachine.{IsValueAfter, state_after}
 use Rattle.gaspi_world.proofs.HeldPairs.{low-first, both-looked}
 use Rattle.gaspi_world.specs.HeldShards.{values_of, IsOther, IsOtherShard}
 use Rattle.gaspi_world.specs.Transfers.{MayTransfer, HasNoEnabledTransfer, HasActive, HaveEnded, IsFrontHeld, Tries}
@@ -66,9 +66,9 @@ ended-of-node n node ended is told = told ∙ ap (λ (m : Node). not (list_any i
 pub posts-of-node : (n : Node) (node : Box Node Global) (s : State) (rank : ℕ) → n ≡ node.value → IsNodeOf s rank node.value → IsPostsOf s n.posts.me n.posts
 posts-of-node n node s rank is here = subst (λ (m : Node). IsPostsOf s m.posts.me m.posts) (sym is) (by-me s rank node.value.posts here.posts)
 
-pub return-of : {S : Type 0} (w : ShapeValue) (x : PassView S Event) (own origin : ℕ) (node : Box Node Global) → own ≡ origin → (k : List Event) × (held_at x.held origin ≡ Some k) × StandsFor (by_ranks w) w (node_meaning w) origin (shards.Rank node) k
-    → (k : List Event) × (held_at x.held own ≡ Some k) × StandsFor (by_ranks w) w (node_meaning w) own (shards.Rank node) k
-return-of w x own origin node same may = subst (λ (n : ℕ). (k : List Event) × (held_at x.held n ≡ Some k) × StandsFor (by_ranks w) w (node_meaning w) n (shards.Rank node) k) (sym same) may
+pub return-of : {S : Type 0} (w : ShapeValue) (x : PassView S Event) (own origin : ℕ) (node : Box Node Global) → own ≡ origin → (k : List Event) × (held_at x.held origin ≡ Some k) × IsValueAfter (by_ranks w) w (node_meaning w) origin (shards.Rank node) k
+    → (k : List Event) × (held_at x.held own ≡ Some k) × IsValueAfter (by_ranks w) w (node_meaning w) own (shards.Rank node) k
+return-of w x own origin node same may = subst (λ (n : ℕ). (k : List Event) × (held_at x.held n ≡ Some k) × IsValueAfter (by_ranks w) w (node_meaning w) n (shards.Rank node) k) (sym same) may
 
 -- and its other shard is that of its entry
 pub other-of-node : (n : Node) (node : Box Node Global) (t : Transfer) (e : Entry) (ranks many : ℕ) (other : Option ℕ) → n ≡ node.value → ranks ≡ many → front_entry node.value.posts t ≡ Some e
@@ -101,7 +101,7 @@ front-held w t e h node own other rest front next footprint values own_is other_
 module _ {S : Type 0} (w : ShapeValue) (world : IsShape w) (origin : ℕ) (rank : origin < w.limits.ranks) (v t : PassView S Event) (g : List Event) (node : Box Node Global) (is : t ≡ after_take v origin g)
     (taken : ShardTaken (world_machine w) v origin (shards.Rank node) g) where
   -- the node is the rank's after each legal history for which it stands
-  node-at : (h : List Event) → is_legal w h ≡ true → StandsFor (by_ranks w) w (node_meaning w) origin (shards.Rank node) h → IsNodeOf (state_after w h) origin node.value
+  node-at : (h : List Event) → is_legal w h ≡ true → IsValueAfter (by_ranks w) w (node_meaning w) origin (shards.Rank node) h → IsNodeOf (state_after w h) origin node.value
   node-at h legal stands =
       (own-node w (state_after w h) (reached-sound w h (state_after w h) world (arrives w h legal)) (limits-are w h legal) origin (record { own = node; other = others.Nothing }) (λ r. journal_of r h) rank stands).0
 
@@ -121,7 +121,7 @@ module _ {S : Type 0} (w : ShapeValue) (world : IsShape w) (origin : ℕ) (rank 
   free-else i free ne = ap (λ (y : PassView S Event). held_at y.held i) is ∙ (held_else v.held origin i (Some g) ne ∙ free i)
 
   -- the shard may be given back after a look
-  pub may-return : (u x : PassView S Event) (number : ℕ) (h : List Event) → held_at u.held origin ≡ Some g → Looked (world_machine w) u number h x → (k : List Event) × (held_at x.held origin ≡ Some k) × StandsFor (by_ranks w) w (node_meaning w) origin (shards.Rank node) k
+  pub may-return : (u x : PassView S Event) (number : ℕ) (h : List Event) → held_at u.held origin ≡ Some g → Looked (world_machine w) u number h x → (k : List Event) × (held_at x.held origin ≡ Some k) × IsValueAfter (by_ranks w) w (node_meaning w) origin (shards.Rank node) k
   may-return u x number h held l = (g, ap (λ (y : PassView S Event). held_at y.held origin) l.is ∙ held, taken.stands)
 
   left-after : (x : PassView S Event) → IsLookedOnly (world_machine w) v x → IsLookedOnly (world_machine w) v (after_give_back x origin)

@@ -77,7 +77,7 @@ module _ {S : Type 0} where
   }
 
   -- shards are given back: what a pass holds and its lock operations are no matter
-  committed-back : (v n : PassView S Event) (events : List Event) (held : List (ℕ × Option (List Event))) (records : List (ℕ × LockOp)) → HasCommitted events v n → HasCommitted events v (record n { held = held; lock_records = records })
+  committed-back : (v n : PassView S Event) (events : List Event) (held : List (ℕ × Option (List Event))) (records : List (ℕ × LockOp)) → HasCommitted events v n → HasCommitted events v (record n { held = held; lock_operations = records })
   committed-back v n events held records all = record { places = all.places; commits = all.commits; many = all.many }
 
 module _ (w : ShapeValue) (c : CallerId) (call : Call) where
@@ -204,7 +204,7 @@ module _ {S : Type 0} (w : ShapeValue) (c : CallerId) (call : Call) where
   seen-more m u joins calls worked = subst (IsPrefix m.seen) (sym worked.seen) (prefix_more m.seen worked.before calls worked.later)
 
   goes-on : (v m u : PassView S Event) (joins calls : List Event) (held : List (ℕ × Option (List Event))) (records : List (ℕ × LockOp)) → IsShape w → IsPassOf w c v → IsLookedOnly (world_machine w) v m → is_legal w u.seen ≡ true → IsOwn (world_machine w) u.party u.seen u.mine
-      → CommittedWhileHeld w c call joins calls m u → IsExtended w c v (record u { held = held; lock_records = records })
+      → CommittedWhileHeld w c call joins calls m u → IsExtended w c v (record u { held = held; lock_operations = records })
   goes-on v m u joins calls held records world pass look legal own worked = record {
     seen = prefix_trans v.seen m.seen u.seen look.goes_on (seen-more m u joins calls worked);
     legal = legal;
@@ -214,7 +214,7 @@ module _ {S : Type 0} (w : ShapeValue) (c : CallerId) (call : Call) where
   }
 
   looked-once : (v m u : PassView S Event) (joins calls : List Event) (held : List (ℕ × Option (List Event))) (records : List (ℕ × LockOp)) → IsShape w → IsPassOf w c v → IsLookedOnly (world_machine w) v m → CommittedWhileHeld w c call joins calls m u
-      → LookedOnce w c v (record u { held = held; lock_records = records }) m.seen
+      → LookedOnce w c v (record u { held = held; lock_operations = records }) m.seen
   looked-once v m u joins calls held records world pass look worked = record {
     looks = worked.looks ∙ look.looks;
     is_look = record {
@@ -227,7 +227,7 @@ module _ {S : Type 0} (w : ShapeValue) (c : CallerId) (call : Call) where
 
   -- An attempt tells what was done while the shards were held, and the one look before it.
   attempted : (look : Look) (v m u : PassView S Event) (r : Result Reply Halt) (held : List (ℕ × Option (List Event))) (records : List (ℕ × LockOp)) → IsShape w → IsPassOf w c v → IsLookedOnly (world_machine w) v m → is_legal w u.seen ≡ true → IsOwn (world_machine w) u.party u.seen u.mine
-      → AttemptedWhileHeld w c call look m r u → Attempted w c call look v r (record u { held = held; lock_records = records })
+      → AttemptedWhileHeld w c call look m r u → Attempted w c call look v r (record u { held = held; lock_operations = records })
   attempted look v m u (Ok reply) held records world pass looks legal own (joins, worked, room, last, unready) = record {
     goes_on = goes-on v m u joins (Called c call reply ∷ []) held records world pass looks legal own worked;
     history = m.seen;
@@ -261,7 +261,7 @@ module _ {S : Type 0} (w : ShapeValue) (c : CallerId) (call : Call) where
       let seen : m.seen ≡ u.seen = ap (λ (k : PassView S Event). k.seen) (sym same) in
       record {
         goes_on = goes-on v m u [] [] held records world pass looks legal own worked;
-        looked = subst (LookedOnce w c v (record u { held = held; lock_records = records })) seen (looked-once v m u [] [] held records world pass looks worked);
+        looked = subst (LookedOnce w c v (record u { held = held; lock_operations = records })) seen (looked-once v m u [] [] held records world pass looks worked);
         mine = ap (λ (k : PassView S Event). k.mine) same ∙ looks.mine;
         commits = ap (λ (k : PassView S Event). k.commits) same ∙ looks.commits;
         room = ap (lacks_room_after w c call) (sym seen) ∙ room;
@@ -271,7 +271,7 @@ module _ {S : Type 0} (w : ShapeValue) (c : CallerId) (call : Call) where
       let seen : m.seen ≡ u.seen = ap (λ (k : PassView S Event). k.seen) (sym same) in
       record {
         goes_on = goes-on v m u [] [] held records world pass looks legal own worked;
-        looked = subst (LookedOnce w c v (record u { held = held; lock_records = records })) seen (looked-once v m u [] [] held records world pass looks worked);
+        looked = subst (LookedOnce w c v (record u { held = held; lock_operations = records })) seen (looked-once v m u [] [] held records world pass looks worked);
         mine = ap (λ (k : PassView S Event). k.mine) same ∙ looks.mine;
         commits = ap (λ (k : PassView S Event). k.commits) same ∙ looks.commits;
         full = ap (lacks_room_after w c call) (sym seen) ∙ full;
@@ -280,8 +280,8 @@ module _ {S : Type 0} (w : ShapeValue) (c : CallerId) (call : Call) where
 
   pub attempted-left : (look : Look) (v m u : PassView S Event) (r : Result Reply Halt) (own : ℕ) (other : Option ℕ) → IsShape w → IsPassOf w c v → IsLookedOnly (world_machine w) v m → is_legal w u.seen ≡ true → IsOwn (world_machine w) u.party u.seen u.mine
       → AttemptedWhileHeld w c call look m r u → Attempted w c call look v r (left_by own other u)
-  attempted-left look v m u r own None world pass looks legal owns worked = attempted look v m u r (after_give_back u own).held (after_give_back u own).lock_records world pass looks legal owns worked
-  attempted-left look v m u r own (Some j) world pass looks legal owns worked = attempted look v m u r (after_give_back (after_give_back u j) own).held (after_give_back (after_give_back u j) own).lock_records world pass looks legal owns worked
+  attempted-left look v m u r own None world pass looks legal owns worked = attempted look v m u r (after_give_back u own).held (after_give_back u own).lock_operations world pass looks legal owns worked
+  attempted-left look v m u r own (Some j) world pass looks legal owns worked = attempted look v m u r (after_give_back (after_give_back u j) own).held (after_give_back (after_give_back u j) own).lock_operations world pass looks legal owns worked
 
   -- A miss tells that no look was made.
   pub missed-busy : (look : Look) (v n : PassView S Event) → IsShape w → IsPassOf w c v → IsMissed (world_machine w) v (IsEither c.rank (call_other w c call)) n → Attempted w c call look v (Err Busy) n

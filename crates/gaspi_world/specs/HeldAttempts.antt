@@ -20,7 +20,7 @@ use Rattle.timeout_state.specs.declared.budget.Look.{Look}
 use Rattle.timeout_state.specs.declared.budget.Look.TheVariants.{More, Final}
 use Rattle.commit_table.specs.Calls.{IsOf, PassValue, TableValue}
 use Rattle.commit_table.specs.declared.views.PassView.{PassView}
-use Rattle.rank_node.specs.Rooms.{FitsRoom, FitsReserved, IsRoomFor}
+use Rattle.rank_node.specs.Rooms.{ReplyFitsReserved, FitsReserved, IsReservedFor}
 use Rattle.rank_node.specs.Values.{PostsValue}
 use Rattle.rank_node.specs.declared.rooms.Room.{Room}
 use Rattle.gaspi_world.specs.RankShards.{call_other}
@@ -67,11 +67,11 @@ module _ (w : ShapeValue) (c : CallerId) (call : Call) where
 
   -- what was found fits the memory that is reserved for the call
   abbrev pub FitsMemory : Ready → HeldShards → Type 0
-  FitsMemory found h = (room : Room) → IsRoomFor h.nodes.own.value.posts h.nodes.own.value.memory call room → FitsReserved found room
+  FitsMemory found h = (room : Room) → IsReservedFor h.nodes.own.value.posts h.nodes.own.value.memory call room → FitsReserved found room
 
   -- a reply fits reserved memory, where what was found is one
   abbrev pub FoundFits : Ready → Room → Type 0
-  FoundFits (ready.Reply reply) room = FitsRoom reply room
+  FoundFits (ready.Reply reply) room = ReplyFitsReserved reply room
   FoundFits (ready.Join args) room = Unit {0}
   FoundFits ready.NotReady room = Unit {0}
 

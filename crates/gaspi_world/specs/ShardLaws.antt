@@ -24,8 +24,8 @@ use Rattle.gaspi_model.proofs.Sound.Steps.{steps, limits-stay}
 use Rattle.commit_table.specs.Machine.{Laws}
 use Rattle.gaspi_model.proofs.HistoryLengths.{few-events}
 use Rattle.gaspi_world.specs.Numbering.{Numbering}
-use Rattle.gaspi_world.specs.RankJournals.{journal_of, noted_by, journal-last, none-noted}
-use Rattle.gaspi_world.specs.ShardMachine.{Meaning, state_in, state_after, SameAt, HasParts, StandsFor, AgreeAt, shard_machine}
+use Rattle.gaspi_world.specs.RankJournals.{journal_of, recorded_by, journal-last, none-noted}
+use Rattle.gaspi_world.specs.ShardMachine.{Meaning, state_in, state_after, SameAt, HasParts, IsValueAfter, AgreeAt, shard_machine}
 
 -- Parts that are the same.
 pub same-self : (s : State) (part : Shard) → AgreeOnShard s s part
@@ -185,12 +185,12 @@ module _ (n : Numbering) (w : ShapeValue) where
   -- event noted at its place, it stands for the history in which the event was committed, which agreed with what was seen on its shards.
   pub stands-after : {X : Type 0} (m : Meaning X) (h k : List Event) (e : Event) (i : ℕ) (x : X) → is_legal w (h ++ e ∷ []) ≡ true → is_legal w k ≡ true
       → ((j : ℕ) → list_any (eqb j) (shards_of h e) ≡ true → AgreeAt n w j h k) → list_any (eqb i) (shards_of h e) ≡ true
-      → HasParts n w m i x (state_after w (h ++ e ∷ [])) (λ rank. journal_of rank h ++ noted_by rank (length k) e) → StandsFor n w m i x (k ++ e ∷ [])
+      → HasParts n w m i x (state_after w (h ++ e ∷ [])) (λ rank. journal_of rank h ++ recorded_by rank (length k) e) → IsValueAfter n w m i x (k ++ e ∷ [])
   stands-after m h k e i x legal also agree among has =
       let too = shards-follow h k e legal also agree in
       let there = state-is w (k ++ e ∷ []) too.made (goes-on w k e too.made also too.is) in
       let here = agree i among in
       let same : SameAt n w i (state_after w (h ++ e ∷ [])) (state_after w (k ++ e ∷ [])) = λ part at.
       subst (λ (s : State). AgreeOnShard (state_after w (h ++ e ∷ [])) s part) (sym there) (too.same part (here.state part at)) in
-      parts-moved m i x (state_after w (h ++ e ∷ [])) (state_after w (k ++ e ∷ [])) (λ rank. journal_of rank h ++ noted_by rank (length k) e) (λ rank. journal_of rank (k ++ e ∷ [])) same
-      (λ rank at. ap (λ (l : List PlacedEvent). l ++ noted_by rank (length k) e) (here.journals rank at) ∙ sym (journal-last rank k e)) has
+      parts-moved m i x (state_after w (h ++ e ∷ [])) (state_after w (k ++ e ∷ [])) (λ rank. journal_of rank h ++ recorded_by rank (length k) e) (λ rank. journal_of rank (k ++ e ∷ [])) same
+      (λ rank at. ap (λ (l : List PlacedEvent). l ++ recorded_by rank (length k) e) (here.journals rank at) ∙ sym (journal-last rank k e)) has

@@ -45,8 +45,8 @@ module _ (n : Numbering) (w : ShapeValue) where
     pub group : (id : ℕ) (g : groups.Group) → n.number (parts.Group id) ≡ i → slice_get s.groups id ≡ Some g → m.IsGroup x id g
 
   -- a value of a shard stands for a history
-  abbrev pub StandsFor : {X : Type 0} → Meaning X → ℕ → X → List Event → Type 0
-  StandsFor m i x h = HasParts m i x (state_after w h) (λ rank. journal_of rank h)
+  abbrev pub IsValueAfter : {X : Type 0} → Meaning X → ℕ → X → List Event → Type 0
+  IsValueAfter m i x h = HasParts m i x (state_after w h) (λ rank. journal_of rank h)
 
   -- two histories agree on a shard
   pub record AgreeAt (i : ℕ) (h k : List Event) : Type 0 where
@@ -57,7 +57,7 @@ module _ (n : Numbering) (w : ShapeValue) where
   shard_machine {X} m party = record {
     shards = n.shards;
     Legal = λ h. is_legal w h ≡ true;
-    Stands = λ i x h. StandsFor m i x h;
+    Stands = λ i x h. IsValueAfter m i x h;
     Agree = λ i h k. AgreeAt i h k;
     shards_of = λ h e. numbers_of n.number (state_after w h) e;
     owner = λ e. n.number (parts.Posts (owner_of e));

@@ -13,8 +13,8 @@ use Rattle.commit_table.specs.Machine.{Machine, IsOwn}
 use Rattle.commit_table.specs.Views.{held_at, after_take, mine_after}
 use Rattle.commit_table.specs.declared.views.PassView.{PassView}
 use Rattle.gaspi_world.specs.Numbering.{Numbering}
-use Rattle.gaspi_world.specs.RankJournals.{noted_by}
-use Rattle.gaspi_world.specs.ShardMachine.{Meaning, state_after, HasParts, StandsFor, AgreeAt, shard_machine}
+use Rattle.gaspi_world.specs.RankJournals.{recorded_by}
+use Rattle.gaspi_world.specs.ShardMachine.{Meaning, state_after, HasParts, IsValueAfter, AgreeAt, shard_machine}
 
 -- the value of a shard, of those that a pass holds
 abbrev pub value_at : {X : Type 0} → List (ℕ × X) → ℕ → Option X
@@ -34,7 +34,7 @@ module _ {X : Type 0} (n : Numbering) (w : ShapeValue) (m : Meaning X) where
     pub gone : (i : ℕ) → value_at new i ≡ None → value_at old i ≡ None
     pub from : (i : ℕ) (y : X) → value_at new i ≡ Some y → (x : X) × (value_at old i ≡ Some x)
     pub stepped : (s t : State) (journal : ℕ → List PlacedEvent) → IsSound s → s.limits ≡ w.limits → step s e ≡ Ok t → ((j : ℕ) (x : X) → value_at old j ≡ Some x → HasParts n w m j x s journal)
-        → (i : ℕ) (y : X) → value_at new i ≡ Some y → HasParts n w m i y t (λ rank. journal rank ++ noted_by rank place e)
+        → (i : ℕ) (y : X) → value_at new i ≡ Some y → HasParts n w m i y t (λ rank. journal rank ++ recorded_by rank place e)
 
 module _ {S X : Type 0} (n : Numbering) (w : ShapeValue) (m : Meaning X) where
   -- a shard is held, with a history that agrees with what the pass has seen there, and its value stands for what it has seen
@@ -42,7 +42,7 @@ module _ {S X : Type 0} (n : Numbering) (w : ShapeValue) (m : Meaning X) where
     pub upto : List Event
     pub held : held_at v.held i ≡ Some upto
     pub agrees : AgreeAt n w i upto v.seen
-    pub stands : StandsFor n w m i x v.seen
+    pub stands : IsValueAfter n w m i x v.seen
 
 module _ {S X : Type 0} (n : Numbering) (w : ShapeValue) (m : Meaning X) (party : Event → Option ℕ) where
   -- the pass holds the shards of these values and no other

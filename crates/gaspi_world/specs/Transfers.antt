@@ -14,7 +14,7 @@ use Rattle.gaspi_model.specs.declared.states.State.{State}
 use Rattle.commit_table.specs.Machine.{Machine, IsOwn}
 use Rattle.commit_table.specs.Attempts.{IsCommittedOnce, IsMissed, IsLookedOnly}
 use Rattle.commit_table.specs.Calls.{HoldsNone}
-use Rattle.commit_table.specs.LockHistory.{holder_in, lock_records_by, Extends}
+use Rattle.commit_table.specs.LockHistory.{holder_in, lock_operations_by, Extends}
 use Rattle.commit_table.specs.declared.views.PassView.{PassView}
 use Rattle.commit_table.specs.declared.views.LockOp.TheVariants as lock_op
 use Rattle.commit_table.specs.declared.views.LockRecord.{LockRecord}
@@ -50,8 +50,8 @@ module _ {S X E : Type 0} (m : Machine X E) where
     pub first : (p : ℕ) → v.party ≡ Some p → n.lock_history ≡ record { shard = shard; party = p; op = lock_op.Missed } ∷ before
     pub met : Extends v.lock_history before
     -- the pass's own lock operations before the miss, and all of them: it took the origin's shard, missed the other one, and gave the first back
-    pub tried : (p : ℕ) → v.party ≡ Some p → lock_records_by p before ≡ (origin, lock_op.Took) ∷ v.lock_records
-    pub lock_records : n.lock_records ≡ (origin, lock_op.GaveBack) ∷ (shard, lock_op.Missed) ∷ (origin, lock_op.Took) ∷ v.lock_records
+    pub tried : (p : ℕ) → v.party ≡ Some p → lock_operations_by p before ≡ (origin, lock_op.Took) ∷ v.lock_operations
+    pub lock_operations : n.lock_operations ≡ (origin, lock_op.GaveBack) ∷ (shard, lock_op.Missed) ∷ (origin, lock_op.Took) ∷ v.lock_operations
     pub other : ℕ
     pub holds : holder_in before shard ≡ Some other
     pub apart : ¬ (v.party ≡ Some other)

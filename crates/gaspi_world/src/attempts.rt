@@ -8,7 +8,7 @@ ghost use Rattle.gaspi_types.specs.declared.replies.Ready.TheVariants as ready;
 ghost use Rattle.gaspi_model.specs.Calls.{recorded_reply};
 ghost use Rattle.gaspi_model.specs.CollectiveCalls.{is_joining, join_event};
 ghost use Rattle.commit_table.specs.Calls.{IsOf, HoldsNone};
-ghost use Rattle.rank_node.specs.Rooms.{IsRecordRoom, IsRoomFor, FitsReserved};
+ghost use Rattle.rank_node.specs.Rooms.{IsReservedForRecord, IsReservedFor, FitsReserved};
 ghost use Rattle.timeout_state.specs.declared.budget.Look.{Look};
 ghost use Rattle.gaspi_world.specs.Attempts.{Attempted};
 ghost use Rattle.gaspi_world.specs.Callers.{IsPassOf};
@@ -61,7 +61,7 @@ fn join_args(found: Ready) -> Result<Args, Ready>
 }
 
 /// Whether a call is not ready, and there may be another look.
-fn is_early(found: &Ready, look: Look) -> bool
+fn waits_for_later_look(found: &Ready, look: Look) -> bool
     ensures { result ≡ waits_for_later_look found.now look }
 {
     match (found, look) {
@@ -85,7 +85,7 @@ fn record_with(
     requires found { MayRecord table.now.start.shape invocation.now.caller call found pass.old.known.seen }
     requires fits { FoundFits table.now.start.shape invocation.now.caller call found room.old }
     requires row { room.old.row ≡ row_of call }
-    requires room { (row_of call).group ≡ None → IsRecordRoom held.old.nodes.own.value.posts held.old.nodes.own.value.memory call room.old }
+    requires room { (row_of call).group ≡ None → IsReservedForRecord held.old.nodes.own.value.posts held.old.nodes.own.value.memory call room.old }
     ensures table { pass.new.table ≡ pass.old.table }
     ensures held { Holds table.now.start.shape held.new pass.new.known }
     ensures reply { result ≡ recorded_reply found }
@@ -145,7 +145,7 @@ fn decide(
     ensures settled { IsDecided table.now.start.shape invocation.now.caller invocation.now.call.now found look pass.old.known result pass.new.known }
     ensures ample { (row_of invocation.now.call.now).takes_memory ≡ false → result ≢ Err halts.NoMemory }
 {
-    if is_early(&found, look) {
+    if waits_for_later_look(&found, look) {
         return Err(Halt::NotYet);
     }
     record_found(table, pass, alloc, held, invocation, found)
@@ -177,7 +177,7 @@ fn join(
     requires call { call.now ≡ invocation.now.call.now }
     requires joins { MayJoinAs table.now.start.shape invocation.now.caller call.now args held.old pass.old.known }
     requires fits { FitsReserved (ready.Join args) room.old }
-    requires room { IsRoomFor held.old.nodes.own.value.posts held.old.nodes.own.value.memory call.now room.old }
+    requires room { IsReservedFor held.old.nodes.own.value.posts held.old.nodes.own.value.memory call.now room.old }
     ensures table { pass.new.table ≡ pass.old.table }
     ensures holder { IsHolder table.now invocation.now.caller call.now held.new pass.new }
     ensures added { IsCommitted table.now.start.shape pass.old.known (join_event invocation.now.caller call.now args) pass.new.known }
@@ -218,7 +218,7 @@ fn join_first(
         return Err(Halt::NoMemory);
     };
     let found = join(table, pass, held, invocation, &call, args, &mut room);
-    if is_early(&found, look) {
+    if waits_for_later_look(&found, look) {
         return Err(Halt::NotYet);
     }
     Ok(record_with(table, pass, held, invocation, call, found, &mut room))

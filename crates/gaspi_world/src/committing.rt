@@ -15,7 +15,7 @@ ghost use Rattle.gaspi_model.specs.declared.states.State.{State};
 ghost use Rattle.rank_node.specs.Collectives.{IsMadeFor, IsPendingFor};
 ghost use Rattle.rank_node.specs.HeldNodes.{peer_of, group_of, IsSameKind};
 ghost use Rattle.rank_node.specs.Lending.{MayStep, IsStepOn, IsLeft};
-ghost use Rattle.rank_node.specs.Rooms.{IsRecordRoom};
+ghost use Rattle.rank_node.specs.Rooms.{IsReservedForRecord};
 ghost use Rattle.gaspi_world.specs.RankShards.{call_other};
 ghost use Rattle.gaspi_world.specs.Callers.{IsPassOf};
 ghost use Rattle.gaspi_world.specs.HeldShards.{Holds, IsCommitted};
@@ -29,7 +29,7 @@ use rank_node::{HeldNodes, Room};
 
 /// Records a call that was committed at a place, with its reply.
 fn record_call(nodes: &mut HeldNodes, place: u64, event: Event, room: &mut Room)
-    requires called { (caller : CallerId) × (call : Call) × (reply : Reply) × (event ≡ Called caller call reply) × (room.old.row ≡ row_of call) × ((row_of call).group ≡ None → IsRecordRoom nodes.old.own.value.posts nodes.old.own.value.memory call room.old) }
+    requires called { (caller : CallerId) × (call : Call) × (reply : Reply) × (event ≡ Called caller call reply) × (room.old.row ≡ row_of call) × ((row_of call).group ≡ None → IsReservedForRecord nodes.old.own.value.posts nodes.old.own.value.memory call room.old) }
     requires step { MayStep event nodes.old.own.value (peer_of nodes.old.other) (group_of nodes.old.other) }
     ensures left { (s t : State) → IsStepOn s t event nodes.old.own.value (peer_of nodes.old.other) (group_of nodes.old.other)
         → IsLeft s t event place nodes.old.own.value nodes.new.own.value (peer_of nodes.old.other) (peer_of nodes.new.other) (group_of nodes.new.other) }
@@ -58,7 +58,7 @@ pub fn commit_call(
     requires shards { (held.old.own ≡ caller.rank) × (held.old.other ≡ call_other table.now.start.shape caller call) }
     requires step { is_legal table.now.start.shape (pass.old.known.seen ++ Called caller call reply ∷ []) ≡ true }
     requires row { room.old.row ≡ row_of call }
-    requires room { (row_of call).group ≡ None → IsRecordRoom held.old.nodes.own.value.posts held.old.nodes.own.value.memory call room.old }
+    requires room { (row_of call).group ≡ None → IsReservedForRecord held.old.nodes.own.value.posts held.old.nodes.own.value.memory call room.old }
     ensures table { pass.new.table ≡ pass.old.table }
     ensures held { Holds table.now.start.shape held.new pass.new.known }
     ensures shards { (held.new.own ≡ held.old.own) × (held.new.other ≡ held.old.other) }
@@ -76,7 +76,7 @@ fn record_join(nodes: &mut HeldNodes, place: u64, event: Event, room: &mut Room)
     ensures left { (s t : State) → IsStepOn s t event nodes.old.own.value (peer_of nodes.old.other) (group_of nodes.old.other)
         → IsLeft s t event place nodes.old.own.value nodes.new.own.value (peer_of nodes.old.other) (peer_of nodes.new.other) (group_of nodes.new.other) }
     ensures kind { IsSameKind nodes.new.other nodes.old.other }
-    ensures waits { (caller : CallerId) (group : ℕ) (args : Args) → event ≡ Joined caller group args → IsPendingFor nodes.new.own.value.posts caller.thread group (joining_call group args) }
+    ensures pending { (caller : CallerId) (group : ℕ) (args : Args) → event ≡ Joined caller group args → IsPendingFor nodes.new.own.value.posts caller.thread group (joining_call group args) }
     ensures row { room.new.row ≡ room.old.row }
     ensures event { room.new.numbers.event ≡ room.old.numbers.event }
     ensures caller { room.new.numbers.caller ≡ room.old.numbers.caller }
@@ -112,7 +112,7 @@ pub fn commit_join(
     ensures held { Holds table.now.start.shape held.new pass.new.known }
     ensures shards { (held.new.own ≡ held.old.own) × (held.new.other ≡ held.old.other) }
     ensures added { IsCommitted table.now.start.shape pass.old.known (Joined caller group args) pass.new.known }
-    ensures waits { IsPendingFor held.new.nodes.own.value.posts caller.thread group (joining_call group args) }
+    ensures pending { IsPendingFor held.new.nodes.own.value.posts caller.thread group (joining_call group args) }
     ensures row { room.new.row ≡ room.old.row }
     ensures event { room.new.numbers.event ≡ room.old.numbers.event }
     ensures caller { room.new.numbers.caller ≡ room.old.numbers.caller }

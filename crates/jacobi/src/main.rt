@@ -29,7 +29,7 @@ const LEFT_HALO: u32 = 0;
 const RIGHT_HALO: u32 = 9;
 
 /// The residual that is small enough, and how many iterations there are at most.
-const SMALL: i128 = 1_024;
+const SMALL: i128 = 4_096;
 
 const MOST: u32 = 1_000;
 

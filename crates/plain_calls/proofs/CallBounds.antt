@@ -25,7 +25,7 @@ use Rattle.gaspi_types.specs.declared.replies.Ready.TheVariants as ready
 use Rattle.gaspi_types.specs.declared.replies.Refusal.TheVariants.{CallerEnded}
 use Rattle.gaspi_model.specs.State.{thread_at, is_running, owed}
 use Rattle.gaspi_types.specs.Queues.{queue_owed, with_entries}
-use Rattle.gaspi_model.specs.Calls.{requested_kinds, call_result, answer, ready_of, recorded_reply, posts_effect, posts_after, charge}
+use Rattle.gaspi_model.specs.Calls.{requested_kinds, call_result, answer, answer_of_result, recorded_reply, posts_effect, posts_after, charge}
 use Rattle.gaspi_model.specs.Posting.{with_post}
 use Rattle.gaspi_types.specs.Tables.{changed_at}
 use Rattle.gaspi_model.specs.QueueCalls.{emptied}
@@ -67,7 +67,7 @@ same_done (replies.Refused m) (replies.Refused n) same = refl
 same_done _ _ same = cc
 
 -- a reply that is not idle is what the call found
-result_reply : (r : Result (Option Reply) Refusal) (reply : Reply) → same_reply reply (recorded_reply (ready_of r)) ≡ true → is_idle reply ≡ false → (ok_or : Reply) × (r ≡ Ok (Some ok_or)) × (is_done reply ≡ is_done ok_or)
+result_reply : (r : Result (Option Reply) Refusal) (reply : Reply) → same_reply reply (recorded_reply (answer_of_result r)) ≡ true → is_idle reply ≡ false → (ok_or : Reply) × (r ≡ Ok (Some ok_or)) × (is_done reply ≡ is_done ok_or)
 result_reply (Ok (Some ok_or)) reply same busy = (ok_or, refl, same_done reply ok_or same)
 result_reply (Ok None) reply same busy = let idle = same_idle reply replies.Timeout same in cc
 result_reply (Err e) reply same busy = let idle = same_idle reply (replies.Refused e) same in cc
@@ -81,7 +81,7 @@ pub record IsFound (limits : Limits) (me : ℕ) (posts : Posts) (memory : Memory
 -- a recorded call that is not idle: its caller runs, and it found its reply
 found_when : (limits : Limits) (me : ℕ) (posts : Posts) (memory : Memory) (thread : ℕ) (call : Call) (reply : Reply) (running : Bool)
     → is_running (thread_at posts thread) ≡ running
-    → same_reply reply (recorded_reply (cond running (ready_of (call_result limits me posts memory call)) (ready.Reply (replies.Refused CallerEnded)))) ≡ true
+    → same_reply reply (recorded_reply (cond running (answer_of_result (call_result limits me posts memory call)) (ready.Reply (replies.Refused CallerEnded)))) ≡ true
     → is_idle reply ≡ false → IsFound limits me posts memory thread call reply
 found_when limits me posts memory thread call reply true runs same busy =
     let f = result_reply (call_result limits me posts memory call) reply same busy in

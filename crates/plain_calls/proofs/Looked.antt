@@ -45,27 +45,27 @@ posting_brings me own (PassiveSend call) to is = absurd (let no : ⊥ = cc in no
 posting_brings me own call to is = refl
 
 -- what a look brought, or nothing, is the same to a call that is idle
-pub brought_same : (look : Evaluation) (brought : Option Message) (limits : Limits) (me : ℕ) (posts : Posts) (memory : Memory) (thread : ℕ) (call : Call) → HasMessage look brought
-    → called limits me posts look.message memory thread call (recorded_reply look.ready) ≡ called limits me posts brought memory thread call (recorded_reply look.ready)
-brought_same look brought limits me posts memory thread call brings = by_idle (is_idle (recorded_reply look.ready)) refl
+pub message_same : (evaluation : Evaluation) (message : Option Message) (limits : Limits) (me : ℕ) (posts : Posts) (memory : Memory) (thread : ℕ) (call : Call) → HasMessage evaluation message
+    → called limits me posts evaluation.message memory thread call (recorded_reply evaluation.ready) ≡ called limits me posts message memory thread call (recorded_reply evaluation.ready)
+message_same evaluation message limits me posts memory thread call brings = by_idle (is_idle (recorded_reply evaluation.ready)) refl
   where
-    by_idle : (idle : Bool) → is_idle (recorded_reply look.ready) ≡ idle
-        → called limits me posts look.message memory thread call (recorded_reply look.ready) ≡ called limits me posts brought memory thread call (recorded_reply look.ready)
+    by_idle : (idle : Bool) → is_idle (recorded_reply evaluation.ready) ≡ idle
+        → called limits me posts evaluation.message memory thread call (recorded_reply evaluation.ready) ≡ called limits me posts message memory thread call (recorded_reply evaluation.ready)
     by_idle true idle = rw idle refl
-    by_idle false busy = ap (λ (m : Option Message). called limits me posts m memory thread call (recorded_reply look.ready)) (brings busy)
+    by_idle false busy = ap (λ (m : Option Message). called limits me posts m memory thread call (recorded_reply evaluation.ready)) (brings busy)
 
 -- a call that posts changes no memory
-pub posting_memory : (limits : Limits) (posts : Posts) (brought : Option Message) (memory : Memory) (call : Call) (to : Posting) → (row_of call).posting ≡ Some to → memory_effect limits posts brought memory call ≡ memory
-posting_memory limits posts brought memory (Write call) to is = refl
-posting_memory limits posts brought memory (Read call) to is = refl
-posting_memory limits posts brought memory (Notify call) to is = refl
-posting_memory limits posts brought memory (WriteNotify call) to is = refl
-posting_memory limits posts brought memory (ReadNotify call) to is = refl
-posting_memory limits posts brought memory (WriteList call) to is = refl
-posting_memory limits posts brought memory (WriteListNotify call) to is = refl
-posting_memory limits posts brought memory (ReadList call) to is = refl
-posting_memory limits posts brought memory (ReadListNotify call) to is = refl
-posting_memory limits posts brought memory call to is = absurd (let no : ⊥ = cc in no)
+pub posting_memory : (limits : Limits) (posts : Posts) (message : Option Message) (memory : Memory) (call : Call) (to : Posting) → (row_of call).posting ≡ Some to → memory_effect limits posts message memory call ≡ memory
+posting_memory limits posts message memory (Write call) to is = refl
+posting_memory limits posts message memory (Read call) to is = refl
+posting_memory limits posts message memory (Notify call) to is = refl
+posting_memory limits posts message memory (WriteNotify call) to is = refl
+posting_memory limits posts message memory (ReadNotify call) to is = refl
+posting_memory limits posts message memory (WriteList call) to is = refl
+posting_memory limits posts message memory (WriteListNotify call) to is = refl
+posting_memory limits posts message memory (ReadList call) to is = refl
+posting_memory limits posts message memory (ReadListNotify call) to is = refl
+posting_memory limits posts message memory call to is = absurd (let no : ⊥ = cc in no)
 
 -- what was found is what the call asks for
 found_done-same : (limits : Limits) (me : ℕ) (posts : Posts) (thread : ℕ) (call : Call) (kinds : List Kind)
@@ -76,51 +76,51 @@ found_done-same limits me posts thread call kinds asks = by_posting (row_of call
     by_posting None is = rw is refl
     by_posting (Some to) is = rw is (ap (with_post posts to.queue to.rank) (sym asks))
 
-pub found_after-same : (look : Evaluation) (limits : Limits) (me : ℕ) (posts : Posts) (memory : Memory) (thread : ℕ) (call : Call)
-    → IsEvaluation look limits me posts memory thread call → posts_after_evaluation posts thread call look ≡ posts_after limits me posts thread call (recorded_reply look.ready)
-found_after-same look limits me posts memory thread call l = by_idle (is_idle (recorded_reply look.ready)) refl
+pub found_after-same : (evaluation : Evaluation) (limits : Limits) (me : ℕ) (posts : Posts) (memory : Memory) (thread : ℕ) (call : Call)
+    → IsEvaluation evaluation limits me posts memory thread call → posts_after_evaluation posts thread call evaluation ≡ posts_after limits me posts thread call (recorded_reply evaluation.ready)
+found_after-same evaluation limits me posts memory thread call l = by_idle (is_idle (recorded_reply evaluation.ready)) refl
   where
-    by_idle : (idle : Bool) → is_idle (recorded_reply look.ready) ≡ idle → posts_after_evaluation posts thread call look ≡ posts_after limits me posts thread call (recorded_reply look.ready)
+    by_idle : (idle : Bool) → is_idle (recorded_reply evaluation.ready) ≡ idle → posts_after_evaluation posts thread call evaluation ≡ posts_after limits me posts thread call (recorded_reply evaluation.ready)
     by_idle true idle = rw idle refl
-    by_idle false busy = rw busy (ap counted (found_done-same limits me posts thread call (kinds_of look.kinds) (l.kinds busy)))
+    by_idle false busy = rw busy (ap counted (found_done-same limits me posts thread call (kinds_of evaluation.kinds) (l.kinds busy)))
 
 -- the reply is the one that may be recorded
-pub look_same : (look : Evaluation) (limits : Limits) (me : ℕ) (posts : Posts) (memory : Memory) (thread : ℕ) (call : Call)
-    → IsEvaluation look limits me posts memory thread call → same_reply (recorded_reply look.ready) (recorded_reply (answer limits me posts memory thread call)) ≡ true
-look_same look limits me posts memory thread call l =
-    ap (λ (r : Ready). same_reply (recorded_reply look.ready) (recorded_reply r)) (sym l.ready) ∙ same_reply-refl (recorded_reply look.ready)
+pub look_same : (evaluation : Evaluation) (limits : Limits) (me : ℕ) (posts : Posts) (memory : Memory) (thread : ℕ) (call : Call)
+    → IsEvaluation evaluation limits me posts memory thread call → same_reply (recorded_reply evaluation.ready) (recorded_reply (answer limits me posts memory thread call)) ≡ true
+look_same evaluation limits me posts memory thread call l =
+    ap (λ (r : Ready). same_reply (recorded_reply evaluation.ready) (recorded_reply r)) (sym l.ready) ∙ same_reply-refl (recorded_reply evaluation.ready)
 
-pub look_room : (look : Evaluation) (limits : Limits) (me : ℕ) (posts : Posts) (memory : Memory) (thread : ℕ) (call : Call)
-    → are_limits limits ≡ true → IsSoundPosts limits posts → IsEvaluation look limits me posts memory thread call
-    → is_idle (recorded_reply look.ready) ≡ false → CallIsBounded posts call (length (kinds_of look.kinds))
-look_room look limits me posts memory thread call limited sound l busy =
-    room_by limits me posts memory thread call (recorded_reply look.ready) (kinds_of look.kinds) (l.kinds busy) limited sound
-    (found_by limits me posts memory thread call (recorded_reply look.ready) (look_same look limits me posts memory thread call l) busy)
+pub look_room : (evaluation : Evaluation) (limits : Limits) (me : ℕ) (posts : Posts) (memory : Memory) (thread : ℕ) (call : Call)
+    → are_limits limits ≡ true → IsSoundPosts limits posts → IsEvaluation evaluation limits me posts memory thread call
+    → is_idle (recorded_reply evaluation.ready) ≡ false → CallIsBounded posts call (length (kinds_of evaluation.kinds))
+look_room evaluation limits me posts memory thread call limited sound l busy =
+    room_by limits me posts memory thread call (recorded_reply evaluation.ready) (kinds_of evaluation.kinds) (l.kinds busy) limited sound
+    (found_by limits me posts memory thread call (recorded_reply evaluation.ready) (look_same evaluation limits me posts memory thread call l) busy)
 
 -- the step, where the rank has room and where it has none
-pub look_steps : (look : Evaluation) (limits : Limits) (me : ℕ) (posts : Posts) (memory : Memory) (thread : ℕ) (call : Call)
-    → IsEvaluation look limits me posts memory thread call → is_there (thread_at posts thread) ≡ true
-    → nat_le (posts.events + owed posts + charge (thread_at posts thread) call (recorded_reply look.ready)) limits.events ≡ true
-    → called limits me posts look.message memory thread call (recorded_reply look.ready)
-    ≡ Ok (record { posts = posts_after_evaluation posts thread call look; memory = memory_after limits posts look.message memory call (recorded_reply look.ready) })
-look_steps look limits me posts memory thread call l there room =
-    rw (there, look_same look limits me posts memory thread call l, room)
-    (ap (λ (p : Posts). Ok (record { posts = p; memory = memory_after limits posts look.message memory call (recorded_reply look.ready) })) (sym (found_after-same look limits me posts memory thread call l)))
+pub look_steps : (evaluation : Evaluation) (limits : Limits) (me : ℕ) (posts : Posts) (memory : Memory) (thread : ℕ) (call : Call)
+    → IsEvaluation evaluation limits me posts memory thread call → is_there (thread_at posts thread) ≡ true
+    → nat_le (posts.events + owed posts + charge (thread_at posts thread) call (recorded_reply evaluation.ready)) limits.events ≡ true
+    → called limits me posts evaluation.message memory thread call (recorded_reply evaluation.ready)
+    ≡ Ok (record { posts = posts_after_evaluation posts thread call evaluation; memory = memory_after limits posts evaluation.message memory call (recorded_reply evaluation.ready) })
+look_steps evaluation limits me posts memory thread call l there room =
+    rw (there, look_same evaluation limits me posts memory thread call l, room)
+    (ap (λ (p : Posts). Ok (record { posts = p; memory = memory_after limits posts evaluation.message memory call (recorded_reply evaluation.ready) })) (sym (found_after-same evaluation limits me posts memory thread call l)))
 
-pub look_limit : (look : Evaluation) (limits : Limits) (me : ℕ) (posts : Posts) (memory : Memory) (thread : ℕ) (call : Call)
-    → IsEvaluation look limits me posts memory thread call → is_there (thread_at posts thread) ≡ true
-    → nat_le (posts.events + owed posts + charge (thread_at posts thread) call (recorded_reply look.ready)) limits.events ≡ false
-    → called limits me posts look.message memory thread call (recorded_reply look.ready) ≡ Err whys.Limit
-look_limit look limits me posts memory thread call l there full = rw (there, look_same look limits me posts memory thread call l, full) refl
+pub look_limit : (evaluation : Evaluation) (limits : Limits) (me : ℕ) (posts : Posts) (memory : Memory) (thread : ℕ) (call : Call)
+    → IsEvaluation evaluation limits me posts memory thread call → is_there (thread_at posts thread) ≡ true
+    → nat_le (posts.events + owed posts + charge (thread_at posts thread) call (recorded_reply evaluation.ready)) limits.events ≡ false
+    → called limits me posts evaluation.message memory thread call (recorded_reply evaluation.ready) ≡ Err whys.Limit
+look_limit evaluation limits me posts memory thread call l there full = rw (there, look_same evaluation limits me posts memory thread call l, full) refl
 
 -- what the rank has taken grows by the charge
-pub look_used : (look : Evaluation) (limits : Limits) (me : ℕ) (posts : Posts) (memory : Memory) (thread : ℕ) (call : Call)
-    → IsSoundPosts limits posts → IsEvaluation look limits me posts memory thread call
-    → (posts_after_evaluation posts thread call look).events + owed (posts_after_evaluation posts thread call look) + released posts call (recorded_reply look.ready)
-    ≡ posts.events + owed posts + charge (thread_at posts thread) call (recorded_reply look.ready)
-look_used look limits me posts memory thread call sound l =
-    ap (λ (p : Posts). p.events + owed p + released posts call (recorded_reply look.ready)) (found_after-same look limits me posts memory thread call l)
-    ∙ used_by limits me posts memory thread call (recorded_reply look.ready) sound (look_same look limits me posts memory thread call l)
+pub look_used : (evaluation : Evaluation) (limits : Limits) (me : ℕ) (posts : Posts) (memory : Memory) (thread : ℕ) (call : Call)
+    → IsSoundPosts limits posts → IsEvaluation evaluation limits me posts memory thread call
+    → (posts_after_evaluation posts thread call evaluation).events + owed (posts_after_evaluation posts thread call evaluation) + released posts call (recorded_reply evaluation.ready)
+    ≡ posts.events + owed posts + charge (thread_at posts thread) call (recorded_reply evaluation.ready)
+look_used evaluation limits me posts memory thread call sound l =
+    ap (λ (p : Posts). p.events + owed p + released posts call (recorded_reply evaluation.ready)) (found_after-same evaluation limits me posts memory thread call l)
+    ∙ used_by limits me posts memory thread call (recorded_reply evaluation.ready) sound (look_same evaluation limits me posts memory thread call l)
 
 -- what is left of a total without what is freed
 pub less-released : (after released total result : ℕ) → after + released ≡ total → result ≡ released → total - result ≡ after

@@ -12,7 +12,7 @@ use Rattle.gaspi_types.specs.declared.replies.Reply.TheVariants as replies
 use Rattle.gaspi_types.specs.declared.replies.Ready.{Ready}
 use Rattle.gaspi_types.specs.declared.replies.Ready.TheVariants as ready
 use Rattle.gaspi_types.specs.declared.shapes.Limits.{Limits}
-use Rattle.gaspi_model.specs.Calls.{requested_kinds, answer, ready_of, recorded_reply, plain_effect}
+use Rattle.gaspi_model.specs.Calls.{requested_kinds, answer, answer_of_result, recorded_reply, plain_effect}
 use Rattle.gaspi_model.specs.Posting.{with_post, counted}
 use Rattle.gaspi_model.specs.declared.states.Posts.{Posts}
 use Rattle.gaspi_model.specs.declared.states.Memory.{Memory}
@@ -34,21 +34,21 @@ Accepts (Ok kinds) asked finds = (asked ≡ Ok (kinds_of kinds)) × (finds ≡ O
 Accepts (Err refusal) asked finds = finds ≡ Err refusal
 
 -- the look at a call that posts: what it answers, and what it asks for where it is no refusal, else nothing
-pub record IsPostEvaluation (look : Evaluation) (asked : Result (List Kind) Refusal) (finds : Result (Option Reply) Refusal) : Type 0 where
-  pub ready : look.ready ≡ ready_of finds
-  pub kinds : is_idle (recorded_reply look.ready) ≡ false → asked ≡ Ok (kinds_of look.kinds)
-  pub nothing : is_idle (recorded_reply look.ready) ≡ true → kinds_of look.kinds ≡ []
+pub record IsPostEvaluation (evaluation : Evaluation) (asked : Result (List Kind) Refusal) (finds : Result (Option Reply) Refusal) : Type 0 where
+  pub ready : evaluation.ready ≡ answer_of_result finds
+  pub kinds : is_idle (recorded_reply evaluation.ready) ≡ false → asked ≡ Ok (kinds_of evaluation.kinds)
+  pub nothing : is_idle (recorded_reply evaluation.ready) ≡ true → kinds_of evaluation.kinds ≡ []
 
 -- This is what a look at this call of this caller finds on these posts and this memory: what it answers, and, where it is
 -- recorded neither as a refusal nor as a timeout, what it asks to be appended; else nothing is to be.
-pub record IsEvaluation (look : Evaluation) (limits : Limits) (me : ℕ) (posts : Posts) (memory : Memory) (thread : ℕ) (call : Call) : Type 0 where
-  pub ready : look.ready ≡ answer limits me posts memory thread call
-  pub kinds : is_idle (recorded_reply look.ready) ≡ false → requested_kinds limits me posts call ≡ Ok (kinds_of look.kinds)
-  pub nothing : is_idle (recorded_reply look.ready) ≡ true → kinds_of look.kinds ≡ []
+pub record IsEvaluation (evaluation : Evaluation) (limits : Limits) (me : ℕ) (posts : Posts) (memory : Memory) (thread : ℕ) (call : Call) : Type 0 where
+  pub ready : evaluation.ready ≡ answer limits me posts memory thread call
+  pub kinds : is_idle (recorded_reply evaluation.ready) ≡ false → requested_kinds limits me posts call ≡ Ok (kinds_of evaluation.kinds)
+  pub nothing : is_idle (recorded_reply evaluation.ready) ≡ true → kinds_of evaluation.kinds ≡ []
 
 -- and its message is the one that the call brings, where it is recorded neither as a refusal nor as a timeout
 abbrev pub HasMessage : Evaluation → Option Message → Type 0
-HasMessage look brought = is_idle (recorded_reply look.ready) ≡ false → look.message ≡ brought
+HasMessage evaluation message = is_idle (recorded_reply evaluation.ready) ≡ false → evaluation.message ≡ message
 
 -- the messages of an inbox are no longer than messages may be
 abbrev pub AreShort : List Message → Type 0
@@ -69,8 +69,8 @@ posts_effect_with posts thread call kinds = done_by (row_of call).posting
 
 -- a refusal or a timeout changes nothing but the count of events
 abbrev pub posts_after_evaluation : Posts → ℕ → Call → Evaluation → Posts
-posts_after_evaluation posts thread call look =
-    counted (if is_idle (recorded_reply look.ready) then posts else posts_effect_with posts thread call (kinds_of look.kinds))
+posts_after_evaluation posts thread call evaluation =
+    counted (if is_idle (recorded_reply evaluation.ready) then posts else posts_effect_with posts thread call (kinds_of evaluation.kinds))
 
 -- whether a step that gives something was made, or why not
 abbrev pub made_of : {A : Type 0} → Result A StepFault → Result (Unit {0}) StepFault

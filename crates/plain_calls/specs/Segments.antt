@@ -5,8 +5,8 @@ use Rattle.gaspi_types.specs.declared.calls.segments.Alloc.{Alloc}
 use Rattle.gaspi_types.specs.declared.shapes.Limits.{Limits}
 use Rattle.gaspi_model.specs.State.{new_slots}
 use Rattle.gaspi_model.specs.declared.states.Posts.{Posts}
-use Rattle.plain_calls.specs.declared.segment_calls.NewSegment.{NewSegment}
+use Rattle.plain_calls.specs.declared.segment_calls.MadeSegment.{MadeSegment}
 
 -- of the next generation of its number, with all its bytes and slots zero
-abbrev pub new_made : Limits → Posts → Alloc → NewSegment
-new_made limits posts call = record { segment = new_segment (next_generation posts.segments.next_generations call.seg) call.size; slots = new_slots limits.notes }
+abbrev pub made_segment : Limits → Posts → Alloc → MadeSegment
+made_segment limits posts call = record { segment = new_segment (next_generation posts.segments.next_generations call.seg) call.size; slots = new_slots limits.notes }

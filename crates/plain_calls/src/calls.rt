@@ -28,7 +28,7 @@ use crate::passive_calls::{
 use crate::post_calls::posting_result;
 use crate::posting::post;
 use crate::queue_calls::{closed, purge_result, purged, qsize_result, state_result, wait_result};
-use crate::replies::{is_idle_ready, ready_of};
+use crate::replies::{answer_of_result, is_idle_ready};
 use crate::segment_calls::{
     Registration, alloc_effect, alloc_result, delete_effect, delete_result, register_result,
     registration_of, set_known_extent,
@@ -139,7 +139,7 @@ fn post_evaluation(finds: Result<EntryKinds, Refusal>) -> Evaluation
 }
 
 /// The message that a call brings, taken from the own memory, where it is done.
-fn brought(
+fn sent_message(
     alloc: Global,
     me: RankId,
     own: &Memory,
@@ -190,8 +190,8 @@ pub fn look(
         }
         None => {
             let finds = plain_result(alloc, limits, me, posts, memory, call)?;
-            let ready = ready_of(finds);
-            let message = brought(alloc, me, own, call, &ready)?;
+            let ready = answer_of_result(finds);
+            let message = sent_message(alloc, me, own, call, &ready)?;
             Ok(Evaluation {
                 ready,
                 kinds: EntryKinds::Nothing,

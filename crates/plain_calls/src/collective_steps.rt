@@ -22,7 +22,7 @@ ghost use Rattle.plain_calls.specs.Rounds.{posts_after_collective, group_after_c
 use crate::collective_calls::Joining;
 use crate::contributions::{complete_round, join_round, register_round};
 use crate::replies::{is_refused_or_timeout, recorded_reply};
-use crate::segment_calls::{make_segment, place_segment};
+use crate::segment_calls::{insert_segment, make_segment};
 use gaspi_model::{Memory, Posts};
 use gaspi_types::{
     Alloc, Call, Coll, Contribution, Group, Handle, Invocation, Limits, NoMemory,
@@ -91,26 +91,26 @@ fn complete_parts(
 
 /// Completes a collective that was looked at, or records its refusal or its timeout: the step by the call with what the look found. It
 /// gives the reply with which the call was recorded. The look is one of this very call on these very posts and this group, and found
-/// no join. Where the rank has room for the event, that is the step by the call. `taken` is the room that the rank has taken, before and after. It
-/// takes no memory. (GASPI: collectives, timeouts)
+/// no join. Where the rank has room for the event, that is the step by the call. `used` is the rank's used room, before and after. It takes
+/// no memory. (GASPI: collectives, timeouts)
 pub fn complete(
     invocation: &Invocation<'_>,
     id: u64,
     posts: &mut Posts,
     group: &mut Group,
-    taken: &mut u32,
+    used: &mut u32,
     ready: Ready,
 ) -> Reply
     requires part { AreSoundContributions posts.old.events (item_at posts.old.pending id) (contributions_of group.old invocation.now.caller.rank) }
-    requires taken { taken.old ≡ posts.old.events + owed posts.old }
-    requires few { taken.old + 1 < 2 ^ 32 }
+    requires used { used.old ≡ posts.old.events + owed posts.old }
+    requires few { used.old + 1 < 2 ^ 32 }
     requires there { is_there (thread_at posts.old invocation.now.caller.thread) ≡ true }
     requires look { ready ≡ collective_answer posts.old group.old invocation.now.caller.rank invocation.now.caller.thread id invocation.now.call.now }
     requires unjoined { is_joining ready ≡ false }
     ensures reply { result ≡ recorded_reply ready }
     ensures step { (limits : Limits) → posts.old.events + owed posts.old + 1 ≤ limits.events
         → completed limits invocation.now.caller.rank posts.old group.old invocation.now.caller.thread id invocation.now.call.now (recorded_reply ready) ≡ Ok (record { posts = posts.new; group = group.new }) }
-    ensures taken { taken.new ≡ posts.new.events + owed posts.new }
+    ensures used { used.new ≡ posts.new.events + owed posts.new }
 {
     let reply = recorded_reply(ready);
     complete_parts(
@@ -121,7 +121,7 @@ pub fn complete(
         invocation.call,
         &reply,
     );
-    *taken += 1;
+    *used += 1;
     reply
 }
 
@@ -135,9 +135,9 @@ fn made_generation(posts: &Posts, coll: Coll) -> u32
     }
 }
 
-/// Gives a contribution to the round of a rank, and makes the segment that its collective makes. Without memory nothing changes.
+/// Adds a contribution to the round of a rank, and makes the segment that its collective makes. Without memory nothing changes.
 /// (GASPI: collectives, segment_create)
-fn give(
+fn contribute(
     alloc: Global,
     limits: &Limits,
     me: RankId,
@@ -162,14 +162,14 @@ fn give(
             };
             let made = make_segment(alloc, limits, posts, &call)?;
             join_round(group, me, contribution)?;
-            place_segment(posts, memory, &call, made);
+            insert_segment(posts, memory, &call, made);
             Ok(())
         }
         _ => join_round(group, me, contribution),
     }
 }
 
-/// What a join leaves: its collective is pending for its caller, and the rank has given to its round; and one event more. All memory is
+/// What a join leaves: its collective is pending for its caller, and the rank has contributed to its round; and one event more. All memory is
 /// taken first, and without it nothing changes.
 fn join_parts(
     alloc: Global,
@@ -196,7 +196,7 @@ fn join_parts(
         args: joining.args.copy(alloc)?,
         generation: made_generation(posts, joining.args.coll),
     };
-    give(
+    contribute(
         alloc,
         limits,
         joining.caller.rank,
@@ -211,8 +211,8 @@ fn join_parts(
 }
 
 /// Joins: the step by the join of a collective of a rank to a group with these arguments, which it may join, and the rank has room for
-/// the event. The collective is then pending for its caller, and the rank has given to its round; a segment that it makes is there.
-/// `taken` is the room that the rank has taken, before and after. Without memory nothing changes. (GASPI: collectives, segment_create)
+/// the event. The collective is then pending for its caller, and the rank has contributed to its round; a segment that it makes is there.
+/// `used` is the rank's used room, before and after. Without memory nothing changes. (GASPI: collectives, segment_create)
 pub fn join(
     alloc: Global,
     limits: &Limits,
@@ -220,20 +220,20 @@ pub fn join(
     posts: &mut Posts,
     memory: &mut Memory,
     group: &mut Group,
-    taken: &mut u32,
+    used: &mut u32,
 ) -> Result<(), NoMemory>
     requires limits { are_limits limits.now ≡ true }
     requires sound { IsSoundPosts limits.now posts.old }
-    requires taken { taken.old ≡ posts.old.events + owed posts.old }
+    requires used { used.old ≡ posts.old.events + owed posts.old }
     requires there { is_there (thread_at posts.old joining.now.caller.thread) ≡ true }
     requires joins { is_join_of (collective_answer posts.old group.old joining.now.caller.rank joining.now.caller.thread joining.now.group (joining_call joining.now.group joining.now.args.now)) joining.now.args.now ≡ true }
     requires room { posts.old.events + owed posts.old + 1 ≤ limits.now.events }
     ensures step { Steps {S = PostsAndGroup} (recorded_of result) (record { posts = posts.old; group = group.old }) (record { posts = posts.new; group = group.new }) (joined limits.now joining.now.caller.rank posts.old group.old joining.now.caller.thread joining.now.group joining.now.args.now) }
     ensures memory { OnOk result (memory.new ≡ made_memory limits.now posts.old memory.old joining.now.args.now.coll) }
     ensures memory_kept { OnErr result (memory.new ≡ memory.old) }
-    ensures taken { taken.new ≡ posts.new.events + owed posts.new }
+    ensures used { used.new ≡ posts.new.events + owed posts.new }
 {
     join_parts(alloc, limits, joining, posts, memory, group)?;
-    *taken += 1;
+    *used += 1;
     Ok(())
 }

@@ -1,4 +1,4 @@
-//! What ranks have given to the rounds of a group, and what a round comes to. The members of a group alone are walked, never its
+//! The contributions of ranks to the rounds of a group, and what a round comes to. The members of a group alone are walked, never its
 //! rounds. (GASPI: collectives)
 
 ghost use Rattle.std.specs.Prelude.{◌≡◌, ℕ, ◌+◌, ◌<◌, ◌^◌, ◌++◌, ◌∷◌, [], length, true, is_some, IfOk, OnOk, OnErr};
@@ -18,12 +18,12 @@ use gaspi_types::{
 use segment_store::set_known;
 use std::alloc::Global;
 
-/// What a rank has given to a round of a group, if it has.
-fn given_in(group: &Group, round: u32, rank: RankId) -> Option<&Contribution>
+/// The contribution of a rank to a round of a group, if it has contributed.
+fn contribution_in(group: &Group, round: u32, rank: RankId) -> Option<&Contribution>
     ensures { option_copied result ≡ contribution_in group.now round rank }
 {
     match group.contributions.get(rank.index()) {
-        Some(part) => part.contributions.get(round as usize),
+        Some(own) => own.contributions.get(round as usize),
         None => None,
     }
 }
@@ -33,7 +33,7 @@ fn round_of(group: &Group, rank: RankId) -> u32
     ensures { result ≡ round_of group.now rank }
 {
     match group.contributions.get(rank.index()) {
-        Some(part) => part.completed,
+        Some(own) => own.completed,
         None => 0,
     }
 }
@@ -45,16 +45,16 @@ fn members_in(group: &Group) -> Members
     members_of(group.members.unwrap_or(0))
 }
 
-/// Whether every one of these ranks has given to a round.
+/// Whether every one of these ranks has contributed to a round.
 fn is_full(group: &Group, round: u32, members: &[RankId]) -> bool
     ensures { result ≡ is_full (contribution_in group.now round) members.now }
 {
     members
         .iter()
-        .all(|member| given_in(group, round, *member).is_some())
+        .all(|member| contribution_in(group, round, *member).is_some())
 }
 
-/// Whether every member has given to the round of a rank. (GASPI: collectives)
+/// Whether every member has contributed to the round of a rank. (GASPI: collectives)
 pub fn is_round_full(group: &Group, me: RankId) -> bool
     ensures { result ≡ is_round_full group.now me }
 {
@@ -67,7 +67,7 @@ fn first_coll(group: &Group, round: u32, members: &[RankId]) -> Option<Coll>
 {
     match members {
         [] => None,
-        [member, others @ ..] => match given_in(group, round, *member) {
+        [member, others @ ..] => match contribution_in(group, round, *member) {
             Some(given) => Some(given.args.coll),
             None => first_coll(group, round, others),
         },
@@ -82,19 +82,19 @@ pub fn check_round(group: &Group, me: RankId, coll: Coll) -> Result<(), Refusal>
     check_fits(first, coll)
 }
 
-/// The values that a rank has given to a round: of one that has not, none.
+/// The values of a rank's contribution to a round: of one that has not contributed, none.
 fn values_in(group: &Group, round: u32, rank: RankId) -> &[i128]
     ensures values { result.now ≡ values_in (contribution_in group.now round rank) }
     ensures range { (num_type : NumType) (count : ℕ) → AreAlike (contribution_in group.now round) num_type count → AreInType num_type result.now }
 {
-    match given_in(group, round, rank) {
+    match contribution_in(group, round, rank) {
         Some(given) => given.args.values.items(),
         None => &[],
     }
 }
 
-/// Reduces what a rank has given to a round onto a total.
-fn reduce_given(
+/// Reduces the contribution of a rank to a round onto a total.
+fn reduce_contribution(
     total: &mut [i128],
     op: Op,
     num_type: NumType,
@@ -111,8 +111,8 @@ fn reduce_given(
     reduce(op, num_type, total, values_in(group, round, rank));
 }
 
-/// Reduces what ranks have given to a round onto a total, one rank after another.
-fn fold_onto(
+/// Reduces the contributions of ranks to a round onto a total, one rank after another.
+fn reduce_onto(
     total: &mut [i128],
     op: Op,
     num_type: NumType,
@@ -123,20 +123,20 @@ fn fold_onto(
     requires full { is_full (contribution_in group.now round) members.now ≡ true }
     requires alike { AreAlike (contribution_in group.now round) num_type (length total.old) }
     requires range { AreInType num_type total.old }
-    ensures folded { total.new ≡ reduced_onto (contribution_in group.now round) op num_type total.old members.now }
+    ensures reduced { total.new ≡ reduced_onto (contribution_in group.now round) op num_type total.old members.now }
     ensures range { AreInType num_type total.new }
 {
     match members {
         [] => {}
         [member, others @ ..] => {
-            reduce_given(total, op, num_type, group, round, *member);
-            fold_onto(total, op, num_type, group, round, others);
+            reduce_contribution(total, op, num_type, group, round, *member);
+            reduce_onto(total, op, num_type, group, round, others);
         }
     }
 }
 
-/// What the values come to that ranks have given to a round, one rank after another.
-fn fold(
+/// What the values of ranks' contributions to a round come to, one rank after another.
+fn reduction_of(
     alloc: Global,
     op: Op,
     num_type: NumType,
@@ -153,7 +153,7 @@ fn fold(
         [first, others @ ..] => {
             let mut total = Vec::from_slice(alloc, values_in(group, round, *first))?;
             let items = total.as_mut_slice();
-            fold_onto(items, op, num_type, group, round, others);
+            reduce_onto(items, op, num_type, group, round, others);
             Ok(Numbers::new(num_type, Sequence::from_vec(total)))
         }
     }
@@ -173,20 +173,20 @@ pub fn round_reduction(
 {
     let round = round_of(group, me);
     let members = members_in(group);
-    fold(alloc, op, num_type, group, round, members.ranks())
+    reduction_of(alloc, op, num_type, group, round, members.ranks())
 }
 
-/// The generation of the segment that a rank has given to a round: of one that has not, 0.
+/// The generation of the segment in a rank's contribution to a round: of one that has not contributed, 0.
 fn generation_in(group: &Group, round: u32, rank: RankId) -> u32
     ensures { result ≡ generation_in (contribution_in group.now round rank) }
 {
-    match given_in(group, round, rank) {
+    match contribution_in(group, round, rank) {
         Some(given) => given.generation,
         None => 0,
     }
 }
 
-/// Makes a segment of each of these ranks known, in the generation that it has given to a round.
+/// Makes a segment of each of these ranks known, in the generation of its contribution to a round.
 fn make_known(posts: &mut Posts, group: &Group, round: u32, members: &[RankId], seg: u64, size: u32)
     ensures { posts.new ≡ with_made_known seg size (made_by (contribution_in group.now round) members.now) posts.old }
 {
@@ -201,7 +201,7 @@ fn make_known(posts: &mut Posts, group: &Group, round: u32, members: &[RankId], 
     }
 }
 
-/// Makes the segments of all members known, in the generations that they have given to the round of a rank.
+/// Makes the segments of all members known, in the generations of their contributions to the round of a rank.
 /// (GASPI: segment_create)
 pub fn register_round(posts: &mut Posts, group: &Group, me: RankId, seg: u64, size: u32)
     ensures { posts.new ≡ with_made_known seg size (round_segments group.now me) posts.old }
@@ -230,15 +230,18 @@ fn fixed_by(members: Option<u32>, coll: Coll) -> Option<u32>
     }
 }
 
-/// Adds a contribution to the part of a rank. Without memory nothing changes.
-fn give(part: &mut RankContributions, contribution: Contribution) -> Result<(), NoMemory>
-    ensures ok { OnOk result (part.new ≡ record part.old { contributions = part.old.contributions ++ contribution ∷ [] }) }
-    ensures err { OnErr result (part.new ≡ part.old) }
+/// Adds a contribution to those of a rank. Without memory nothing changes.
+fn push_contribution(
+    own: &mut RankContributions,
+    contribution: Contribution,
+) -> Result<(), NoMemory>
+    ensures ok { OnOk result (own.new ≡ record own.old { contributions = own.old.contributions ++ contribution ∷ [] }) }
+    ensures err { OnErr result (own.new ≡ own.old) }
 {
-    part.contributions.push(contribution)
+    own.contributions.push(contribution)
 }
 
-/// A rank joins: it gives to its round, and the first commit fixes the members. Without memory nothing changes.
+/// A rank joins: it contributes to its round, and the first commit fixes the members. Without memory nothing changes.
 /// (GASPI: collectives)
 #[tactic(auto, using(crate::proofs::PostedEntries::posts_lemmas))]
 pub fn join_round(group: &mut Group, me: RankId, contribution: Contribution) -> Result<(), NoMemory>
@@ -248,7 +251,7 @@ pub fn join_round(group: &mut Group, me: RankId, contribution: Contribution) -> 
     let members = fixed_by(group.members, contribution.args.coll);
     let place = me.index();
     if place < group.contributions.len() {
-        give(group.contributions.at_mut(place), contribution)?;
+        push_contribution(group.contributions.at_mut(place), contribution)?;
     }
     group.members = members;
     Ok(())

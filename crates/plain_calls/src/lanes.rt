@@ -35,7 +35,7 @@ pub fn is_read(entry: &Entry) -> bool
 }
 
 /// The place of the entry with a number.
-pub fn place_of(lane: &Sequence<Entry>, number: u32) -> Option<usize>
+pub fn position_of(lane: &Sequence<Entry>, number: u32) -> Option<usize>
     ensures { result ≡ position_of lane.now number }
 {
     lane.as_slice().iter().position(|e| e.number == number)

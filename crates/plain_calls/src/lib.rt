@@ -30,7 +30,7 @@ pub use collective_calls::{
 };
 pub use collective_steps::{complete, join};
 pub use group_calls::{group_add_result, group_create_result, group_delete_result, pending_on};
-pub use lanes::{is_carried, is_posted, is_read, is_write, may_put, may_take, place_of};
+pub use lanes::{is_carried, is_posted, is_read, is_write, may_put, may_take, position_of};
 pub use looks::Evaluation;
 pub use memories::{bytes_of, new_slots, segment_at, set_slot};
 pub use memory_calls::{load_result, store_result};
@@ -39,6 +39,6 @@ pub use openings::opening_segments;
 pub use passive_calls::{message_of, receive_result, send_result};
 pub use queue_calls::{purged_queue, state_result};
 pub use recording::{Recorded, charge, record};
-pub use replies::{is_refused_or_timeout, ready_of, recorded_reply};
+pub use replies::{answer_of_result, is_refused_or_timeout, recorded_reply};
 pub use segment_calls::{Registration, alloc_result, register_result, registration_of};
 pub use threads::{is_running, is_there, thread_at};

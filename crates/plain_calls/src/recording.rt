@@ -1,4 +1,4 @@
-//! A look at a call recorded, on the posts of its caller's rank and the memory that it works on.
+//! The evaluation of a call recorded, on the posts of its caller's rank and the memory that it works on.
 
 ghost use Rattle.std.specs.Prelude.{◌≡◌, ◌+◌, ◌<◌, ◌≤◌, ◌^◌, length, IfOk, OnOk, OnErr, IsOk, false, true};
 ghost use Rattle.gaspi_types.specs.Replies.{is_idle};
@@ -38,12 +38,12 @@ pub fn charge(state: ThreadState, invocation: &Invocation<'_>, ready: &Ready) ->
     }
 }
 
-/// What a call whose look is recorded frees of the room that its rank has taken: a purge what its queue's entries owe.
-fn released(posts: &Posts, call: &Call, look: &Evaluation) -> u32
-    requires { released posts.now call.now (recorded_reply look.now.ready) < 2 ^ 32 }
-    ensures { result ≡ released posts.now call.now (recorded_reply look.now.ready) }
+/// The used room that a call gives back as its evaluation is recorded: a purge gives back what its queue's entries owe.
+fn released(posts: &Posts, call: &Call, evaluation: &Evaluation) -> u32
+    requires { released posts.now call.now (recorded_reply evaluation.now.ready) < 2 ^ 32 }
+    ensures { result ≡ released posts.now call.now (recorded_reply evaluation.now.ready) }
 {
-    if look.is_refused_or_timeout() {
+    if evaluation.is_refused_or_timeout() {
         return 0;
     }
     match purged_queue(call) {
@@ -59,24 +59,24 @@ fn record_evaluation(
     invocation: &Invocation<'_>,
     posts: &mut Posts,
     memory: &mut Memory,
-    look: Evaluation,
+    evaluation: Evaluation,
 ) -> Result<Reply, NoMemory>
-    requires room { is_idle (recorded_reply look.ready) ≡ false → CallIsBounded posts.old invocation.now.call.now (length (kinds_of look.kinds)) }
+    requires room { is_idle (recorded_reply evaluation.ready) ≡ false → CallIsBounded posts.old invocation.now.call.now (length (kinds_of evaluation.kinds)) }
     requires events { posts.old.events + 1 < 2 ^ 32 }
-    ensures reply { IfOk result (λ reply. reply ≡ recorded_reply look.ready) }
-    ensures posts { OnOk result (posts.new ≡ posts_after_evaluation posts.old invocation.now.caller.thread invocation.now.call.now look) }
-    ensures memory { OnOk result (memory.new ≡ memory_after limits.now posts.old look.message memory.old invocation.now.call.now (recorded_reply look.ready)) }
+    ensures reply { IfOk result (λ reply. reply ≡ recorded_reply evaluation.ready) }
+    ensures posts { OnOk result (posts.new ≡ posts_after_evaluation posts.old invocation.now.caller.thread invocation.now.call.now evaluation) }
+    ensures memory { OnOk result (memory.new ≡ memory_after limits.now posts.old evaluation.message memory.old invocation.now.call.now (recorded_reply evaluation.ready)) }
     ensures posts_kept { OnErr result (posts.new ≡ posts.old) }
     ensures memory_kept { OnErr result (memory.new ≡ memory.old) }
     ensures ample { keeps_memory invocation.now.call.now ≡ false → IsOk result }
 {
     let events = posts.events + 1;
-    let idle = look.is_refused_or_timeout();
+    let idle = evaluation.is_refused_or_timeout();
     let Evaluation {
         ready,
         kinds,
         message,
-    } = look;
+    } = evaluation;
     if !idle {
         call_effect(
             alloc,
@@ -99,8 +99,8 @@ pub struct Recorded {
     pub used: u32,
 }
 
-/// Records a look at a call: the step by the call with what the look found. The look is one of this very call on these very
-/// posts and this memory, and the rank has room for its event, so nothing is looked for or tested again. `used` is the rank's
+/// Records the evaluation of a call: the step by the call with what the look found. The evaluation is one of this very call on
+/// these very posts and this memory, and the rank has room for its event, so nothing is looked for or tested again. `used` is the rank's
 /// used room with the event's charge. Only a post, a segment that is made and a message take memory, and without it nothing
 /// changes.
 pub fn record(
@@ -110,21 +110,21 @@ pub fn record(
     posts: &mut Posts,
     memory: &mut Memory,
     used: u32,
-    look: Evaluation,
+    evaluation: Evaluation,
 ) -> Result<Recorded, NoMemory>
     requires limits { are_limits limits.now ≡ true }
     requires sound { IsSoundPosts limits.now posts.old }
-    requires taken { used ≡ posts.old.events + owed posts.old + charge (thread_at posts.old invocation.now.caller.thread) invocation.now.call.now (recorded_reply look.ready) }
+    requires used { used ≡ posts.old.events + owed posts.old + charge (thread_at posts.old invocation.now.caller.thread) invocation.now.call.now (recorded_reply evaluation.ready) }
     requires there { is_there (thread_at posts.old invocation.now.caller.thread) ≡ true }
-    requires look { IsEvaluation look limits.now invocation.now.caller.rank posts.old memory.old invocation.now.caller.thread invocation.now.call.now }
-    requires room { posts.old.events + owed posts.old + charge (thread_at posts.old invocation.now.caller.thread) invocation.now.call.now (recorded_reply look.ready) ≤ limits.now.events }
-    ensures reply { IfOk result (λ recorded. recorded.reply ≡ recorded_reply look.ready) }
-    ensures step { Steps {S = PostsAndMemory} (recorded_of result) (record { posts = posts.old; memory = memory.old }) (record { posts = posts.new; memory = memory.new }) (called limits.now invocation.now.caller.rank posts.old look.message memory.old invocation.now.caller.thread invocation.now.call.now (recorded_reply look.ready)) }
-    ensures taken { IfOk result (λ recorded. recorded.used ≡ posts.new.events + owed posts.new) }
+    requires evaluation { IsEvaluation evaluation limits.now invocation.now.caller.rank posts.old memory.old invocation.now.caller.thread invocation.now.call.now }
+    requires room { posts.old.events + owed posts.old + charge (thread_at posts.old invocation.now.caller.thread) invocation.now.call.now (recorded_reply evaluation.ready) ≤ limits.now.events }
+    ensures reply { IfOk result (λ recorded. recorded.reply ≡ recorded_reply evaluation.ready) }
+    ensures step { Steps {S = PostsAndMemory} (recorded_of result) (record { posts = posts.old; memory = memory.old }) (record { posts = posts.new; memory = memory.new }) (called limits.now invocation.now.caller.rank posts.old evaluation.message memory.old invocation.now.caller.thread invocation.now.call.now (recorded_reply evaluation.ready)) }
+    ensures used { IfOk result (λ recorded. recorded.used ≡ posts.new.events + owed posts.new) }
     ensures ample { keeps_memory invocation.now.call.now ≡ false → IsOk result }
 {
-    let freed = released(posts, invocation.call, &look);
-    let reply = record_evaluation(alloc, limits, invocation, posts, memory, look)?;
+    let freed = released(posts, invocation.call, &evaluation);
+    let reply = record_evaluation(alloc, limits, invocation, posts, memory, evaluation)?;
     let used = used - freed;
     Ok(Recorded { reply, used })
 }

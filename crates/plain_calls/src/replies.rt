@@ -2,13 +2,13 @@
 
 ghost use Rattle.std.specs.Prelude.{◌≡◌};
 ghost use Rattle.gaspi_types.specs.Replies.{is_idle};
-ghost use Rattle.gaspi_model.specs.Calls.{ready_of, recorded_reply};
+ghost use Rattle.gaspi_model.specs.Calls.{answer_of_result, recorded_reply};
 
 use gaspi_types::{Ready, Refusal, Reply};
 
 /// What a look at a call finds, in one value.
-pub fn ready_of(finds: Result<Option<Reply>, Refusal>) -> Ready
-    ensures { result ≡ ready_of finds }
+pub fn answer_of_result(finds: Result<Option<Reply>, Refusal>) -> Ready
+    ensures { result ≡ answer_of_result finds }
 {
     match finds {
         Ok(None) => Ready::NotReady,

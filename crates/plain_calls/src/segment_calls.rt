@@ -8,7 +8,7 @@ ghost use Rattle.gaspi_model.specs.SegmentCalls.{alloc_result, with_own, alloc_e
 ghost use Rattle.gaspi_types.specs.Queues.{user_of};
 ghost use Rattle.gaspi_types.specs.declared.shapes.Limits.{Limits};
 ghost use Rattle.plain_calls.specs.NumberBounds.{AllocIsBounded};
-ghost use Rattle.plain_calls.specs.Segments.{new_made};
+ghost use Rattle.plain_calls.specs.Segments.{made_segment};
 ghost use Rattle.gaspi_model.specs.declared.states.Posts.{Posts};
 
 use crate::lanes::has_user;
@@ -33,7 +33,7 @@ pub fn alloc_result(own: &Extents, call: &Alloc) -> Result<Option<Reply>, Refusa
 
 /// A segment as it is made, with its slots, that stands in no table yet.
 #[derive(Debug, Drop)]
-pub struct NewSegment {
+pub struct MadeSegment {
     segment: Segment,
     slots: Sequence<u32>,
 }
@@ -44,24 +44,24 @@ pub fn make_segment(
     limits: &Limits,
     posts: &Posts,
     call: &Alloc,
-) -> Result<NewSegment, NoMemory>
+) -> Result<MadeSegment, NoMemory>
     requires { call.now.size < 2 ^ 32 }
-    ensures { IfOk result (λ made. made ≡ new_made limits.now posts.now call.now) }
+    ensures { IfOk result (λ made. made ≡ made_segment limits.now posts.now call.now) }
 {
     let generation = next_generation(&posts.segments.next_generations, call.seg);
-    Ok(NewSegment {
+    Ok(MadeSegment {
         segment: new_segment(alloc, generation, call.size as u32)?,
         slots: new_slots(alloc, limits.notes)?,
     })
 }
 
 /// Puts an own segment that was made into its tables. (GASPI: segment_alloc)
-pub fn place_segment(posts: &mut Posts, memory: &mut Memory, call: &Alloc, made: NewSegment)
+pub fn insert_segment(posts: &mut Posts, memory: &mut Memory, call: &Alloc, made: MadeSegment)
     requires { AllocIsBounded posts.old call.now }
     ensures posts { posts.new ≡ with_own posts.old call.now.seg call.now.size }
-    ensures memory { (limits : Limits) → made ≡ new_made limits posts.old call.now → memory.new ≡ alloc_effect limits posts.old memory.old call.now }
+    ensures memory { (limits : Limits) → made ≡ made_segment limits posts.old call.now → memory.new ≡ alloc_effect limits posts.old memory.old call.now }
 {
-    let NewSegment { segment, slots } = made;
+    let MadeSegment { segment, slots } = made;
     set_segment(memory, call.seg, Some(segment), Some(slots));
     add_own(&mut posts.segments, call.seg, call.size as u32);
 }
@@ -81,7 +81,7 @@ pub fn alloc_effect(
     ensures memory_kept { OnErr result (memory.new ≡ memory.old) }
 {
     let made = make_segment(alloc, limits, posts, call)?;
-    place_segment(posts, memory, call, made);
+    insert_segment(posts, memory, call, made);
     Ok(())
 }
 

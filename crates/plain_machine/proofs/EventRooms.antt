@@ -25,7 +25,7 @@ use Rattle.gaspi_model.proofs.Made.{step-called}
 use Rattle.plain_calls.specs.Looks.{IsEvaluation}
 use Rattle.plain_calls.specs.declared.looks.Evaluation.{Evaluation}
 use Rattle.plain_calls.proofs.Answered.{on_group_limit}
-use Rattle.plain_calls.proofs.Looked.{brought_same, look_limit}
+use Rattle.plain_calls.proofs.Looked.{message_same, look_limit}
 use Rattle.plain_machine.specs.Looking.{IsEvaluationIn, HasEventRoom, HasJoinRoom}
 use Rattle.plain_machine.specs.Footprints.{call_footprint, memory_at}
 use Rattle.plain_machine.proofs.OnGroups.{completed_err, joined_err}
@@ -92,7 +92,7 @@ full_step s c call look p declared finds unjoined at full = by_group (row_of cal
         let there = subst (λ (x : Posts). is_there (thread_at x c.thread) ≡ true) (one_posts s c.rank d.posts p d.item at) d.there in
         let found = subst (λ (m : Memory). IsEvaluation look s.limits c.rank p m c.thread call) (memory_as s c.rank p (call_footprint s.limits c.rank call)) (finds.finds p at plain) in
         refused s c call (recorded_reply look.ready) p whys.Limit plain at
-        (sym (brought_same look (call_message s c.rank call) s.limits c.rank p (memory_at s.memories c.rank (call_footprint s.limits c.rank call)) c.thread call finds.message)
+        (sym (message_same look (call_message s c.rank call) s.limits c.rank p (memory_at s.memories c.rank (call_footprint s.limits c.rank call)) c.thread call finds.message)
         ∙ look_limit look s.limits c.rank p (memory_at s.memories c.rank (call_footprint s.limits c.rank call)) c.thread call found there full)
     by_group (Some id) named =
         let there = subst (λ (x : Posts). is_there (thread_at x c.thread) ≡ true) (one_posts s c.rank d.posts p d.item at) d.there in

@@ -81,18 +81,18 @@ queues-after limits me posts thread call reply = by_idle (is_idle reply) refl
     by_idle true idle = rw idle refl
     by_idle false idle = rw idle (queues-done limits me posts thread call)
 
-queues-called : (limits : Limits) (me : ℕ) (posts : Posts) (brought : Option Message) (memory : Memory) (thread : ℕ) (call : Call) (reply : Reply) (after : PostsAndMemory)
-    → called limits me posts brought memory thread call reply ≡ Ok after → length after.posts.queues ≡ length posts.queues
-queues-called limits me posts brought memory thread call reply after is =
+queues-called : (limits : Limits) (me : ℕ) (posts : Posts) (message : Option Message) (memory : Memory) (thread : ℕ) (call : Call) (reply : Reply) (after : PostsAndMemory)
+    → called limits me posts message memory thread call reply ≡ Ok after → length after.posts.queues ≡ length posts.queues
+queues-called limits me posts message memory thread call reply after is =
     bind_then (check (is_there (thread_at posts thread)) _) _ _ is (λ u there more.
     bind_then (check (same_reply reply (recorded_reply (answer limits me posts memory thread call))) _) _ _ more (λ u answered more.
     bind_then (check (nat_le (posts.events + owed posts + charge (thread_at posts thread) call reply) limits.events) _) _ _ more (λ u room more.
     done after more)))
   where
-    done : (after : PostsAndMemory) → ◌≡◌ {A = Result PostsAndMemory Why} (Ok (record { posts = posts_after limits me posts thread call reply; memory = memory_after limits posts brought memory call reply })) (Ok after)
+    done : (after : PostsAndMemory) → ◌≡◌ {A = Result PostsAndMemory Why} (Ok (record { posts = posts_after limits me posts thread call reply; memory = memory_after limits posts message memory call reply })) (Ok after)
         → length after.posts.queues ≡ length posts.queues
     done after is =
-        let same : record { posts = posts_after limits me posts thread call reply; memory = memory_after limits posts brought memory call reply } ≡ after = cc in
+        let same : record { posts = posts_after limits me posts thread call reply; memory = memory_after limits posts message memory call reply } ≡ after = cc in
         rw (← same) (queues-after limits me posts thread call reply)
 
 -- one rank's posts replaced by some with as many queues

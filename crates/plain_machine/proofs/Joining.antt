@@ -17,7 +17,7 @@ use Rattle.gaspi_types.specs.declared.replies.Reply.{Reply}
 use Rattle.gaspi_types.specs.declared.shapes.CallerId.{CallerId}
 use Rattle.gaspi_types.specs.declared.shapes.Limits.{Limits}
 use Rattle.gaspi_types.proofs.Items.{past-none}
-use Rattle.gaspi_model.specs.Calls.{answer, call_result, ready_of}
+use Rattle.gaspi_model.specs.Calls.{answer, call_result, answer_of_result}
 use Rattle.gaspi_model.specs.CollectiveCalls.{collective_answer, is_join_of, joining_call, group_of}
 use Rattle.gaspi_model.specs.Contributions.{IsSoundGroup, AreSoundContributions}
 use Rattle.gaspi_model.specs.Parts.{empty_group, group_or_none}
@@ -82,7 +82,7 @@ contributions_sound s id rank p sound there = by_test (nat_lt id 8) refl
 plain_joins : (limits : Limits) (me : ℕ) (posts : Posts) (memory : Memory) (thread : ℕ) (call : Call) (args : Args) → answer limits me posts memory thread call ≡ ready.Join args → ⊥
 plain_joins limits me posts memory thread call args is = by_running (is_running (thread_at posts thread)) refl
   where
-    of_finds : (r : Result (Option Reply) Refusal) → ready_of r ≡ ready.Join args → ⊥
+    of_finds : (r : Result (Option Reply) Refusal) → answer_of_result r ≡ ready.Join args → ⊥
     of_finds (Ok None) is = cc
     of_finds (Ok (Some reply)) is = cc
     of_finds (Err refusal) is = cc

@@ -21,7 +21,7 @@ use Rattle.gaspi_types.specs.declared.footprints.Footprint.{Footprint}
 use Rattle.gaspi_types.specs.declared.footprints.Footprint.TheVariants.{Alone, OwnMemory, PeerMemory, BothMemories, PeerPosts, Group, GroupAndMemory}
 use Rattle.gaspi_types.specs.declared.footprints.DeclaredFootprint.{DeclaredFootprint}
 use Rattle.gaspi_types.proofs.Items.{set-there}
-use Rattle.gaspi_model.specs.Calls.{answer, call_result, ready_of, recorded_reply}
+use Rattle.gaspi_model.specs.Calls.{answer, call_result, answer_of_result, recorded_reply}
 use Rattle.gaspi_model.specs.CollectiveCalls.{is_reply_of, made_memory}
 use Rattle.gaspi_model.specs.Parts.{Parts, PartNumbers, group_or_none, parts_of, with_parts, part_numbers, accessed_memory, with_accessed_memory}
 use Rattle.gaspi_model.specs.State.{thread_at, is_running}
@@ -71,7 +71,7 @@ on_group_quiet c call reply id named = by_idle (is_idle reply) refl
 
 -- A call that is no collective is recorded with the reply that it has: it may not join.
 
-of_result : (r : Result (Option Reply) Refusal) (reply : Reply) → is_reply_of (ready_of r) reply ≡ same_reply reply (recorded_reply (ready_of r))
+of_result : (r : Result (Option Reply) Refusal) (reply : Reply) → is_reply_of (answer_of_result r) reply ≡ same_reply reply (recorded_reply (answer_of_result r))
 of_result (Ok None) reply = refl
 of_result (Ok (Some found)) reply = refl
 of_result (Err refusal) reply = refl

@@ -22,7 +22,7 @@ use Rattle.gaspi_types.specs.declared.groups.Group.{Group}
 use Rattle.gaspi_types.specs.declared.inboxes.Message.{Message}
 use Rattle.gaspi_model.proofs.Same.{same_reply-same}
 use Rattle.plain_calls.specs.Looks.{HasMessage}
-use Rattle.plain_calls.proofs.Looked.{brought_same}
+use Rattle.plain_calls.proofs.Looked.{message_same}
 use Rattle.gaspi_model.specs.declared.states.Posts.{Posts}
 use Rattle.gaspi_model.specs.declared.states.Memory.{Memory}
 use Rattle.gaspi_model.specs.declared.states.State.{State}
@@ -108,15 +108,15 @@ unanswered s c call reply look declared finds other = by_group (row_of call).gro
         completed_err s c call reply id d.posts whys.Reply d.item named (rw (d.there, differs) refl)
 
 -- what a look brought is as good as what the call brings
-pub lent_same : (look : Evaluation) (limits : Limits) (all : List Posts) (brought : Option Message) (memory : Memory) (c : CallerId) (call : Call) → HasMessage look brought
-    → call_lent limits all look.message memory c call (recorded_reply look.ready) ≡ call_lent limits all brought memory c call (recorded_reply look.ready)
-lent_same look limits all brought memory c call brings = by_item (slice_get all c.rank) refl
+pub lent_same : (look : Evaluation) (limits : Limits) (all : List Posts) (message : Option Message) (memory : Memory) (c : CallerId) (call : Call) → HasMessage look message
+    → call_lent limits all look.message memory c call (recorded_reply look.ready) ≡ call_lent limits all message memory c call (recorded_reply look.ready)
+lent_same look limits all message memory c call brings = by_item (slice_get all c.rank) refl
   where
-    by_item : (o : Option Posts) → slice_get all c.rank ≡ o → call_lent limits all look.message memory c call (recorded_reply look.ready) ≡ call_lent limits all brought memory c call (recorded_reply look.ready)
+    by_item : (o : Option Posts) → slice_get all c.rank ≡ o → call_lent limits all look.message memory c call (recorded_reply look.ready) ≡ call_lent limits all message memory c call (recorded_reply look.ready)
     by_item None there = rw there refl
     by_item (Some posts) there =
         rw there (ap (λ (r : Result PostsAndMemory Why). r >>= (λ after. Ok (record { posts = slice_set all c.rank after.posts; memory = after.memory })))
-        (brought_same look brought limits c.rank posts memory c.thread call brings))
+        (message_same look message limits c.rank posts memory c.thread call brings))
 
 -- a new state of ranks whose limits and groups are the same
 pub limits_as : (r r' : RankTables) (posts : List Posts) (memories : List Memory) (result : Result (Unit {0}) StepFault) (s : State) (outcome : Result State Why) → r'.limits ≡ r.limits → r'.groups ≡ r.groups

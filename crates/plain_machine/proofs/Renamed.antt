@@ -238,18 +238,18 @@ pub record IsAnswered (limits : Limits) (me : ℕ) (posts : Posts) (memory : Mem
   pub replied : same_reply reply (recorded_reply (answer limits me posts memory thread call)) ≡ true
   pub after_is : posts_after limits me posts thread call reply ≡ after
 
-called_by : (limits : Limits) (me : ℕ) (posts : Posts) (brought : Option Message) (memory : Memory) (thread : ℕ) (call : Call) (reply : Reply) (after : PostsAndMemory)
-    → called limits me posts brought memory thread call reply ≡ Ok after → IsAnswered limits me posts memory thread call reply after.posts
-called_by limits me posts brought memory thread call reply after is =
+called_by : (limits : Limits) (me : ℕ) (posts : Posts) (message : Option Message) (memory : Memory) (thread : ℕ) (call : Call) (reply : Reply) (after : PostsAndMemory)
+    → called limits me posts message memory thread call reply ≡ Ok after → IsAnswered limits me posts memory thread call reply after.posts
+called_by limits me posts message memory thread call reply after is =
     bind_then (check (is_there (thread_at posts thread)) _) _ _ is (λ u there more.
     bind_then (check (same_reply reply (recorded_reply (answer limits me posts memory thread call))) _) _ _ more (λ u answered more.
     bind_then (check (nat_le (posts.events + owed posts + charge (thread_at posts thread) call reply) limits.events) _) _ _ more (λ u room more.
     record { replied = check_holds _ _ _ answered; after_is = done after more })))
   where
-    done : (after : PostsAndMemory) → ◌≡◌ {A = Result PostsAndMemory Why} (Ok (record { posts = posts_after limits me posts thread call reply; memory = memory_after limits posts brought memory call reply })) (Ok after)
+    done : (after : PostsAndMemory) → ◌≡◌ {A = Result PostsAndMemory Why} (Ok (record { posts = posts_after limits me posts thread call reply; memory = memory_after limits posts message memory call reply })) (Ok after)
         → posts_after limits me posts thread call reply ≡ after.posts
     done after is =
-        let same : record { posts = posts_after limits me posts thread call reply; memory = memory_after limits posts brought memory call reply } ≡ after = cc in
+        let same : record { posts = posts_after limits me posts thread call reply; memory = memory_after limits posts message memory call reply } ≡ after = cc in
         ap (λ (w : PostsAndMemory). w.posts) same
 
 -- what a peer is told names no lane

@@ -81,9 +81,9 @@ pub record PostsAndLentMemory : Type 0 where
 
 -- a call on those, with the message that it brings
 abbrev pub call_lent : Limits → List Posts → Option Message → Memory → CallerId → Call → Reply → Result PostsAndLentMemory Why
-call_lent limits all brought memory c call reply = do
+call_lent limits all message memory c call reply = do
   posts ← ok_or (slice_get all c.rank) whys.Caller
-  after ← called limits c.rank posts brought memory c.thread call reply
+  after ← called limits c.rank posts message memory c.thread call reply
   Ok (record { posts = slice_set all c.rank after.posts; memory = after.memory })
 
 -- the posts of all ranks are sound

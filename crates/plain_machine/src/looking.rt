@@ -157,7 +157,7 @@ fn record_on(
     charge: u32,
 ) -> Result<Reply, NoMemory>
     requires ranks { AreRanks ranks.old.limits ranks.old.posts }
-    requires taken { ranks.old.used ≡ map used_room_of ranks.old.posts }
+    requires used { ranks.old.used ≡ map used_room_of ranks.old.posts }
     requires there { invocation.now.caller.rank < length ranks.old.posts }
     requires look { (posts : Posts) → slice_get ranks.old.posts invocation.now.caller.rank ≡ Some posts → IsEvaluationOn look ranks.old.limits posts memory.old invocation.now.caller invocation.now.call.now }
     requires charge { IsCharge charge ranks.old.posts invocation.now.caller invocation.now.call.now look.ready }
@@ -167,7 +167,7 @@ fn record_on(
     ensures ranks { length ranks.new.posts ≡ length ranks.old.posts }
     ensures limits { ranks.new.limits ≡ ranks.old.limits }
     ensures groups { ranks.new.groups ≡ ranks.old.groups }
-    ensures taken { ranks.new.used ≡ map used_room_of ranks.new.posts }
+    ensures used { ranks.new.used ≡ map used_room_of ranks.new.posts }
     ensures ample { keeps_memory invocation.now.call.now ≡ false → IsOk result }
 {
     let rank = invocation.caller.rank.index();
@@ -201,7 +201,7 @@ fn record_plain(
     requires plain { (row_of invocation.now.call.now).group ≡ None }
     ensures reply { IfOk result (λ reply. reply ≡ recorded_reply look.ready) }
     ensures step { StepsBy (recorded_of result) (state_in ranks.old memories.old) (state_in ranks.new memories.new) (Called invocation.now.caller invocation.now.call.now (recorded_reply look.ready)) }
-    ensures taken { ranks.new.used ≡ map used_room_of ranks.new.posts }
+    ensures used { ranks.new.used ≡ map used_room_of ranks.new.posts }
     ensures ample { keeps_memory invocation.now.call.now ≡ false → IsOk result }
 {
     let rank = invocation.caller.rank;
@@ -258,7 +258,7 @@ fn record_collective(
     requires room { HasEventRoom ranks.old.limits ranks.old.posts invocation.now.caller invocation.now.call.now ready }
     ensures reply { result ≡ recorded_reply ready }
     ensures step { (memories : List Memory) → step (state_in ranks.old memories) (Called invocation.now.caller invocation.now.call.now (recorded_reply ready)) ≡ Ok (state_in ranks.new memories) }
-    ensures taken { ranks.new.used ≡ map used_room_of ranks.new.posts }
+    ensures used { ranks.new.used ≡ map used_room_of ranks.new.posts }
 {
     let rank = invocation.caller.rank.index();
     if id < 8 {
@@ -299,7 +299,7 @@ fn record_posting(
     requires unpurged { look_purge invocation.now.call.now look ≡ None }
     ensures reply { IfOk result (λ reply. reply ≡ recorded_reply look.ready) }
     ensures step { StepsBy (recorded_of result) (state_in ranks.old memories.old) (state_in ranks.new memories.new) (Called invocation.now.caller invocation.now.call.now (recorded_reply look.ready)) }
-    ensures taken { ranks.new.used ≡ map used_room_of ranks.new.posts }
+    ensures used { ranks.new.used ≡ map used_room_of ranks.new.posts }
     ensures named { standing.new.items ≡ nonempty_lanes ranks.new.posts }
     ensures ample { keeps_memory invocation.now.call.now ≡ false → IsOk result }
 {
@@ -335,7 +335,7 @@ pub fn record_with_lanes(
     requires unjoined { is_joining look.ready ≡ false }
     ensures reply { IfOk result (λ reply. reply ≡ recorded_reply look.ready) }
     ensures step { StepsBy (recorded_of result) (state_in ranks.old memories.old) (state_in ranks.new memories.new) (Called invocation.now.caller invocation.now.call.now (recorded_reply look.ready)) }
-    ensures taken { ranks.new.used ≡ map used_room_of ranks.new.posts }
+    ensures used { ranks.new.used ≡ map used_room_of ranks.new.posts }
     ensures named { standing.new.items ≡ nonempty_lanes ranks.new.posts }
     ensures ample { keeps_memory invocation.now.call.now ≡ false → IsOk result }
 {
@@ -385,7 +385,7 @@ pub fn step_called(
 ) -> Result<(), StepFault>
     requires { IsMachine (state_in ranks.old memories.old) ranks.old.used standing.old.items }
     ensures step { StepsBy result (state_in ranks.old memories.old) (state_in ranks.new memories.new) (Called invocation.now.caller invocation.now.call.now reply.now) }
-    ensures taken { ranks.new.used ≡ map used_room_of ranks.new.posts }
+    ensures used { ranks.new.used ≡ map used_room_of ranks.new.posts }
     ensures named { standing.new.items ≡ nonempty_lanes ranks.new.posts }
     ensures ample { (looks_with_memory invocation.now.call.now || keeps_memory invocation.now.call.now) ≡ false → result ≢ Err StepFault.NoMemory }
 {
@@ -440,7 +440,7 @@ fn join_in(
     requires joins { MayJoin (state_in ranks.old memories.old) joining.now.caller joining.now.group joining.now.args.now }
     requires room { HasJoinRoom ranks.old.limits ranks.old.posts joining.now.caller.rank }
     ensures step { StepsBy (recorded_of result) (state_in ranks.old memories.old) (state_in ranks.new memories.new) (Joined joining.now.caller joining.now.group joining.now.args.now) }
-    ensures taken { ranks.new.used ≡ map used_room_of ranks.new.posts }
+    ensures used { ranks.new.used ≡ map used_room_of ranks.new.posts }
 {
     let rank = joining.caller.rank.index();
     join(
@@ -463,7 +463,7 @@ pub fn step_joined(
 ) -> Result<(), StepFault>
     requires { IsStateOf ranks.old memories.old }
     ensures step { StepsBy result (state_in ranks.old memories.old) (state_in ranks.new memories.new) (Joined joining.now.caller joining.now.group joining.now.args.now) }
-    ensures taken { ranks.new.used ≡ map used_room_of ranks.new.posts }
+    ensures used { ranks.new.used ≡ map used_room_of ranks.new.posts }
 {
     if !has_section(ranks, &joining.caller) {
         return Err(StepFault::Illegal(Why::Caller));
@@ -496,7 +496,7 @@ pub fn join_found(
     requires joins { MayJoinWith args (state_in ranks.old memories.old) invocation.now.caller invocation.now.call.now }
     ensures event { IfOk result (λ event. event ≡ join_event invocation.now.caller invocation.now.call.now args) }
     ensures step { StepsBy (recorded_of result) (state_in ranks.old memories.old) (state_in ranks.new memories.new) (join_event invocation.now.caller invocation.now.call.now args) }
-    ensures taken { ranks.new.used ≡ map used_room_of ranks.new.posts }
+    ensures used { ranks.new.used ≡ map used_room_of ranks.new.posts }
 {
     let id = GroupId::of(invocation.row.group.unwrap_or(0) as u32);
     let joining = Joining {

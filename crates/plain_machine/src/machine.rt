@@ -270,7 +270,7 @@ impl Machine {
     }
 
     /// Whether the rank of a caller has no room for the events that its call needs. (own choice)
-    pub fn is_full(&self, invocation: &Invocation<'_>) -> bool
+    pub fn lacks_room(&self, invocation: &Invocation<'_>) -> bool
         requires { is_declared self.now invocation.now.caller.rank invocation.now.caller.thread ≡ true }
         ensures { result ≡ lacks_room_in self.now invocation.now.caller invocation.now.call.now }
     {

@@ -44,7 +44,7 @@ fn step_take(
     requires { IsStateOf ranks.old memories.now }
     ensures outcome { IfOk result (λ outcome. take_event (state_in ranks.old memories.now) id.now number given ≡ Take id.now.origin id.now.queue id.now.target number outcome) }
     ensures step { StepsBy (made_of result) (state_in ranks.old memories.now) (state_in ranks.new memories.now) (take_event (state_in ranks.old memories.now) id.now number given) }
-    ensures taken { ranks.new.used ≡ map used_room_of ranks.new.posts }
+    ensures used { ranks.new.used ≡ map used_room_of ranks.new.posts }
 {
     let rank = id.origin.index();
     if rank >= ranks.posts.len() {
@@ -115,7 +115,7 @@ fn step_put(
     requires { IsStateOf ranks.old memories.old }
     ensures outcome { IfOk result (λ outcome. put_event (state_in ranks.old memories.old) id.now number given ≡ Put id.now.origin id.now.queue id.now.target number outcome) }
     ensures step { StepsBy (made_of result) (state_in ranks.old memories.old) (state_in ranks.new memories.new) (put_event (state_in ranks.old memories.old) id.now number given) }
-    ensures taken { ranks.new.used ≡ map used_room_of ranks.new.posts }
+    ensures used { ranks.new.used ≡ map used_room_of ranks.new.posts }
     ensures ample { result ≢ Err StepFault.NoMemory }
 {
     let rank = id.origin.index();
@@ -155,7 +155,7 @@ fn step_leaving(
     requires { IsMachine (state_in ranks.old memories.old) ranks.old.used standing.old.items }
     ensures outcome { IfOk result (λ outcome. put_event (state_in ranks.old memories.old) id.now number given ≡ Put id.now.origin id.now.queue id.now.target number outcome) }
     ensures step { StepsBy (made_of result) (state_in ranks.old memories.old) (state_in ranks.new memories.new) (put_event (state_in ranks.old memories.old) id.now number given) }
-    ensures taken { ranks.new.used ≡ map used_room_of ranks.new.posts }
+    ensures used { ranks.new.used ≡ map used_room_of ranks.new.posts }
     ensures named { standing.new.items ≡ nonempty_lanes ranks.new.posts }
     ensures ample { result ≢ Err StepFault.NoMemory }
 {
@@ -177,7 +177,7 @@ pub fn step(
 ) -> Result<(), StepFault>
     requires { IsMachine (state_in ranks.old memories.old) ranks.old.used standing.old.items }
     ensures step { StepsBy result (state_in ranks.old memories.old) (state_in ranks.new memories.new) event.now }
-    ensures taken { ranks.new.used ≡ map used_room_of ranks.new.posts }
+    ensures used { ranks.new.used ≡ map used_room_of ranks.new.posts }
     ensures named { standing.new.items ≡ nonempty_lanes ranks.new.posts }
     ensures ample { takes_memory event.now ≡ false → result ≢ Err StepFault.NoMemory }
 {
@@ -228,7 +228,7 @@ pub fn make(
     requires { IsMachine (state_in ranks.old memories.old) ranks.old.used standing.old.items }
     ensures event { IfOk result (λ event. event ≡ transfer_event (state_in ranks.old memories.old) transfer.now) }
     ensures step { StepsBy (made_of result) (state_in ranks.old memories.old) (state_in ranks.new memories.new) (transfer_event (state_in ranks.old memories.old) transfer.now) }
-    ensures taken { ranks.new.used ≡ map used_room_of ranks.new.posts }
+    ensures used { ranks.new.used ≡ map used_room_of ranks.new.posts }
     ensures named { standing.new.items ≡ nonempty_lanes ranks.new.posts }
     ensures ample { transfer.now.put ≡ true → result ≢ Err StepFault.NoMemory }
 {

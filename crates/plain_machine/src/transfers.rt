@@ -13,7 +13,7 @@ use gaspi_model::{Memory, Posts, StepFault, Why};
 use gaspi_types::{
     Bytes, Destination, Entry, Kind, Limits, NoMemory, Outcome, Phase, Queue, RankId, Sequence,
 };
-use plain_calls::{bytes_of, may_put, may_take, place_of, segment_at, set_slot};
+use plain_calls::{bytes_of, may_put, may_take, position_of, segment_at, set_slot};
 use segment_store::{is_generation, range_of, store_bytes};
 use std::alloc::Global;
 
@@ -37,7 +37,7 @@ pub fn find_entry<'a>(
 {
     let queue = posts.queues.get(id.queue.index()).ok_or(why)?;
     let lane = queue.lanes.get(id.target.index()).ok_or(why)?;
-    let place = place_of(lane, number).ok_or(why)?;
+    let place = position_of(lane, number).ok_or(why)?;
     let entry = lane.get(place).ok_or(why)?;
     Ok(LaneEntry {
         queue,

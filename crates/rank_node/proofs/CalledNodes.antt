@@ -33,7 +33,7 @@ use Rattle.gaspi_model.proofs.OnPostsAndMemory.{IsCalledThere, sound-called, mem
 use Rattle.plain_calls.proofs.CallBounds.{found_by}
 use Rattle.rank_node.specs.Effects.{MayAffectPosts, MayAffectMemory, IsMadeByCall}
 use Rattle.rank_node.specs.Lending.{Lends, IsNodeOf, IsPeer, IsStepOn, MayStepBetween, footprint_peer, call_footprint}
-use Rattle.rank_node.specs.Rooms.{IsRecordRoom}
+use Rattle.rank_node.specs.Rooms.{IsReservedForRecord}
 use Rattle.rank_node.specs.declared.nodes.Node.{Node}
 use Rattle.rank_node.specs.declared.nodes.GroupNode.{GroupNode}
 use Rattle.rank_node.specs.declared.rooms.Room.{Room}
@@ -155,7 +155,7 @@ pub record Granted (own : Node) (peer : Option Node) (call : Call) (reply : Repl
   pub made : is_idle reply ≡ false → IsMadeByCall own.posts call room.made
 
 pub granted : (s t : State) (c : CallerId) (call : Call) (reply : Reply) (own : Node) (peer : Option Node) (group : Option GroupNode) (room : Room) → (row_of call).group ≡ None
-    → IsStepOn s t (Called c call reply) own peer group → IsRecordRoom own.posts own.memory call room → Granted own peer call reply room
+    → IsStepOn s t (Called c call reply) own peer group → IsReservedForRecord own.posts own.memory call room → Granted own peer call reply room
 granted s t c call reply own peer group room plain is reserved =
     let mine = is.lends.own_node in
     let found = called-on s t c call reply own plain is.sound mine is.is_step in
@@ -226,5 +226,5 @@ granted s t c call reply own peer group room plain is reserved =
                 (subst (λ (m : Memory). call_result own.posts.limits own.posts.me own.posts.posts m call ≡ Ok (Some reply)) same (finds awake)) reserved.made (sizes awake)
 
 pub granted-between : (c : CallerId) (call : Call) (reply : Reply) (own : Node) (peer : Option Node) (room : Room) → (row_of call).group ≡ None → MayStepBetween (Called c call reply) own peer
-    → IsRecordRoom own.posts own.memory call room → Granted own peer call reply room
+    → IsReservedForRecord own.posts own.memory call room → Granted own peer call reply room
 granted-between c call reply own peer room plain may reserved = granted may.0 may.1 c call reply own peer may.2 room plain may.3 reserved

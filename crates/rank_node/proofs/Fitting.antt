@@ -27,13 +27,13 @@ use Rattle.gaspi_types.specs.declared.replies.Reply.{Reply}
 use Rattle.gaspi_types.specs.declared.replies.Reply.TheVariants as replies
 use Rattle.gaspi_types.proofs.Chains.{bind_then}
 use Rattle.gaspi_model.specs.AtomicCalls.{word_result}
-use Rattle.gaspi_model.specs.Calls.{plain_result, requested_kinds, call_result, ready_of, answer}
+use Rattle.gaspi_model.specs.Calls.{plain_result, requested_kinds, call_result, answer_of_result, answer}
 use Rattle.gaspi_model.specs.Memories.{bytes_of}
 use Rattle.gaspi_model.specs.MemoryCalls.{load_result}
 use Rattle.gaspi_model.specs.PostCalls.{post_request_result}
 use Rattle.gaspi_model.specs.State.{is_running, thread_at, segment_at}
 use Rattle.gaspi_model.specs.declared.states.Memory.{Memory}
-use Rattle.rank_node.specs.Rooms.{IsRoomFor, FitsRoom, FitsReserved}
+use Rattle.rank_node.specs.Rooms.{IsReservedFor, ReplyFitsReserved, FitsReserved}
 use Rattle.rank_node.specs.Values.{PostsValue, MemoryValue}
 use Rattle.rank_node.specs.declared.rooms.Room.{Room}
 
@@ -41,33 +41,33 @@ use Rattle.rank_node.specs.declared.rooms.Room.{Room}
 abbrev Finds : Type 0
 Finds = Result (Option Reply) Refusal
 
-done-fits : (room : Room) (reply ok_or : Reply) → ◌≡◌ {A = Finds} (Ok (Some ok_or)) (Ok (Some reply)) → FitsRoom ok_or room → FitsRoom reply room
-done-fits room reply ok_or h fits = subst (λ (x : Reply). FitsRoom x room) (let is : ok_or ≡ reply = cc in is) fits
+done-fits : (room : Room) (reply ok_or : Reply) → ◌≡◌ {A = Finds} (Ok (Some ok_or)) (Ok (Some reply)) → ReplyFitsReserved ok_or room → ReplyFitsReserved reply room
+done-fits room reply ok_or h fits = subst (λ (x : Reply). ReplyFitsReserved x room) (let is : ok_or ≡ reply = cc in is) fits
 
-then-fits : {A : Type 0} (room : Room) (reply : Reply) (r : Result A Refusal) (f : A → Finds) → (r >>= f) ≡ Ok (Some reply) → ((x : A) → f x ≡ Ok (Some reply) → FitsRoom reply room) → FitsRoom reply room
+then-fits : {A : Type 0} (room : Room) (reply : Reply) (r : Result A Refusal) (f : A → Finds) → (r >>= f) ≡ Ok (Some reply) → ((x : A) → f x ≡ Ok (Some reply) → ReplyFitsReserved reply room) → ReplyFitsReserved reply room
 then-fits room reply (Ok x) f h go = go x h
 then-fits room reply (Err e) f h go = absurd (let no : ⊥ = cc in no)
 
 if-fits : (room : Room) (reply : Reply) (b : Bool) (x y : Option Reply) → ◌≡◌ {A = Finds} (Ok (if b then x else y)) (Ok (Some reply))
-    → (◌≡◌ {A = Finds} (Ok x) (Ok (Some reply)) → FitsRoom reply room) → (◌≡◌ {A = Finds} (Ok y) (Ok (Some reply)) → FitsRoom reply room) → FitsRoom reply room
+    → (◌≡◌ {A = Finds} (Ok x) (Ok (Some reply)) → ReplyFitsReserved reply room) → (◌≡◌ {A = Finds} (Ok y) (Ok (Some reply)) → ReplyFitsReserved reply room) → ReplyFitsReserved reply room
 if-fits room reply true x y h first second = first h
 if-fits room reply false x y h first second = second h
 
-map-fits : {A : Type 0} (room : Room) (reply : Reply) (o : Option A) (f : A → Reply) → ◌≡◌ {A = Finds} (Ok (option_map f o)) (Ok (Some reply)) → ((x : A) → FitsRoom (f x) room) → FitsRoom reply room
+map-fits : {A : Type 0} (room : Room) (reply : Reply) (o : Option A) (f : A → Reply) → ◌≡◌ {A = Finds} (Ok (option_map f o)) (Ok (Some reply)) → ((x : A) → ReplyFitsReserved (f x) room) → ReplyFitsReserved reply room
 map-fits room reply (Some x) f h fits = done-fits room reply (f x) h (fits x)
 map-fits room reply None f h fits = absurd (let no : ⊥ = cc in no)
 
 none-fits : {P : Type 0} (reply : Reply) → ◌≡◌ {A = Finds} (Ok None) (Ok (Some reply)) → P
 none-fits reply h = absurd (let no : ⊥ = cc in no)
 
-asked-fits : (p : PostsValue) (room : Room) (reply : Reply) (rank queue : ℕ) (asked : Result (List Kind) Refusal) → post_request_result p.limits p.posts rank queue asked ≡ Ok (Some reply) → FitsRoom reply room
+asked-fits : (p : PostsValue) (room : Room) (reply : Reply) (rank queue : ℕ) (asked : Result (List Kind) Refusal) → post_request_result p.limits p.posts rank queue asked ≡ Ok (Some reply) → ReplyFitsReserved reply room
 asked-fits p room reply rank queue asked h =
     then-fits room reply (check (nat_lt rank p.limits.ranks) BadRank) _ h (λ ranked h1. then-fits room reply (ok_or (slice_get p.posts.queues queue) BadQueue) _ h1 (λ q h2. then-fits room reply asked _ h2 (λ kinds h3.
     then-fits room reply (err_if_some q.broken QueueBroken) _ h3 (λ whole h4. then-fits room reply _ _ h4 (λ free h5. done-fits room reply replies.Done h5 tt)))))
 
 -- a load reads no more bytes than it says
 load-fits : (p : PostsValue) (memory : Memory) (call : load.Load) (room : Room) (reply : Reply) → (own_range_checks p.posts.segments.own call.seg call.offset call.size ≡ Ok tt → length room.bytes ≡ call.size)
-    → load_result p.posts memory call ≡ Ok (Some reply) → FitsRoom reply room
+    → load_result p.posts memory call ≡ Ok (Some reply) → ReplyFitsReserved reply room
 load-fits p memory call room reply has h =
     bind_then (own_range_checks p.posts.segments.own call.seg call.offset call.size) _ (Some reply) h (λ u fits h1.
     done-fits room reply (replies.Bytes (range_of (bytes_of memory call.seg) call.offset call.size)) h1 (
@@ -76,12 +76,12 @@ load-fits p memory call room reply has h =
     let many = has fits in
     omega (arith, cut, least, many)))
 
-word-fits : (p : PostsValue) (memory : Memory) (seg offset rank : ℕ) (room : Room) (reply : Reply) → word_result p.limits p.me p.posts memory seg offset rank ≡ Ok (Some reply) → FitsRoom reply room
+word-fits : (p : PostsValue) (memory : Memory) (seg offset rank : ℕ) (room : Room) (reply : Reply) → word_result p.limits p.me p.posts memory seg offset rank ≡ Ok (Some reply) → ReplyFitsReserved reply room
 word-fits p memory seg offset rank room reply h =
     then-fits room reply (check (nat_lt rank p.limits.ranks) BadRank) _ h (λ ranked h1. then-fits room reply (ok_or (known_extent p.me p.posts.segments rank seg) Unregistered) _ h1 (λ theirs h2.
     then-fits room reply (check (is_generation theirs.generation (segment_at memory seg)) Unregistered) _ h2 (λ there h3. then-fits room reply _ _ h3 (λ fits h4. done-fits room reply _ h4 tt))))
 
-plain-fits : (p : PostsValue) (own : MemoryValue) (memory : Memory) (call : Call) (room : Room) (reply : Reply) → IsRoomFor p own call room → plain_result p.limits p.me p.posts memory call ≡ Ok (Some reply) → FitsRoom reply room
+plain-fits : (p : PostsValue) (own : MemoryValue) (memory : Memory) (call : Call) (room : Room) (reply : Reply) → IsReservedFor p own call room → plain_result p.limits p.me p.posts memory call ≡ Ok (Some reply) → ReplyFitsReserved reply room
 plain-fits p own memory (calls.Alloc call) room reply is h = then-fits room reply _ _ h (λ x1 h1. done-fits room reply _ h1 tt)
 plain-fits p own memory (calls.Register call) room reply is h = then-fits room reply (check (nat_lt call.rank p.limits.ranks) BadRank) _ h (λ x1 h1. then-fits room reply _ _ h1 (λ x2 h2. done-fits room reply _ h2 tt))
 plain-fits p own memory (calls.Delete call) room reply is h = then-fits room reply (ok_or (extent_in p.posts.segments.own call.seg) NoSegment) _ h (λ x1 h1. then-fits room reply _ _ h1 (λ x2 h2. done-fits room reply _ h2 tt))
@@ -102,28 +102,28 @@ plain-fits p own memory (calls.GroupDelete call) room reply is h = then-fits roo
 plain-fits p own memory calls.State room reply is h = done-fits room reply _ h tt
 plain-fits p own memory call room reply is h = done-fits room reply replies.Done h tt
 
-call-fits : (p : PostsValue) (own : MemoryValue) (memory : Memory) (call : Call) (room : Room) (reply : Reply) → IsRoomFor p own call room → call_result p.limits p.me p.posts memory call ≡ Ok (Some reply) → FitsRoom reply room
+call-fits : (p : PostsValue) (own : MemoryValue) (memory : Memory) (call : Call) (room : Room) (reply : Reply) → IsReservedFor p own call room → call_result p.limits p.me p.posts memory call ≡ Ok (Some reply) → ReplyFitsReserved reply room
 call-fits p own memory call room reply is h = go (row_of call).posting refl
   where
-    go : (o : Option Posting) → (row_of call).posting ≡ o → FitsRoom reply room
+    go : (o : Option Posting) → (row_of call).posting ≡ o → ReplyFitsReserved reply room
     go None none = plain-fits p own memory call room reply is (rw none at h)
     go (Some to) some = asked-fits p room reply to.rank to.queue (requested_kinds p.limits p.me p.posts call) (rw some at h)
 
-ready-fits : (r : Finds) (room : Room) → ((reply : Reply) → r ≡ Ok (Some reply) → FitsRoom reply room) → FitsReserved (ready_of r) room
+ready-fits : (r : Finds) (room : Room) → ((reply : Reply) → r ≡ Ok (Some reply) → ReplyFitsReserved reply room) → FitsReserved (answer_of_result r) room
 ready-fits (Ok None) room fits = tt
 ready-fits (Ok (Some reply)) room fits = fits reply refl
 ready-fits (Err refusal) room fits = tt
 
-answer-fits : (p : PostsValue) (own : MemoryValue) (memory : Memory) (thread : ℕ) (call : Call) (room : Room) → IsRoomFor p own call room
+answer-fits : (p : PostsValue) (own : MemoryValue) (memory : Memory) (thread : ℕ) (call : Call) (room : Room) → IsReservedFor p own call room
     → FitsReserved (answer p.limits p.me p.posts memory thread call) room
 answer-fits p own memory thread call room is = go (is_running (thread_at p.posts thread))
   where
-    go : (b : Bool) → FitsReserved (if b then ready_of (call_result p.limits p.me p.posts memory call) else ready.Reply (replies.Refused CallerEnded)) room
+    go : (b : Bool) → FitsReserved (if b then answer_of_result (call_result p.limits p.me p.posts memory call) else ready.Reply (replies.Refused CallerEnded)) room
     go true = ready-fits (call_result p.limits p.me p.posts memory call) room (λ reply h. call-fits p own memory call room reply is h)
     go false = tt
 
 -- what a look found at a call that is no collective
-pub look-fits : {E : Type 0} (p : PostsValue) (own : MemoryValue) (memory : Memory) (thread : ℕ) (call : Call) (room : Room) (r : Result Ready E) → IsRoomFor p own call room
+pub look-fits : {E : Type 0} (p : PostsValue) (own : MemoryValue) (memory : Memory) (thread : ℕ) (call : Call) (room : Room) (r : Result Ready E) → IsReservedFor p own call room
     → IfOk r (λ ok_or. ok_or ≡ answer p.limits p.me p.posts memory thread call) → IfOk r (λ ok_or. FitsReserved ok_or room)
 look-fits p own memory thread call room (Ok ok_or) is same = subst (λ (x : Ready). FitsReserved x room) (sym same) (answer-fits p own memory thread call room is)
 look-fits p own memory thread call room (Err e) is same = same

@@ -33,7 +33,7 @@ use Rattle.gaspi_types.proofs.Chains.{both}
 use Rattle.gaspi_types.proofs.Items.{prefix-of-joined, behind-of-joined}
 use Rattle.gaspi_model.proofs.Listed.Enabled.{transfer-is_step, listed, IsListed}
 use Rattle.gaspi_model.proofs.Made.{entry-found}
-use Rattle.gaspi_model.proofs.Sound.Rising.{place_of-rising}
+use Rattle.gaspi_model.proofs.Sound.Rising.{position_of-rising}
 use Rattle.post_queue.proofs.Queues.{passes-at}
 use Rattle.post_queue.proofs.Rising.{put-permitted}
 use Rattle.rank_node.proofs.LentPuts.{put-ends}
@@ -197,7 +197,7 @@ entry-found_next s p t q lane place e sound is queue_there lane_there there numb
     entry-found p.posts t.queue t.target t.number (record { queue = q; lane = lane; position = place; entry = e }) (record {
       in_posts = queue_there;
       in_queue = lane_there;
-      numbered = subst (λ (n : ℕ). position_of lane n ≡ Some place) (sym numbered) (place_of-rising p.posts.next lane place e rising there);
+      numbered = subst (λ (n : ℕ). position_of lane n ≡ Some place) (sym numbered) (position_of-rising p.posts.next lane place e rising there);
       in_lane = there;
     })
 

@@ -18,7 +18,7 @@ use Rattle.gaspi_types.specs.declared.replies.Reply.TheVariants as replies
 use Rattle.gaspi_types.specs.declared.shapes.CallerId.{CallerId}
 use Rattle.gaspi_types.specs.declared.shapes.Limits.{Limits}
 use Rattle.gaspi_types.proofs.Items.{slice_get-set_same}
-use Rattle.collective_engine.specs.RoundBuffers.{RoundBuffers, StandsFor, may_join}
+use Rattle.collective_engine.specs.RoundBuffers.{RoundBuffers, Represents, may_join}
 use Rattle.gaspi_model.specs.CollectiveCalls.{joining_call, made_posts, made_memory, joined_posts, contribution_of, agreement_checks, segment_checks}
 use Rattle.gaspi_model.specs.Posting.{counted}
 use Rattle.gaspi_model.specs.Sound.{IsSound, IsSoundPosts}
@@ -83,7 +83,7 @@ record MeetsAll (g : Group) (t : RoundBuffers) (me : ℕ) (coll : Coll) : Type 0
   fits : round_checks g me coll ≡ Ok tt
   may : may_join t me coll ≡ true
 
-meets-all : (posts : Posts) (g : Group) (t : RoundBuffers) (me thread id : ℕ) (args : Args) (h : Handle) → AreSoundTogether posts me id g → StandsFor g t
+meets-all : (posts : Posts) (g : Group) (t : RoundBuffers) (me thread id : ℕ) (args : Args) (h : Handle) → AreSoundTogether posts me id g → Represents g t
     → MayJoin posts g me thread id (joining_call id args) args h → MeetsAll g t me args.coll
 meets-all posts g t me thread id args h together stands may =
     join-cases {P = MeetsAll g t me args.coll} posts g me thread id args h may

@@ -23,7 +23,7 @@ use Rattle.gaspi_types.specs.declared.replies.Refusal.TheVariants.{BadCount, Gro
 use Rattle.gaspi_types.specs.declared.shapes.Limits.{Limits}
 use Rattle.gaspi_types.proofs.Chains.{bind_then, check_holds, both}
 use Rattle.collective_engine.specs.KeptContributions.{HasItsValues}
-use Rattle.collective_engine.specs.RoundBuffers.{RoundBuffers, StandsFor, is_in, joined_by, completed_by, may_join}
+use Rattle.collective_engine.specs.RoundBuffers.{RoundBuffers, Represents, is_in, joined_by, completed_by, may_join}
 use Rattle.gaspi_model.specs.CollectiveCalls.{element_checks, staged_at, plain_args, args_of, joining_call}
 use Rattle.gaspi_model.specs.Contributions.{AreSoundContributions, IsSoundGroup}
 use Rattle.gaspi_model.specs.Sound.{IsSound}
@@ -35,7 +35,7 @@ use Rattle.gaspi_model.proofs.Sound.Joins.{join-whole, JoinsBuilt}
 use Rattle.rank_node.specs.Collectives.{AreSoundTogether, is_commit}
 
 -- a member of whose collectives none is pending
-pub may-join : (g : Group) (t : RoundBuffers) (me events : ℕ) (coll : Coll) → StandsFor g t → AreSoundContributions events None (contributions_of g me) → events < 4294967295
+pub may-join : (g : Group) (t : RoundBuffers) (me events : ℕ) (coll : Coll) → Represents g t → AreSoundContributions events None (contributions_of g me) → events < 4294967295
     → is_in (fixed_by g.members coll) me ≡ true → may_join t me coll ≡ true
 may-join g t me events coll stands part less mine =
     let joined = stands.joined me in
@@ -48,7 +48,7 @@ may-join g t me events coll stands part less mine =
     rw (one, two, three) refl
 
 -- one whose group is committed
-pub committed-joins : (posts : Posts) (me id : ℕ) (g : Group) (t : RoundBuffers) (h : Handle) (coll : Coll) → AreSoundTogether posts me id g → StandsFor g t → handle_at posts.groups id ≡ Some h
+pub committed-joins : (posts : Posts) (me id : ℕ) (g : Group) (t : RoundBuffers) (h : Handle) (coll : Coll) → AreSoundTogether posts me id g → Represents g t → handle_at posts.groups id ≡ Some h
     → h.stage ≡ Committed → item_at posts.pending id ≡ None → may_join t me coll ≡ true
 committed-joins posts me id g t h coll meets stands there committed none =
     let kept = meets.committed h there committed in
@@ -57,7 +57,7 @@ committed-joins posts me id g t h coll meets stands there committed none =
     may-join g t me posts.events coll stands part meets.few (rw fixed kept.1)
 
 -- one that is new
-pub fresh-joins : (posts : Posts) (me id : ℕ) (g : Group) (t : RoundBuffers) (call : Call) (h : Handle) (args : Args) → AreSoundTogether posts me id g → StandsFor g t
+pub fresh-joins : (posts : Posts) (me id : ℕ) (g : Group) (t : RoundBuffers) (call : Call) (h : Handle) (args : Args) → AreSoundTogether posts me id g → Represents g t
     → staged_at posts.groups me id call ≡ Ok h → item_at posts.pending id ≡ None → args_of h.members call ≡ Some args → is_commit args.coll ≡ false → may_join t me args.coll ≡ true
 fresh-joins posts me id g t call h args meets stands staged none asked plain =
     staged-cases {P = may_join t me args.coll ≡ true} posts.groups me id call h staged
@@ -133,7 +133,7 @@ fixed-list : (members : Option ℕ) (mask other : ℕ) → fix_checks members ma
 fixed-list None mask other is some = absurd (let no : ⊥ = cc in no)
 fixed-list (Some kept) mask other is some = (let same : kept ≡ other = cc in sym same ∙ eqb-true kept mask (check_holds (kept == mask) (GroupMismatch kept) tt is))
 
-pub built-joins : (posts : Posts) (me id : ℕ) (g : Group) (t : RoundBuffers) (h : Handle) (coll : Coll) → AreSoundTogether posts me id g → StandsFor g t → coll ≡ colls.Commit h.members → JoinsBuilt posts g me id h
+pub built-joins : (posts : Posts) (me id : ℕ) (g : Group) (t : RoundBuffers) (h : Handle) (coll : Coll) → AreSoundTogether posts me id g → Represents g t → coll ≡ colls.Commit h.members → JoinsBuilt posts g me id h
     → item_at posts.pending id ≡ None → may_join t me coll ≡ true
 built-joins posts me id g t h coll meets stands is built none =
     let part : AreSoundContributions posts.events None (contributions_of g me) = subst (λ (p : Option PendingCollective). AreSoundContributions posts.events p (contributions_of g me)) none meets.part in

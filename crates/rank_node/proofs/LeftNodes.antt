@@ -28,7 +28,7 @@ use Rattle.gaspi_model.proofs.Sound.Registered.{registered_at, changed_at-get, p
 use Rattle.gaspi_model.proofs.OnPostsAndMemory.{IsCalledThere, memory_place, memory_rank}
 use Rattle.rank_node.specs.Effects.{with_posts, recorded_posts, recorded_memory}
 use Rattle.rank_node.specs.Lending.{Lends, IsNodeOf, IsPostsOf, IsPeer, IsPeerNode, IsGroupAt, IsStepOn, IsLeft, footprint_peer, footprint_group, call_footprint}
-use Rattle.rank_node.specs.Rooms.{IsRecordRoom}
+use Rattle.rank_node.specs.Rooms.{IsReservedForRecord}
 use Rattle.rank_node.specs.Values.{PostsValue, MemoryValue}
 use Rattle.rank_node.specs.declared.nodes.Node.{Node}
 use Rattle.rank_node.specs.declared.nodes.GroupNode.{GroupNode}
@@ -49,7 +49,7 @@ left-posts s t c call reply place old own memory after mine there is = record {
 
 -- the memory that was worked on, as the call leaves it by the message that was reserved
 left-memory : (s t : State) (c : CallerId) (call : Call) (reply : Reply) (old : Node) (room : Room) (memory : Memory) (after : PostsAndMemory) (worked new : MemoryValue) → IsNodeOf s c.rank old
-    → IsRecordRoom old.posts old.memory call room → IsCalledThere s t c call reply old.posts.posts memory after → memory ≡ worked.memory → new ≡ recorded_memory old.posts room.message worked call reply
+    → IsReservedForRecord old.posts old.memory call room → IsCalledThere s t c call reply old.posts.posts memory after → memory ≡ worked.memory → new ≡ recorded_memory old.posts room.message worked call reply
     → slice_get t.memories (memory_rank s.limits c.rank call) ≡ Some new.memory
 left-memory s t c call reply old room memory after worked new mine reserved there same is =
     memory-after s t c call reply old.posts.posts memory after there ∙ ap (λ (m : Memory). Some m) (ap (λ (w : PostsAndMemory). w.memory) there.is.leaves
@@ -73,7 +73,7 @@ left-group s t (Some id) (Some g) same is = record { group = is.group; there = a
 
 -- a call of its own node alone
 pub left-alone : (s t : State) (c : CallerId) (call : Call) (reply : Reply) (place : ℕ) (old own : Node) (group : Option GroupNode) (room : Room) → (row_of call).group ≡ None
-    → IsStepOn s t (Called c call reply) old None group → IsRecordRoom old.posts old.memory call room
+    → IsStepOn s t (Called c call reply) old None group → IsReservedForRecord old.posts old.memory call room
     → own.posts ≡ recorded_posts old.posts place c call reply → own.memory ≡ recorded_memory old.posts room.message old.memory call reply
     → IsLeft s t (Called c call reply) place old own None None group
 left-alone s t c call reply place old own group room plain is reserved posts memory =
@@ -154,7 +154,7 @@ tells-nothing ranks me r posts call reply peer at never some = go (is_idle reply
 
 -- a call of another rank's node besides
 pub left-between : (s t : State) (c : CallerId) (call : Call) (reply : Reply) (place : ℕ) (old own p q : Node) (group : Option GroupNode) (room : Room) → (row_of call).group ≡ None
-    → IsStepOn s t (Called c call reply) old (Some p) group → IsRecordRoom old.posts old.memory call room
+    → IsStepOn s t (Called c call reply) old (Some p) group → IsReservedForRecord old.posts old.memory call room
     → own.posts ≡ recorded_posts old.posts place c call reply → own.memory ≡ old.memory
     → q.memory ≡ recorded_memory old.posts room.message p.memory call reply → q.posts ≡ with_posts p.posts (peer_after old.posts.me old.posts.posts call reply p.posts.posts)
     → IsLeft s t (Called c call reply) place old own (Some p) (Some q) group

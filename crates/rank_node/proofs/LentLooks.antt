@@ -17,7 +17,7 @@ use Rattle.gaspi_model.specs.Step.{answer_in, group_in}
 use Rattle.gaspi_model.specs.declared.states.Posts.{Posts}
 use Rattle.gaspi_model.specs.declared.states.State.{State}
 use Rattle.gaspi_model.proofs.GroupSteps.{collective-footprint}
-use Rattle.rank_node.specs.Collectives.{AreSoundTogether, StandTogether, IsMine, IsPendingFor}
+use Rattle.rank_node.specs.Collectives.{AreSoundTogether, AgreeOnGroup, IsMine, IsPendingFor}
 use Rattle.rank_node.specs.Lending.{IsGroupNode, LendsFor, AreLentFor, behind}
 use Rattle.rank_node.specs.Values.{PostsValue}
 use Rattle.rank_node.specs.declared.nodes.GroupNode.{GroupNode}
@@ -40,7 +40,7 @@ lent-for s id call own peer n named lends = lends-group s own.posts.me id (row_o
 pub lent-within : (s : State) (id : ℕ) (call : Call) (own : Node) (peer : Option Node) (n : GroupNode) → (row_of call).group ≡ Some id → LendsFor s call own peer (Some n) → id < 8
 lent-within s id call own peer n named lends = (lent-for s id call own peer n named lends).within
 
-pub lent-stand : (s : State) (id : ℕ) (call : Call) (own : Node) (peer : Option Node) (n : GroupNode) → IsSound s → (row_of call).group ≡ Some id → LendsFor s call own peer (Some n) → StandTogether own.posts id n
+pub lent-stand : (s : State) (id : ℕ) (call : Call) (own : Node) (peer : Option Node) (n : GroupNode) → IsSound s → (row_of call).group ≡ Some id → LendsFor s call own peer (Some n) → AgreeOnGroup own.posts id n
 lent-stand s id call own peer n sound named lends =
     let lent = lent-for s id call own peer n named lends in
     let group = lent.group_node in

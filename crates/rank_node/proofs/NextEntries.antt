@@ -17,7 +17,7 @@ use Rattle.post_queue.specs.Steps.{front_posted_in, front_carried_in, head_in}
 use Rattle.rank_node.specs.Values.{PostsValue}
 use Rattle.gaspi_types.proofs.Chains.{both}
 use Rattle.gaspi_model.proofs.FoundEntries.{IsFound}
-use Rattle.gaspi_model.proofs.Sound.Rising.{place_of-rising}
+use Rattle.gaspi_model.proofs.Sound.Rising.{position_of-rising}
 
 pub same-some : {A : Type 0} (o : Option A) (x y : A) → o ≡ Some x → o ≡ Some y → x ≡ y
 same-some o x y a b = let both : ◌≡◌ {A = Option _} (Some x) (Some y) = sym a ∙ b in cc
@@ -39,7 +39,7 @@ same-outcomes Failed Applied h = absurd (let no : ⊥ = cc in no)
 -- the place of the entry that a lane has at a place
 pub placed : (next number : ℕ) (lane : List Entry) (place there : ℕ) (e : Entry) → AreRising next lane → position_of lane number ≡ Some place → slice_get lane there ≡ Some e → e.number ≡ number → place ≡ there
 placed next number lane place there e rising numbered at same =
-    same-some (position_of lane number) place there numbered (subst (λ (k : ℕ). position_of lane k ≡ Some there) same (place_of-rising next lane there e rising at))
+    same-some (position_of lane number) place there numbered (subst (λ (k : ℕ). position_of lane k ≡ Some there) same (position_of-rising next lane there e rising at))
 
 -- an entry of a lane by a choice
 abbrev pub chosen : (List Entry → Option Entry) → Posts → ℕ → ℕ → Option Entry

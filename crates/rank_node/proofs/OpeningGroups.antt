@@ -12,7 +12,7 @@ use Rattle.gaspi_types.specs.declared.groups.Group.{Group}
 use Rattle.gaspi_types.specs.declared.groups.RankContributions.{RankContributions}
 use Rattle.gaspi_types.specs.declared.replies.Refusal.{Refusal}
 use Rattle.gaspi_types.proofs.Items.{slice_get-replicate}
-use Rattle.collective_engine.specs.RoundBuffers.{StandsFor, IsOpening}
+use Rattle.collective_engine.specs.RoundBuffers.{Represents, IsOpening}
 use Rattle.gaspi_types.specs.World.{ShapeValue}
 use Rattle.gaspi_model.specs.State.{opening, opening_posts, opening_memory, opening_part, opening_group}
 use Rattle.gaspi_model.proofs.Sound.Rounds.{in-range}
@@ -28,7 +28,7 @@ opening-contributions n rank members = go (slice_get (replicate n opening_part) 
     go None at = rw at refl
     go (Some part) at = let same = slice_get-replicate n opening_part part rank at in rw (at, same) refl
 
-opening-is : (ranks id : ℕ) (n : GroupNode) (members : Option ℕ) → (opening_group ranks id).members ≡ members → n.meeting ≡ members → ((g : Group) → IsOpening g members → StandsFor g n.rounds)
+opening-is : (ranks id : ℕ) (n : GroupNode) (members : Option ℕ) → (opening_group ranks id).members ≡ members → n.meeting ≡ members → ((g : Group) → IsOpening g members → Represents g n.rounds)
     → IsGroupNode (opening_group ranks id) n
 opening-is ranks id n members fixed met stands = record {
   meeting = met ∙ sym fixed;
@@ -36,18 +36,18 @@ opening-is ranks id n members fixed met stands = record {
 }
 
 pub opening-all : (ranks id : ℕ) (n : GroupNode) (members : Option ℕ) (number : ℕ) → number ≡ id → number ≡ 0 → members ≡ Some (all_below ranks) → n.meeting ≡ Some (all_below ranks)
-    → ((g : Group) → IsOpening g members → StandsFor g n.rounds) → IsGroupNode (opening_group ranks id) n
+    → ((g : Group) → IsOpening g members → Represents g n.rounds) → IsGroupNode (opening_group ranks id) n
 opening-all ranks id n members number is zero fixed met stands =
     let here : id ≡ 0 = sym is ∙ zero in
-    opening-is ranks id n (Some (all_below ranks)) (rw here refl) met (subst (λ (m : Option ℕ). (g : Group) → IsOpening g m → StandsFor g n.rounds) fixed stands)
+    opening-is ranks id n (Some (all_below ranks)) (rw here refl) met (subst (λ (m : Option ℕ). (g : Group) → IsOpening g m → Represents g n.rounds) fixed stands)
 
 pub opening-other : (ranks id : ℕ) (n : GroupNode) (members : Option ℕ) (number : ℕ) → number ≡ id → (number ≡ 0 → ⊥) → members ≡ None → n.meeting ≡ None
-    → ((g : Group) → IsOpening g members → StandsFor g n.rounds) → IsGroupNode (opening_group ranks id) n
+    → ((g : Group) → IsOpening g members → Represents g n.rounds) → IsGroupNode (opening_group ranks id) n
 opening-other ranks id n members number is apart fixed met stands = go (id == 0) refl
   where
     go : (b : Bool) → (id == 0) ≡ b → IsGroupNode (opening_group ranks id) n
     go true zero = absurd (apart (is ∙ eqb-true id 0 zero))
-    go false other = opening-is ranks id n None (rw other refl) met (subst (λ (m : Option ℕ). (g : Group) → IsOpening g m → StandsFor g n.rounds) fixed stands)
+    go false other = opening-is ranks id n None (rw other refl) met (subst (λ (m : Option ℕ). (g : Group) → IsOpening g m → Represents g n.rounds) fixed stands)
 
 -- the first list that is fixed stays
 pub first-fixed : (old new : Option ℕ) (mask : ℕ) (r : Result (Unit {0}) Refusal) → old ≡ None → r ≡ fix_checks old mask → OnOk r (new ≡ Some mask) → new ≡ Some mask

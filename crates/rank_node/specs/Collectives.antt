@@ -48,7 +48,7 @@ pub record AreSoundTogether (posts : Posts) (me id : ℕ) (g : Group) : Type 0 w
   pub resumable : (p : PendingCollective) → item_at posts.pending id ≡ Some p → IsResumable posts.groups me id p.args
 
 -- they are a rank's posts and a group's node, of one sound state
-pub record StandTogether (own : PostsValue) (id : ℕ) (n : GroupNode) : Type 0 where
+pub record AgreeOnGroup (own : PostsValue) (id : ℕ) (n : GroupNode) : Type 0 where
   pub group : Group
   pub sound : AreSoundTogether own.posts own.me id group
   pub is : IsGroupNode group n

@@ -9,7 +9,7 @@ use Rattle.gaspi_types.specs.declared.groups.Group as groups
 use Rattle.gaspi_types.specs.declared.shapes.Limits.{Limits}
 use Rattle.gaspi_types.specs.declared.footprints.Footprint.{Footprint}
 use Rattle.gaspi_types.specs.declared.footprints.Footprint.TheVariants.{Alone, OwnMemory, PeerMemory, BothMemories, PeerPosts, Group, GroupAndMemory}
-use Rattle.collective_engine.specs.RoundBuffers.{StandsFor}
+use Rattle.collective_engine.specs.RoundBuffers.{Represents}
 use Rattle.gaspi_model.specs.Sound.{IsSound}
 use Rattle.gaspi_model.specs.Step.{step, event_footprint, owner_of}
 use Rattle.gaspi_model.specs.declared.states.State.{State}
@@ -36,7 +36,7 @@ pub record IsNodeOf (s : State) (rank : ℕ) (n : Node) : Type 0 where
 -- a group's node stands for it
 pub record IsGroupNode (g : groups.Group) (n : GroupNode) : Type 0 where
   pub meeting : n.meeting ≡ g.members
-  pub rounds : StandsFor g n.rounds
+  pub rounds : Represents g n.rounds
 
 pub record IsGroupOf (s : State) (id : ℕ) (n : GroupNode) : Type 0 where
   pub group : groups.Group

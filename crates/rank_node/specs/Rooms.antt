@@ -36,25 +36,25 @@ HasBytes p (Load call) bytes = own_range_checks p.posts.segments.own call.seg ca
 HasBytes p call bytes = Unit {0}
 
 -- the row of the call, and all that its record may need; of a send its message
-pub record IsRecordRoom (p : PostsValue) (own : MemoryValue) (call : Call) (room : Room) : Type 0 where
+pub record IsReservedForRecord (p : PostsValue) (own : MemoryValue) (call : Call) (room : Room) : Type 0 where
   pub row : room.row ≡ row_of call
   pub entries : HasEntries (row_of call).posting (requested_kinds p.limits p.me p.posts call) room.entries
   pub made : HasMade p call room.made
   pub message : room.message ≡ sent_message p.me own.memory call
 
 -- and all that its reply may need besides
-pub record IsRoomFor (p : PostsValue) (own : MemoryValue) (call : Call) (room : Room) : Type 0 where
-  pub recording : IsRecordRoom p own call room
+pub record IsReservedFor (p : PostsValue) (own : MemoryValue) (call : Call) (room : Room) : Type 0 where
+  pub recording : IsReservedForRecord p own call room
   pub bytes : HasBytes p call room.bytes
   pub numbers : room.numbers ≡ capacities_for call
 
 -- an equal reply takes no memory but the room's lists
-abbrev pub FitsRoom : Reply → Room → Type 0
-FitsRoom (replies.Bytes bytes) room = length bytes ≤ length room.bytes
-FitsRoom reply room = ReplyFits reply room.numbers.caller
+abbrev pub ReplyFitsReserved : Reply → Room → Type 0
+ReplyFitsReserved (replies.Bytes bytes) room = length bytes ≤ length room.bytes
+ReplyFitsReserved reply room = ReplyFits reply room.numbers.caller
 
 -- what a look found fits the room: a reply may be had once more, and the values with which it may join have a list
 abbrev pub FitsReserved : Ready → Room → Type 0
-FitsReserved (ready.Reply reply) room = FitsRoom reply room
+FitsReserved (ready.Reply reply) room = ReplyFitsReserved reply room
 FitsReserved (ready.Join args) room = length args.values.items ≤ room.numbers.values
 FitsReserved ready.NotReady room = Unit {0}

@@ -19,7 +19,7 @@ use crate::making::MadeSegment;
 use crate::node_memory::NodeMemory;
 use crate::node_posts::NodePosts;
 use crate::nodes::{GroupNode, Node};
-use crate::reserved_numbers::{ReservedNumbers, copied_args, take_rows};
+use crate::reserved_numbers::{ReservedNumbers, copied_args, take_numbers};
 use gaspi_types::{Args, CallerId, Coll, Event, GroupId, RankId, ThreadId};
 use segment_store::{add_own, next_generation};
 
@@ -54,22 +54,22 @@ fn add_pending(own: &mut NodePosts, thread: ThreadId, id: GroupId, args: Args)
 }
 
 /// Puts a segment that was made at its number, if one was.
-fn place_if_made(memory: &mut NodeMemory, seg: u64, made: Option<MadeSegment>)
+fn insert_if_made(memory: &mut NodeMemory, seg: u64, made: Option<MadeSegment>)
     ensures made { IfSome made (λ made. memory.new ≡ with_made memory.old seg made) }
     ensures none { made ≡ None → memory.new ≡ memory.old }
 {
     match made {
-        Some(made) => memory.place_segment(seg, made),
+        Some(made) => memory.insert_segment(seg, made),
         None => {}
     }
 }
 
 /// Puts the segment that a collective makes into the memory of its rank. (GASPI: segment_create)
-fn place_made(memory: &mut NodeMemory, coll: Coll, made: Option<MadeSegment>)
+fn insert_made(memory: &mut NodeMemory, coll: Coll, made: Option<MadeSegment>)
     ensures { (own : PostsValue) → IsMadeFor own coll made → memory.new ≡ record memory.old { memory = made_memory own.limits own.posts memory.old.memory coll } }
 {
     match coll {
-        Coll::Create(seg, _) => place_if_made(memory, u64::from(seg), made),
+        Coll::Create(seg, _) => insert_if_made(memory, u64::from(seg), made),
         _ => drop(made),
     }
 }
@@ -107,7 +107,7 @@ fn join_parts(
 {
     let generation = made_generation(&own.posts, args.coll);
     join_group(group, caller.rank, args, generation);
-    place_made(&mut own.memory, args.coll, made);
+    insert_made(&mut own.memory, args.coll, made);
     add_pending(&mut own.posts, caller.thread, id, kept);
 }
 
@@ -129,11 +129,11 @@ pub(crate) fn join(
     requires made { IsMadeFor own.old.posts args.coll made }
     ensures left { (s t : State) (peer : Option Node) → IsStepOn s t (Joined caller id args) own.old peer (Some group.old)
         → IsLeft s t (Joined caller id args) place own.old own.new peer peer (Some group.new) }
-    ensures waits { IsPendingFor own.new.posts caller.thread id (joining_call id args) }
+    ensures pending { IsPendingFor own.new.posts caller.thread id (joining_call id args) }
     ensures event { room.new.event ≡ room.old.event }
     ensures caller { room.new.caller ≡ room.old.caller }
 {
-    let kept = copied_args(&args, take_rows(&mut room.values));
+    let kept = copied_args(&args, take_numbers(&mut room.values));
     join_parts(own, group, &caller, id, &args, kept, made);
     own.posts.add_event(place, Event::Joined(caller, id, args));
 }

@@ -11,12 +11,12 @@ ghost use Rattle.collective_engine.specs.RoundBuffers.{is_in, may_join, is_full_
 ghost use Rattle.gaspi_model.specs.CollectiveCalls.{args_of, segment_checks, agreement_checks, fresh_result, full_reply, resumed_answer, collective_answer};
 ghost use Rattle.gaspi_model.specs.State.{thread_at, is_running};
 ghost use Rattle.rank_node.specs.Lending.{IsGroupNode};
-ghost use Rattle.rank_node.specs.Collectives.{AreSoundTogether, StandTogether, is_commit, IsMine, TakesOwn};
+ghost use Rattle.rank_node.specs.Collectives.{AreSoundTogether, AgreeOnGroup, is_commit, IsMine, TakesOwn};
 ghost use Rattle.rank_node.specs.Numbers.{elements_in, ReplyFits, AnswerFits};
 
 use crate::node_posts::NodePosts;
 use crate::nodes::GroupNode;
-use crate::reserved_numbers::{ReservedNumbers, blank, take_rows};
+use crate::reserved_numbers::{ReservedNumbers, blank, take_numbers};
 use crate::resuming::resumes;
 use gaspi_types::{
     Args, Call, Coll, NoMemory, PendingCollective, RankId, Ready, Refusal, Reply, Resume, Sequence,
@@ -81,7 +81,7 @@ fn full_reply(group: &GroupNode, me: RankId, call: &Call, list: Sequence<i128>) 
 
 /// As many zeros as a call has elements: only an allreduce takes memory.
 fn blank_for(alloc: Global, call: &Call) -> Result<Sequence<i128>, NoMemory>
-    ensures capacity { IfOk result (λ rows. length rows ≡ elements_in call.now) }
+    ensures capacity { IfOk result (λ numbers. length numbers ≡ elements_in call.now) }
     ensures ample { (row_of call.now).takes_memory ≡ false → IsOk result }
 {
     match call {
@@ -121,7 +121,7 @@ pub(crate) fn look(
     call: &Call,
 ) -> Result<Ready, NoMemory>
     requires there { id < 8 }
-    requires together { StandTogether own.now id group.now }
+    requires together { AgreeOnGroup own.now id group.now }
     ensures look { (g : Group) → AreSoundTogether own.now.posts own.now.me id g → IsGroupNode g group.now
         → IfOk result (λ ready. ready ≡ collective_answer own.now.posts g own.now.me thread id call.now) }
     ensures fits { IfOk result (λ ready. AnswerFits ready (elements_in call.now)) }
@@ -178,6 +178,6 @@ pub(crate) fn look_again(
     if !group.rounds.full(me) {
         return Ready::NotReady;
     }
-    let list = take_rows(&mut room.event);
+    let list = take_numbers(&mut room.event);
     Ready::Reply(full_reply(group, me, call, list))
 }

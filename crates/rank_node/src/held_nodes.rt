@@ -14,7 +14,7 @@ ghost use Rattle.rank_node.specs.Fronts.{front_outcome, IsFront};
 ghost use Rattle.rank_node.specs.HeldNodes.{peer_of, group_of, IsSameKind};
 ghost use Rattle.rank_node.specs.Lending.{LendsFor, AreLentFor, MayStep, IsStepOn, IsLeft};
 ghost use Rattle.rank_node.specs.Numbers.{elements_in, AnswerFits};
-ghost use Rattle.rank_node.specs.Rooms.{IsRoomFor, IsRecordRoom, FitsReserved};
+ghost use Rattle.rank_node.specs.Rooms.{IsReservedFor, IsReservedForRecord, FitsReserved};
 ghost use Rattle.rank_node.specs.declared.rooms.Room.{Room};
 ghost use Rattle.rank_node.specs.TransferSteps.{MayTake, MayPut, IsFirstPosted, IsFirstCarried, LendsForTransfer, lent_memory};
 ghost use Rattle.rank_node.specs.Transfers.{take_of, put_of, event_of};
@@ -60,7 +60,7 @@ impl HeldNodes {
         ensures ample { (row_of invocation.now.call.now).takes_memory ≡ false → IsOk result }
         ensures unready { (s : State) → IsSound s → LendsFor s invocation.now.call.now self.now.own.value (peer_of self.now.other) (group_of self.now.other)
             → answer_in s self.now.own.value.posts.me invocation.now.caller.thread invocation.now.call.now ≡ Some NotReady → IsOk result }
-        ensures fits { (room : Room) → IsRoomFor self.now.own.value.posts self.now.own.value.memory invocation.now.call.now room → IfOk result (λ ready. FitsReserved ready room) }
+        ensures fits { (room : Room) → IsReservedFor self.now.own.value.posts self.now.own.value.memory invocation.now.call.now room → IfOk result (λ ready. FitsReserved ready room) }
     {
         match invocation.row.group {
             Some(id) => {
@@ -104,7 +104,7 @@ impl HeldNodes {
     /// Takes the memory that a call needs, so that recording it takes none. It takes some only where the call's row says so.
     pub fn room(&self, alloc: Global, invocation: &Invocation<'_>) -> Result<Room, NoMemory>
         requires lent { AreLentFor invocation.now.call.now self.now.own.value (peer_of self.now.other) (group_of self.now.other) }
-        ensures room { IfOk result (λ room. IsRoomFor self.now.own.value.posts self.now.own.value.memory invocation.now.call.now room) }
+        ensures room { IfOk result (λ room. IsReservedFor self.now.own.value.posts self.now.own.value.memory invocation.now.call.now room) }
         ensures ample { (row_of invocation.now.call.now).takes_memory ≡ false → IsOk result }
     {
         reserve(alloc, &self.own.posts, &self.own.memory, invocation)
@@ -116,7 +116,7 @@ impl HeldNodes {
     pub fn answer_in(&self, caller: CallerId, call: &Call, room: &mut ReservedNumbers) -> Ready
         requires own { caller.rank ≡ self.now.own.value.posts.me }
         requires lent { AreLentFor call.now self.now.own.value (peer_of self.now.other) (group_of self.now.other) }
-        requires waits { (id : ℕ) × IsPendingFor self.now.own.value.posts caller.thread id call.now }
+        requires pending { (id : ℕ) × IsPendingFor self.now.own.value.posts caller.thread id call.now }
         requires event { elements_in call.now ≤ room.old.event }
         requires caller { room.old.event ≤ room.old.caller }
         ensures answer { (s : State) → IsSound s → LendsFor s call.now self.now.own.value (peer_of self.now.other) (group_of self.now.other)
@@ -142,7 +142,7 @@ impl HeldNodes {
     )
         requires step { MayStep (Called caller call reply) self.old.own.value (peer_of self.old.other) (group_of self.old.other) }
         requires row { room.old.row ≡ row_of call }
-        requires room { (row_of call).group ≡ None → IsRecordRoom self.old.own.value.posts self.old.own.value.memory call room.old }
+        requires room { (row_of call).group ≡ None → IsReservedForRecord self.old.own.value.posts self.old.own.value.memory call room.old }
         ensures left { (s t : State) → IsStepOn s t (Called caller call reply) self.old.own.value (peer_of self.old.other) (group_of self.old.other)
             → IsLeft s t (Called caller call reply) place self.old.own.value self.new.own.value (peer_of self.old.other) (peer_of self.new.other) (group_of self.new.other) }
         ensures kind { IsSameKind self.new.other self.old.other }
@@ -200,7 +200,7 @@ impl HeldNodes {
         ensures left { (s t : State) → IsStepOn s t (Joined caller group args) self.old.own.value (peer_of self.old.other) (group_of self.old.other)
             → IsLeft s t (Joined caller group args) place self.old.own.value self.new.own.value (peer_of self.old.other) (peer_of self.new.other) (group_of self.new.other) }
         ensures kind { IsSameKind self.new.other self.old.other }
-        ensures waits { IsPendingFor self.new.own.value.posts caller.thread group (joining_call group args) }
+        ensures pending { IsPendingFor self.new.own.value.posts caller.thread group (joining_call group args) }
         ensures event { room.new.event ≡ room.old.event }
         ensures caller { room.new.caller ≡ room.old.caller }
     {

@@ -8,7 +8,7 @@ ghost use Rattle.gaspi_model.specs.Sound.{IsSound};
 ghost use Rattle.gaspi_model.specs.Step.{answer_in};
 ghost use Rattle.gaspi_model.specs.declared.states.State.{State};
 ghost use Rattle.rank_node.specs.Lending.{behind, AreSame, LendsFor, AreLentFor, MayStep, IsStepOn, IsLeft};
-ghost use Rattle.rank_node.specs.Rooms.{IsRoomFor, IsRecordRoom, FitsReserved};
+ghost use Rattle.rank_node.specs.Rooms.{IsReservedFor, IsReservedForRecord, FitsReserved};
 ghost use Rattle.rank_node.specs.declared.rooms.Room.{Room};
 
 use crate::lent::Lent;
@@ -27,7 +27,7 @@ impl Lent<'_> {
         ensures ample { (row_of invocation.now.call.now).takes_memory ≡ false → IsOk result }
         ensures unready { (s : State) → IsSound s → LendsFor s invocation.now.call.now self.now.own.now (behind self.now.peer) (behind self.now.group)
             → answer_in s self.now.own.now.posts.me invocation.now.caller.thread invocation.now.call.now ≡ Some NotReady → IsOk result }
-        ensures fits { (room : Room) → IsRoomFor self.now.own.now.posts self.now.own.now.memory invocation.now.call.now room → IfOk result (λ ready. FitsReserved ready room) }
+        ensures fits { (room : Room) → IsReservedFor self.now.own.now.posts self.now.own.now.memory invocation.now.call.now room → IfOk result (λ ready. FitsReserved ready room) }
     {
         match invocation.row.group {
             Some(id) => {
@@ -43,7 +43,7 @@ impl Lent<'_> {
     /// Takes the memory that a call needs, so that recording it takes none. It takes some only where the call's row says so.
     pub fn room(&self, alloc: Global, invocation: &Invocation<'_>) -> Result<Room, NoMemory>
         requires lent { AreLentFor invocation.now.call.now self.now.own.now (behind self.now.peer) (behind self.now.group) }
-        ensures room { IfOk result (λ room. IsRoomFor self.now.own.now.posts self.now.own.now.memory invocation.now.call.now room) }
+        ensures room { IfOk result (λ room. IsReservedFor self.now.own.now.posts self.now.own.now.memory invocation.now.call.now room) }
         ensures ample { (row_of invocation.now.call.now).takes_memory ≡ false → IsOk result }
     {
         reserve(alloc, &self.own.posts, &self.own.memory, invocation)
@@ -54,7 +54,7 @@ impl Lent<'_> {
     pub fn called(&mut self, place: u64, caller: CallerId, call: Call, reply: Reply, mut room: Room)
         requires step { MayStep (Called caller call reply) self.old.own.now (behind self.old.peer) (behind self.old.group) }
         requires row { room.row ≡ row_of call }
-        requires room { (row_of call).group ≡ None → IsRecordRoom self.old.own.now.posts self.old.own.now.memory call room }
+        requires room { (row_of call).group ≡ None → IsReservedForRecord self.old.own.now.posts self.old.own.now.memory call room }
         ensures left { (s t : State) → IsStepOn s t (Called caller call reply) self.old.own.now (behind self.old.peer) (behind self.old.group)
             → IsLeft s t (Called caller call reply) place self.old.own.now self.new.own.now (behind self.old.peer) (behind self.new.peer) (behind self.new.group) }
         ensures own { self.new.own.ghost_name ≡ self.old.own.ghost_name }

@@ -51,7 +51,7 @@ impl Lent<'_> {
     pub fn answer_in(&self, caller: CallerId, call: &Call, room: &mut ReservedNumbers) -> Ready
         requires own { caller.rank ≡ self.now.own.now.posts.me }
         requires lent { AreLentFor call.now self.now.own.now (behind self.now.peer) (behind self.now.group) }
-        requires waits { (id : ℕ) × IsPendingFor self.now.own.now.posts caller.thread id call.now }
+        requires pending { (id : ℕ) × IsPendingFor self.now.own.now.posts caller.thread id call.now }
         requires event { elements_in call.now ≤ room.old.event }
         requires caller { room.old.event ≤ room.old.caller }
         ensures answer { (s : State) → IsSound s → LendsFor s call.now self.now.own.now (behind self.now.peer) (behind self.now.group)
@@ -86,7 +86,7 @@ impl Lent<'_> {
         ensures peer { AreSame self.new.peer self.old.peer }
         ensures peer_value { behind self.new.peer ≡ behind self.old.peer }
         ensures group { AreSame self.new.group self.old.group }
-        ensures waits { IsPendingFor self.new.own.now.posts caller.thread group (joining_call group args) }
+        ensures pending { IsPendingFor self.new.own.now.posts caller.thread group (joining_call group args) }
         ensures event { room.new.event ≡ room.old.event }
         ensures caller { room.new.caller ≡ room.old.caller }
     {

@@ -12,7 +12,7 @@ ghost use Rattle.gaspi_model.specs.declared.states.State.{State};
 ghost use Rattle.plain_calls.specs.Registrations.{with_registration};
 ghost use Rattle.rank_node.specs.Effects.{with_posts};
 ghost use Rattle.rank_node.specs.Lending.{LendsFor, IsStepOn, MayStepBetween, IsLeft, AreLentBetween};
-ghost use Rattle.rank_node.specs.Rooms.{IsRoomFor, IsRecordRoom, FitsReserved};
+ghost use Rattle.rank_node.specs.Rooms.{IsReservedFor, IsReservedForRecord, FitsReserved};
 ghost use Rattle.rank_node.specs.declared.nodes.GroupNode.{GroupNode};
 ghost use Rattle.rank_node.specs.declared.rooms.Room.{Room};
 
@@ -61,7 +61,7 @@ pub fn answer_alone(
     ensures ample { (row_of invocation.now.call.now).takes_memory ≡ false → IsOk result }
     ensures unready { (s : State) (group : Option GroupNode) → IsSound s → LendsFor s invocation.now.call.now own.now None group
         → answer_in s own.now.posts.me invocation.now.caller.thread invocation.now.call.now ≡ Some NotReady → IsOk result }
-    ensures fits { (room : Room) → IsRoomFor own.now.posts own.now.memory invocation.now.call.now room → IfOk result (λ ready. FitsReserved ready room) }
+    ensures fits { (room : Room) → IsReservedFor own.now.posts own.now.memory invocation.now.call.now room → IfOk result (λ ready. FitsReserved ready room) }
 {
     look(alloc, &own.posts, &own.memory, invocation)
 }
@@ -80,7 +80,7 @@ pub fn answer_between(
     ensures ample { (row_of invocation.now.call.now).takes_memory ≡ false → IsOk result }
     ensures unready { (s : State) (group : Option GroupNode) → IsSound s → LendsFor s invocation.now.call.now own.now (Some peer.now) group
         → answer_in s own.now.posts.me invocation.now.caller.thread invocation.now.call.now ≡ Some NotReady → IsOk result }
-    ensures fits { (room : Room) → IsRoomFor own.now.posts own.now.memory invocation.now.call.now room → IfOk result (λ ready. FitsReserved ready room) }
+    ensures fits { (room : Room) → IsReservedFor own.now.posts own.now.memory invocation.now.call.now room → IfOk result (λ ready. FitsReserved ready room) }
 {
     look(alloc, &own.posts, &peer.memory, invocation)
 }
@@ -96,7 +96,7 @@ pub fn called_alone(
 )
     requires plain { (row_of call).group ≡ None }
     requires step { MayStepBetween (Called caller call reply) own.old None }
-    requires room { IsRecordRoom own.old.posts own.old.memory call room.old }
+    requires room { IsReservedForRecord own.old.posts own.old.memory call room.old }
     ensures { (s t : State) (group : Option GroupNode) → IsStepOn s t (Called caller call reply) own.old None group → IsLeft s t (Called caller call reply) place own.old own.new None None group }
 {
     record(
@@ -122,7 +122,7 @@ pub fn called_between(
 )
     requires plain { (row_of call).group ≡ None }
     requires step { MayStepBetween (Called caller call reply) own.old (Some peer.old) }
-    requires room { IsRecordRoom own.old.posts own.old.memory call room.old }
+    requires room { IsReservedForRecord own.old.posts own.old.memory call room.old }
     ensures { (s t : State) (group : Option GroupNode) → IsStepOn s t (Called caller call reply) own.old (Some peer.old) group
         → IsLeft s t (Called caller call reply) place own.old own.new (Some peer.old) (Some peer.new) group }
 {

@@ -40,7 +40,7 @@ impl NodePosts {
 
 impl NodeMemory {
     /// Puts a segment that was made at its number. It takes no memory. (GASPI: segment_alloc)
-    pub(crate) fn place_segment(&mut self, seg: u64, made: MadeSegment)
+    pub(crate) fn insert_segment(&mut self, seg: u64, made: MadeSegment)
         ensures { self.new ≡ with_made self.old seg made }
     {
         let MadeSegment { segment, slots } = made;

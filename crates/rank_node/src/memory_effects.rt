@@ -108,18 +108,18 @@ impl NodeMemory {
     }
 
     /// Takes the segment that an alloc makes, and puts it at its number. (GASPI: segment_alloc)
-    fn place_made(&mut self, seg: u64, made: &mut Option<MadeSegment>)
+    fn insert_made(&mut self, seg: u64, made: &mut Option<MadeSegment>)
         requires { IsSome made.old }
         ensures { IfSome made.old (λ made. self.new ≡ with_made self.old seg made) }
     {
         match made.take() {
-            Some(made) => self.place_segment(seg, made),
+            Some(made) => self.insert_segment(seg, made),
             None => unreachable!(),
         }
     }
 
     /// Takes the message that a send brings, where there is one, and puts it behind the others of the inbox. (GASPI: passive_send)
-    fn deposit_brought(&mut self, message: &mut Option<Message>)
+    fn deposit_message(&mut self, message: &mut Option<Message>)
         requires { MayDepositIf self.old message.old }
         ensures { self.new ≡ with_memory self.old (send_effect message.old self.old.memory) }
     {
@@ -140,8 +140,8 @@ impl NodeMemory {
         ensures { (p : PostsValue) → IsMadeByCall p call.now made.old → self.new ≡ with_memory self.old (memory_effect p.limits p.posts message.old self.old.memory call.now) }
     {
         match call {
-            Call::Alloc(call) => self.place_made(call.seg, made),
-            Call::PassiveSend(_) => self.deposit_brought(message),
+            Call::Alloc(call) => self.insert_made(call.seg, made),
+            Call::PassiveSend(_) => self.deposit_message(message),
             Call::Delete(call) => self.remove_segment(call),
             Call::Store(call) => self.store(call),
             Call::Reset(call) => self.set_slot(call.seg, call.note, 0),

@@ -18,8 +18,8 @@ use gaspi_types::{
     Ready, Refusal, Reply, Wait,
 };
 use plain_calls::{
-    alloc_result, group_add_result, group_create_result, group_delete_result, load_result,
-    ready_of, receive_result, register_result, reset_result, send_result, state_result,
+    alloc_result, answer_of_result, group_add_result, group_create_result, group_delete_result,
+    load_result, receive_result, register_result, reset_result, send_result, state_result,
     store_result, waitsome_result, word_result,
 };
 use post_queue::Lanes;
@@ -188,5 +188,5 @@ pub(crate) fn look(
         Some(to) => post_result(alloc, posts, to, invocation.call)?,
         None => plain_result(alloc, posts, memory, invocation.call)?,
     };
-    Ok(ready_of(finds))
+    Ok(answer_of_result(finds))
 }

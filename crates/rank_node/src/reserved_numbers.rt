@@ -32,17 +32,17 @@ impl Model for ReservedNumbers {
 
 /// So many zeros.
 pub(crate) fn blank(alloc: Global, count: usize) -> Result<Sequence<i128>, NoMemory>
-    ensures { IfOk result (λ rows. length rows ≡ count) }
+    ensures { IfOk result (λ numbers. length numbers ≡ count) }
 {
     Ok(Sequence::from_vec(vec![in alloc; 0; count]?))
 }
 
 /// Takes a list, and leaves the empty one. It takes no memory.
-pub(crate) fn take_rows(rows: &mut Sequence<i128>) -> Sequence<i128>
-    ensures { result ≡ rows.old }
+pub(crate) fn take_numbers(numbers: &mut Sequence<i128>) -> Sequence<i128>
+    ensures { result ≡ numbers.old }
 {
-    let alloc = rows.allocator();
-    std::mem::replace(rows, Sequence::new(alloc))
+    let alloc = numbers.allocator();
+    std::mem::replace(numbers, Sequence::new(alloc))
 }
 
 /// Equal numbers, in a list that is long enough.
@@ -73,7 +73,7 @@ fn reply_in(reply: &Reply, list: &mut Sequence<i128>) -> Reply
     ensures { result ≡ reply.now }
 {
     match reply {
-        Reply::List(numbers) => Reply::List(copied(numbers, take_rows(list))),
+        Reply::List(numbers) => Reply::List(copied(numbers, take_numbers(list))),
         Reply::Refused(refusal) => Reply::Refused(*refusal),
         Reply::Value(n) => Reply::Value(*n),
         Reply::Id(n) => Reply::Id(*n),

@@ -7,7 +7,7 @@ ghost use Rattle.gaspi_model.specs.Calls.{requested_kinds};
 ghost use Rattle.gaspi_model.specs.PassiveCalls.{sent_message};
 ghost use Rattle.rank_node.specs.Making.{made_segment};
 ghost use Rattle.rank_node.specs.Values.{PostsValue, MemoryValue};
-ghost use Rattle.rank_node.specs.Rooms.{HasEntries, HasMade, HasBytes, IsRoomFor};
+ghost use Rattle.rank_node.specs.Rooms.{HasEntries, HasMade, HasBytes, IsReservedFor};
 
 use crate::making::MadeSegment;
 use crate::node_memory::NodeMemory;
@@ -122,7 +122,7 @@ fn reserve_bytes(alloc: Global, posts: &NodePosts, call: &Call) -> Result<Bytes,
 fn empty_room(alloc: Global, invocation: &Invocation<'_>) -> Room
     requires posting { (row_of invocation.now.call.now).posting ≡ None }
     requires memory { (row_of invocation.now.call.now).takes_memory ≡ false }
-    ensures { (posts : PostsValue) (memory : MemoryValue) → IsRoomFor posts memory invocation.now.call.now result }
+    ensures { (posts : PostsValue) (memory : MemoryValue) → IsReservedFor posts memory invocation.now.call.now result }
 {
     Room {
         row: invocation.row,
@@ -141,7 +141,7 @@ fn post_room(
     invocation: &Invocation<'_>,
 ) -> Result<Room, NoMemory>
     requires { IsSome (row_of invocation.now.call.now).posting }
-    ensures room { (memory : MemoryValue) → IfOk result (λ room. IsRoomFor posts.now memory invocation.now.call.now room) }
+    ensures room { (memory : MemoryValue) → IfOk result (λ room. IsReservedFor posts.now memory invocation.now.call.now room) }
     ensures ample { (row_of invocation.now.call.now).takes_memory ≡ false → IsOk result }
 {
     let row = invocation.row;
@@ -164,7 +164,7 @@ fn memory_room(
 ) -> Result<Room, NoMemory>
     requires posting { (row_of invocation.now.call.now).posting ≡ None }
     requires notes { posts.now.limits.notes ≤ 1024 }
-    ensures room { IfOk result (λ room. IsRoomFor posts.now memory.now invocation.now.call.now room) }
+    ensures room { IfOk result (λ room. IsReservedFor posts.now memory.now invocation.now.call.now room) }
     ensures ample { (row_of invocation.now.call.now).takes_memory ≡ false → IsOk result }
 {
     let call = invocation.call;
@@ -186,7 +186,7 @@ pub(crate) fn reserve(
     invocation: &Invocation<'_>,
 ) -> Result<Room, NoMemory>
     requires { posts.now.limits.notes ≤ 1024 }
-    ensures room { IfOk result (λ room. IsRoomFor posts.now memory.now invocation.now.call.now room) }
+    ensures room { IfOk result (λ room. IsReservedFor posts.now memory.now invocation.now.call.now room) }
     ensures ample { (row_of invocation.now.call.now).takes_memory ≡ false → IsOk result }
 {
     match (invocation.row.posting, invocation.row.takes_memory) {
@@ -216,12 +216,12 @@ fn copied_bytes(bytes: &Bytes, mut list: Bytes) -> Bytes
 
 impl Room {
     ghost use Rattle.std.specs.Prelude.{◌≡◌};
-    ghost use Rattle.rank_node.specs.Rooms.{FitsRoom};
+    ghost use Rattle.rank_node.specs.Rooms.{ReplyFitsReserved};
 
     /// An equal reply for the caller, beside that in the event: once. It takes no memory, and the room is still one for the record, with
     /// the lists for a join's values and for the event.
     pub fn again(&mut self, reply: &Reply) -> Reply
-        requires { FitsRoom reply.now self.old }
+        requires { ReplyFitsReserved reply.now self.old }
         ensures reply { result ≡ reply.now }
         ensures kept { self.new ≡ record self.old { bytes = self.new.bytes; numbers = self.new.numbers } }
         ensures numbers { (self.new.numbers.values ≡ self.old.numbers.values) × (self.new.numbers.event ≡ self.old.numbers.event) }

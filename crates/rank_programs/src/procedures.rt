@@ -13,7 +13,7 @@ ghost use Rattle.rank_programs.specs.Answers.{done, Answers, AnswersOrRunsOut};
 ghost use Rattle.rank_programs.specs.Callers.{IsCaller, StaysCaller};
 
 use crate::callers::Caller;
-use crate::replies::{Unexpected, lacks};
+use crate::replies::{Unexpected, out_of_memory};
 use gaspi_types::{
     Alloc, Allreduce, Barrier, Bytes, Call, Commit, CompareSwap, Create, Delete, FetchAdd,
     GroupAdd, GroupDelete, Item, Load, Notify, NumType, Numbers, Op, PassiveReceive, PassiveSend,
@@ -85,7 +85,7 @@ impl<'a, R: Wait> Caller<'a, R> {
         ensures answers { AnswersOrRunsOut done (calls.Store (record { seg = seg; offset = offset; bytes = bytes.now })) (Looks 1) (length bytes.now) self.old result self.new }
     {
         let Ok(bytes) = Sequence::copied_from(self.alloc, bytes) else {
-            return Err(lacks("gaspi_store"));
+            return Err(out_of_memory("gaspi_store"));
         };
         let args = Store { seg, offset, bytes };
         self.call_done("gaspi_store", Call::Store(args), Timeout::Looks(1))
@@ -211,7 +211,7 @@ impl<'a, R: Wait> Caller<'a, R> {
         ensures answers { AnswersOrRunsOut done (calls.WriteList (record { rank = rank; queue = queue; items = items.now })) (Looks 1) (length items.now) self.old result self.new }
     {
         let Ok(items) = Sequence::copied_from(self.alloc, items) else {
-            return Err(lacks("gaspi_write_list"));
+            return Err(out_of_memory("gaspi_write_list"));
         };
         let args = WriteList { rank, queue, items };
         self.call_done("gaspi_write_list", Call::WriteList(args), Timeout::Looks(1))
@@ -232,7 +232,7 @@ impl<'a, R: Wait> Caller<'a, R> {
         ensures answers { AnswersOrRunsOut done (calls.WriteListNotify (record { rank = rank; queue = queue; nseg = nseg; note = note; value = value; items = items.now })) (Looks 1) (length items.now) self.old result self.new }
     {
         let Ok(items) = Sequence::copied_from(self.alloc, items) else {
-            return Err(lacks("gaspi_write_list_notify"));
+            return Err(out_of_memory("gaspi_write_list_notify"));
         };
         let args = WriteListNotify {
             rank,
@@ -256,7 +256,7 @@ impl<'a, R: Wait> Caller<'a, R> {
         ensures answers { AnswersOrRunsOut done (calls.ReadList (record { rank = rank; queue = queue; items = items.now })) (Looks 1) (length items.now) self.old result self.new }
     {
         let Ok(items) = Sequence::copied_from(self.alloc, items) else {
-            return Err(lacks("gaspi_read_list"));
+            return Err(out_of_memory("gaspi_read_list"));
         };
         let args = ReadList { rank, queue, items };
         self.call_done("gaspi_read_list", Call::ReadList(args), Timeout::Looks(1))
@@ -276,7 +276,7 @@ impl<'a, R: Wait> Caller<'a, R> {
         ensures answers { AnswersOrRunsOut done (calls.ReadListNotify (record { rank = rank; queue = queue; nseg = nseg; note = note; items = items.now })) (Looks 1) (length items.now) self.old result self.new }
     {
         let Ok(items) = Sequence::copied_from(self.alloc, items) else {
-            return Err(lacks("gaspi_read_list_notify"));
+            return Err(out_of_memory("gaspi_read_list_notify"));
         };
         let args = ReadListNotify {
             rank,
@@ -513,7 +513,7 @@ impl<'a, R: Wait> Caller<'a, R> {
         ensures answers { AnswersOrRunsOut replies.List (calls.Allreduce (record { group = group; op = op; values = record { num_type = num_type; items = numbers.now } })) timeout (length numbers.now) self.old result self.new }
     {
         let Ok(items) = Sequence::copied_from(self.alloc, numbers) else {
-            return Err(lacks("gaspi_allreduce"));
+            return Err(out_of_memory("gaspi_allreduce"));
         };
         let values = Numbers::new(num_type, items);
         let args = Allreduce { group, op, values };

@@ -83,7 +83,7 @@ pub fn numbers(call: &'static str, answer: Result<Reply, Stop>) -> Result<Number
 }
 
 /// There was no memory for the list of a call, which was not made.
-pub(crate) fn lacks(call: &'static str) -> Unexpected
+pub(crate) fn out_of_memory(call: &'static str) -> Unexpected
     ensures { result.answer ≡ Err NoMemory }
 {
     Unexpected {

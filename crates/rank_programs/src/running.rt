@@ -47,19 +47,19 @@ impl From<NoMemory> for RunFault {
 fn body_of<'a, P: Program>(
     world: &World,
     program: &'a P,
-    place: usize,
+    party: usize,
 ) -> ThreadBody<'a, P, P::Outcome>
-    ensures { IsBodyOf world.now place result }
+    ensures { IsBodyOf world.now party result }
 {
     let callers = world.shape().callers().len();
-    if place < callers {
+    if party < callers {
         return ThreadBody::Caller {
             program,
             outcome: None,
         };
     }
     ThreadBody::Worker {
-        turns: (place - callers) as u64,
+        turns: (party - callers) as u64,
     }
 }
 
@@ -68,12 +68,12 @@ fn task_of<'a, P: Program>(
     world: &World,
     program: &'a P,
     pass: Pass,
-    place: usize,
+    party: usize,
 ) -> Task<ThreadBody<'a, P, P::Outcome>>
-    requires { pass ≡ made_pass world.now place }
-    ensures { IsReady world.now place result }
+    requires { pass ≡ made_pass world.now party }
+    ensures { IsReady world.now party result }
 {
-    let body = body_of(world, program, place);
+    let body = body_of(world, program, party);
     Task { body, pass }
 }
 

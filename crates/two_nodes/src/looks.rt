@@ -9,7 +9,7 @@ ghost use Rattle.gaspi_model.specs.declared.states.State.{State};
 ghost use Rattle.rank_node.specs.Lending.{behind, AreSame, MayStep, IsStepOn, IsLeft};
 ghost use Rattle.rank_node.specs.Collectives.{IsPendingFor};
 ghost use Rattle.rank_node.specs.Numbers.{elements_in, ReplyFits};
-ghost use Rattle.rank_node.specs.Rooms.{IsRoomFor};
+ghost use Rattle.rank_node.specs.Rooms.{IsReservedFor};
 ghost use Rattle.two_nodes.specs.LentLooks.{AreLentTo, MayLook, IsJoiner, MayJoin, HaveLooked};
 
 use crate::stops::CallStop;
@@ -88,7 +88,7 @@ fn join_once(
     room: &mut Room,
 )
     requires joins { MayJoin invocation.now.caller invocation.now.call.now args lent.old.own.now (behind lent.old.peer) (behind lent.old.group) }
-    requires room { IsRoomFor lent.old.own.now.posts lent.old.own.now.memory invocation.now.call.now room.old }
+    requires room { IsReservedFor lent.old.own.now.posts lent.old.own.now.memory invocation.now.call.now room.old }
     requires places { places.old < 2 ^ 32 }
     ensures own { lent.new.own.ghost_name ≡ lent.old.own.ghost_name }
     ensures peer { AreSame lent.new.peer lent.old.peer }
@@ -97,7 +97,7 @@ fn join_once(
     ensures row { room.new.row ≡ row_of invocation.now.call.now }
     ensures event { room.new.numbers.event ≡ elements_in invocation.now.call.now }
     ensures caller { room.new.numbers.caller ≡ elements_in invocation.now.call.now }
-    ensures waits { IsPendingFor lent.new.own.now.posts invocation.now.caller.thread (group_of invocation.now.call.now) invocation.now.call.now }
+    ensures pending { IsPendingFor lent.new.own.now.posts invocation.now.caller.thread (group_of invocation.now.call.now) invocation.now.call.now }
     ensures left { (s m : State) → IsStepOn s m (Joined invocation.now.caller (group_of invocation.now.call.now) args) lent.old.own.now (behind lent.old.peer) (behind lent.old.group)
         → IsLeft s m (Joined invocation.now.caller (group_of invocation.now.call.now) args) places.old lent.old.own.now lent.new.own.now (behind lent.old.peer) (behind lent.new.peer) (behind lent.new.group) }
 {
@@ -125,7 +125,7 @@ fn join_with(
 ) -> Option<Reply>
     requires joins { MayJoin invocation.now.caller invocation.now.call.now args lent.old.own.now (behind lent.old.peer) (behind lent.old.group) }
     requires call { call ≡ invocation.now.call.now }
-    requires room { IsRoomFor lent.old.own.now.posts lent.old.own.now.memory invocation.now.call.now room }
+    requires room { IsReservedFor lent.old.own.now.posts lent.old.own.now.memory invocation.now.call.now room }
     requires places { places.old < 2 ^ 32 }
     ensures own { lent.new.own.ghost_name ≡ lent.old.own.ghost_name }
     ensures peer { AreSame lent.new.peer lent.old.peer }

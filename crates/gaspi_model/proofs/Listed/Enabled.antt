@@ -52,7 +52,7 @@ use Rattle.gaspi_model.specs.CollectiveCalls.{collective_answer, is_reply_of, is
 use Rattle.gaspi_model.specs.Parts.{group_or_none}
 use Rattle.gaspi_model.specs.Step.{PostsAndGroup, completed, group_in, is_pending}
 use Rattle.gaspi_model.proofs.GroupSteps.{group-on_memory, collective-footprint}
-use Rattle.gaspi_model.proofs.Sound.Rising.{place_of-rising}
+use Rattle.gaspi_model.proofs.Sound.Rising.{position_of-rising}
 use Rattle.gaspi_types.proofs.Items.{past-none, flat_map-parts, enumerate-at}
 
 -- Replies compare as the same as themselves.
@@ -386,7 +386,7 @@ transfer-is_step s t k sound at =
         let ranked : t.target < s.limits.ranks = omega arith in
         let their = memory-there s t.target sound ranked in
         let rising = p.rising t.queue q l.queue_there t.target lane l.lane_there in
-        let at : position_of lane t.number ≡ Some place = subst (λ (n : ℕ). position_of lane n ≡ Some place) (sym l.number) (place_of-rising posts.next lane place e rising l.entry_there) in
+        let at : position_of lane t.number ≡ Some place = subst (λ (n : ℕ). position_of lane n ≡ Some place) (sym l.number) (position_of-rising posts.next lane place e rising l.entry_there) in
         let found = entry-found posts t.queue t.target t.number (record { queue = q; lane = lane; position = place; entry = e })
         (record { in_posts = l.queue_there; in_queue = l.lane_there; numbered = at; in_lane = l.entry_there }) in
         by-kind posts q lane place e their.0 l.posts_there their.1 ranked found

@@ -11,7 +11,7 @@ use Rattle.gaspi_types.specs.declared.replies.Reply.{Reply}
 use Rattle.gaspi_types.specs.declared.replies.Reply.TheVariants as replies
 use Rattle.gaspi_types.specs.declared.shapes.CallerId.{CallerId}
 use Rattle.gaspi_types.specs.declared.shapes.Limits.{Limits}
-use Rattle.gaspi_model.specs.Calls.{call_result, ready_of, answer, recorded_reply}
+use Rattle.gaspi_model.specs.Calls.{call_result, answer_of_result, answer, recorded_reply}
 use Rattle.gaspi_model.specs.CollectiveCalls.{collective_answer, is_reply_of, is_join_of, is_joining, joining_call}
 use Rattle.gaspi_model.specs.State.{thread_at, is_running}
 use Rattle.gaspi_model.specs.Step.{step, group_in, answer_in, call_memory}
@@ -27,7 +27,7 @@ use Rattle.gaspi_model.proofs.Same.{same_reply-same, same_args-same}
 never-joins : (limits : Limits) (me : ℕ) (posts : Posts) (memory : Memory) (thread : ℕ) (call : Call) → is_joining (answer limits me posts memory thread call) ≡ false
 never-joins limits me posts memory thread call = by-running (is_running (thread_at posts thread)) refl
   where
-    by-finds : (finds : Result (Option Reply) Refusal) → is_joining (ready_of finds) ≡ false
+    by-finds : (finds : Result (Option Reply) Refusal) → is_joining (answer_of_result finds) ≡ false
     by-finds (Ok None) = refl
     by-finds (Ok (Some reply)) = refl
     by-finds (Err refusal) = refl

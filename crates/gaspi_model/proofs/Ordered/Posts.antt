@@ -53,7 +53,7 @@ use Rattle.gaspi_types.specs.CallRows.{row_of}
 use Rattle.gaspi_model.proofs.Made.{step-called}
 use Rattle.gaspi_model.proofs.Same.{same_reply-same}
 use Rattle.gaspi_types.proofs.Items.{slice_get-set_same, past-none, prefix-of-joined, behind-of-joined}
-use Rattle.gaspi_model.proofs.Sound.Rising.{place_of-rising}
+use Rattle.gaspi_model.proofs.Sound.Rising.{position_of-rising}
 use Rattle.gaspi_model.proofs.Sound.Accounts.{post-ok}
 use Rattle.gaspi_model.proofs.FoundReplies.{found-reply}
 use Rattle.gaspi_model.proofs.Sound.Registered.{registered-mine}
@@ -65,7 +65,7 @@ entry-stands : (t : State) (posts : Posts) (q : Queue) (lane : List Entry) (orig
     → slice_get q.lanes target ≡ Some lane → slice_get lane place ≡ Some e → IsSound t → entry_after t origin queue target e.number ≡ Some e
 entry-stands t posts q lane origin queue target place e hp hq hl he sound =
     let rising = (sound.posts origin posts hp).rising queue q hq target lane hl in
-    let at = place_of-rising posts.next lane place e rising he in
+    let at = position_of-rising posts.next lane place e rising he in
     let found : find_entry posts queue target e.number whys.Put ≡ Ok (record { queue = q; lane = lane; position = place; entry = e }) = rw (hq, hl, at, he) refl in
     rw (hp, found) refl
 

@@ -25,7 +25,7 @@ use Rattle.gaspi_model.specs.QueueCalls.{emptied, purged}
 use Rattle.gaspi_model.specs.GroupCalls.{group_create_effect, group_add_effect, group_delete_effect}
 use Rattle.gaspi_model.specs.SegmentCalls.{with_own, without_own}
 use Rattle.gaspi_model.specs.PostCalls.{post_request_result}
-use Rattle.gaspi_model.specs.Calls.{posts_after, charge, answer, call_result, ready_of, recorded_reply, plain_result, plain_effect, requested_kinds}
+use Rattle.gaspi_model.specs.Calls.{posts_after, charge, answer, call_result, answer_of_result, recorded_reply, plain_result, plain_effect, requested_kinds}
 use Rattle.gaspi_types.specs.declared.entries.Queue.{Queue}
 use Rattle.gaspi_model.specs.declared.states.ThreadState.{ThreadState}
 use Rattle.gaspi_model.specs.declared.states.ThreadState.TheVariants as threads
@@ -120,9 +120,9 @@ posts-grow false posts done events same = omega arith
 -- a post, by what it asks for: so many entries, where it is not refused
 posted-grows : (limits : Limits) (posts : Posts) (rank queue count : ℕ) (asked : Result (List Kind) Refusal) (finds : Result (Option Reply) Refusal) → HasLanes limits.ranks posts
     → ((kinds : List Kind) → asked ≡ Ok kinds → length kinds ≡ count) → post_request_result limits posts rank queue asked ≡ finds
-    → (counted (if is_idle (recorded_reply (ready_of finds)) then posts else with_post posts queue rank asked)).events
-    + owed (counted (if is_idle (recorded_reply (ready_of finds)) then posts else with_post posts queue rank asked))
-    ≡ posts.events + owed posts + (if is_done (recorded_reply (ready_of finds)) then 1 + 2 * count else 1)
+    → (counted (if is_idle (recorded_reply (answer_of_result finds)) then posts else with_post posts queue rank asked)).events
+    + owed (counted (if is_idle (recorded_reply (answer_of_result finds)) then posts else with_post posts queue rank asked))
+    ≡ posts.events + owed posts + (if is_done (recorded_reply (answer_of_result finds)) then 1 + 2 * count else 1)
 posted-grows limits posts rank queue count asked (Ok None) lanes counts is = omega arith
 posted-grows limits posts rank queue count asked (Ok (Some reply)) lanes counts is =
     let posted = post-ok limits posts rank queue asked (Some reply) is in
@@ -161,32 +161,32 @@ at-most-charged a b m n less same = omega arith
 -- of a running thread, by what the call finds that posts nothing
 plain-grows : (limits : Limits) (me : ℕ) (posts : Posts) (memory : Memory) (thread : ℕ) (call : Call) (finds : Result (Option Reply) Refusal)
     → is_running (thread_at posts thread) ≡ true → plain_result limits me posts memory call ≡ finds
-    → (counted (if is_idle (recorded_reply (ready_of finds)) then posts else plain_effect posts thread call)).events
-    + owed (counted (if is_idle (recorded_reply (ready_of finds)) then posts else plain_effect posts thread call)) ≤ posts.events + owed posts + (if is_end call then 0 else 1)
-plain-grows limits me posts memory thread (Alloc call) finds running is = at-most _ _ (posts-grow (is_idle (recorded_reply (ready_of finds))) posts (with_own posts call.seg call.size) refl refl)
-plain-grows limits me posts memory thread (Delete call) finds running is = at-most _ _ (posts-grow (is_idle (recorded_reply (ready_of finds))) posts (without_own posts call.seg) refl refl)
-plain-grows limits me posts memory thread (Wait call) finds running is = at-most _ _ (waited-grows (is_idle (recorded_reply (ready_of finds))) posts call.queue)
-plain-grows limits me posts memory thread (Purge call) finds running is = purged-grows (is_idle (recorded_reply (ready_of finds))) posts call.queue
-plain-grows limits me posts memory thread GroupCreate finds running is = at-most _ _ (posts-grow (is_idle (recorded_reply (ready_of finds))) posts (group_create_effect posts) refl refl)
-plain-grows limits me posts memory thread (GroupAdd call) finds running is = at-most _ _ (posts-grow (is_idle (recorded_reply (ready_of finds))) posts (group_add_effect posts call) refl refl)
-plain-grows limits me posts memory thread (GroupDelete call) finds running is = at-most _ _ (posts-grow (is_idle (recorded_reply (ready_of finds))) posts (group_delete_effect posts call) refl refl)
+    → (counted (if is_idle (recorded_reply (answer_of_result finds)) then posts else plain_effect posts thread call)).events
+    + owed (counted (if is_idle (recorded_reply (answer_of_result finds)) then posts else plain_effect posts thread call)) ≤ posts.events + owed posts + (if is_end call then 0 else 1)
+plain-grows limits me posts memory thread (Alloc call) finds running is = at-most _ _ (posts-grow (is_idle (recorded_reply (answer_of_result finds))) posts (with_own posts call.seg call.size) refl refl)
+plain-grows limits me posts memory thread (Delete call) finds running is = at-most _ _ (posts-grow (is_idle (recorded_reply (answer_of_result finds))) posts (without_own posts call.seg) refl refl)
+plain-grows limits me posts memory thread (Wait call) finds running is = at-most _ _ (waited-grows (is_idle (recorded_reply (answer_of_result finds))) posts call.queue)
+plain-grows limits me posts memory thread (Purge call) finds running is = purged-grows (is_idle (recorded_reply (answer_of_result finds))) posts call.queue
+plain-grows limits me posts memory thread GroupCreate finds running is = at-most _ _ (posts-grow (is_idle (recorded_reply (answer_of_result finds))) posts (group_create_effect posts) refl refl)
+plain-grows limits me posts memory thread (GroupAdd call) finds running is = at-most _ _ (posts-grow (is_idle (recorded_reply (answer_of_result finds))) posts (group_add_effect posts call) refl refl)
+plain-grows limits me posts memory thread (GroupDelete call) finds running is = at-most _ _ (posts-grow (is_idle (recorded_reply (answer_of_result finds))) posts (group_delete_effect posts call) refl refl)
 plain-grows limits me posts memory thread End finds running is =
     let ends = ended-owed posts thread running in
     rw (← is) (omega arith)
-plain-grows limits me posts memory thread other finds running is = at-most _ _ (idle-grows (is_idle (recorded_reply (ready_of finds))) posts)
+plain-grows limits me posts memory thread other finds running is = at-most _ _ (idle-grows (is_idle (recorded_reply (answer_of_result finds))) posts)
 
 -- of a running thread, by what the call finds
 running-grows : (limits : Limits) (me : ℕ) (posts : Posts) (memory : Memory) (thread : ℕ) (call : Call) (finds : Result (Option Reply) Refusal)
     → HasLanes limits.ranks posts → is_running (thread_at posts thread) ≡ true → call_result limits me posts memory call ≡ finds
-    → Grows limits me posts thread call (recorded_reply (ready_of finds))
+    → Grows limits me posts thread call (recorded_reply (answer_of_result finds))
 running-grows limits me posts memory thread call finds lanes running is = by-posting (row_of call).posting refl
   where
     charged : (b : Bool) → is_end call ≡ b → (row_of call).posting ≡ None
-        → (if is_end call && true then 0 else (if is_done (recorded_reply (ready_of finds)) then 1 + 2 * entries_of call else 1)) ≡ (if is_end call then 0 else 1)
+        → (if is_end call && true then 0 else (if is_done (recorded_reply (answer_of_result finds)) then 1 + 2 * entries_of call else 1)) ≡ (if is_end call then 0 else 1)
     charged true ends none = rw ends refl
-    charged false goes none = rw goes (plain-charge call (recorded_reply (ready_of finds)) none)
+    charged false goes none = rw goes (plain-charge call (recorded_reply (answer_of_result finds)) none)
 
-    by-posting : (o : Option Posting) → (row_of call).posting ≡ o → Grows limits me posts thread call (recorded_reply (ready_of finds))
+    by-posting : (o : Option Posting) → (row_of call).posting ≡ o → Grows limits me posts thread call (recorded_reply (answer_of_result finds))
     by-posting None none =
         let grows = plain-grows limits me posts memory thread call finds running (rw none at is) in
         let charge_is = charged (is_end call) refl none in
@@ -211,7 +211,7 @@ call-grows limits me posts memory thread call reply lanes is = go (is_running (t
   where
     go : (b : Bool) → is_running (thread_at posts thread) ≡ b → Grows limits me posts thread call reply
     go true running =
-        let same : reply ≡ recorded_reply (ready_of (call_result limits me posts memory call)) = rw running at is in
+        let same : reply ≡ recorded_reply (answer_of_result (call_result limits me posts memory call)) = rw running at is in
         rw same (running-grows limits me posts memory thread call (call_result limits me posts memory call) lanes running refl)
     go false ended =
         let refused : reply ≡ replies.Refused CallerEnded = rw ended at is in

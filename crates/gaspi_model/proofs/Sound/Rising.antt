@@ -83,8 +83,8 @@ before-at next (x ∷ lane) (suc place) e rising at =
     rw apart (omega arith)
 
 -- an entry is found at its place by its number
-pub place_of-rising : (next : ℕ) (lane : List Entry) (place : ℕ) (e : Entry) → AreRising next lane → slice_get lane place ≡ Some e → position_of lane e.number ≡ Some place
-place_of-rising next lane place e rising at =
+pub position_of-rising : (next : ℕ) (lane : List Entry) (place : ℕ) (e : Entry) → AreRising next lane → slice_get lane place ≡ Some e → position_of lane e.number ≡ Some place
+position_of-rising next lane place e rising at =
     let before = before-at next lane place e rising at in
     let within = lt-ltb place (length lane) (slice_get_within lane place e at) in
     rw before (rw within refl)

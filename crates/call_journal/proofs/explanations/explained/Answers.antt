@@ -1,7 +1,7 @@
 use Rattle.std.proofs.Common.{◌≡◌, List, sym, ap, subst, ◌∙◌}
 use Rattle.call_journal.specs.Explanations.{IsExplained}
 use Rattle.call_journal.specs.LaneWrites.{arrived}
-use Rattle.call_journal.specs.declared.answers.ArrivedWrite.{ArrivedWrite}
+use Rattle.call_journal.specs.declared.answers.CoveredWrite.{CoveredWrite}
 use Rattle.call_journal.specs.declared.lane_writes.LaneWrite.{LaneWrite}
 use Rattle.call_journal.proofs.Explained.{explained, put-there-is}
 use Rattle.call_journal.proofs.explanations.explained.Goals as goal
@@ -13,6 +13,6 @@ returns c = λ w world legal.
     let there = put-there-is c.args.journal.now c.args.place at (sym c.put_at.ensures ∙ c.in-Some.is) in
     let list : arrived at.number found.writes.items ≡ c.in_ok-writes.writes = sym (c.in_ok-writes.ensures ∙ ap (λ (writes : List LaneWrite). arrived at.number writes) c.deref.ensures.value) in (
       legal,
-      subst (λ (writes : List ArrivedWrite). IsExplained w c.args.journal.now c.args.place writes) list
+      subst (λ (writes : List CoveredWrite). IsExplained w c.args.journal.now c.args.place writes) list
           (explained w world c.args.journal.now legal c.args.place at there found.next found.notified found.writes.items (c.in_ok-found.ensures.tracked w world legal) c.if-not-found.false c.in_ok-found.ensures.rise),
     )

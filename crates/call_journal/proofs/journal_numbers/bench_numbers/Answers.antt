@@ -4,7 +4,7 @@ use Rattle.std.proofs.lemmas.List.{take_all}
 use Rattle.gaspi_types.specs.declared.events.Event.{Event}
 use Rattle.gaspi_types.specs.declared.shapes.Limits.{Limits}
 use Rattle.gaspi_model.specs.Step.{reached}
-use Rattle.call_journal.specs.Numbers.{IsIllegal, is_call, is_notification, is_transfer, words_until}
+use Rattle.call_journal.specs.Numbers.{IsIllegal, is_call, is_found_reset, is_transfer, words_until}
 use Rattle.call_journal.proofs.Counted.{counted-more, counted-most, few_ranks, illegal_at, reached-more}
 use Rattle.call_journal.proofs.journal_numbers.bench_numbers.Goals as goal
 
@@ -25,7 +25,7 @@ count-requires-clause-transfers c =
 pub count-requires-clause-notifications : goal.count-requires-clause-notifications
 count-requires-clause-notifications c =
     let less : c.loop-event.event-index < length c.args.journal.now = rw (sym c.as_slice-event-items.ensures) c.loop-event-test.true in
-    let most = counted-most is_notification c.args.journal.now c.loop-event.event-index (omega (arith, less)) in
+    let most = counted-most is_found_reset c.args.journal.now c.loop-event.event-index (omega (arith, less)) in
     let so_far = c.loop-event.invariant.notifications in
     omega (arith, most, so_far)
 
@@ -39,7 +39,7 @@ loop-event-preserved c =
       leads = reached-more c.args.shape.now c.args.journal.now place event c.loop-event.machine less at c.loop-event.invariant.leads c.step.new.self c.in_ok-step.ensures.step;
       calls = counted-more is_call c.args.journal.now place event less at _ _ c.loop-event.invariant.calls c.count.ensures.calls;
       transfers = counted-more is_transfer c.args.journal.now place event less at _ _ c.loop-event.invariant.transfers c.count.ensures.transfers;
-      notifications = counted-more is_notification c.args.journal.now place event less at _ _ c.loop-event.invariant.notifications c.count.ensures.notifications;
+      notifications = counted-more is_found_reset c.args.journal.now place event less at _ _ c.loop-event.invariant.notifications c.count.ensures.notifications;
     }
 
 pub returns-in_err-step-clause-illegal : goal.returns-in_err-step-clause-illegal
@@ -62,7 +62,7 @@ returns-clause-numbers c =
     record {
       calls = c.loop-event.invariant.calls ∙ ap (count_by is_call) whole;
       transfers = c.loop-event.invariant.transfers ∙ ap (count_by is_transfer) whole;
-      notifications = c.loop-event.invariant.notifications ∙ ap (count_by is_notification) whole;
+      notifications = c.loop-event.invariant.notifications ∙ ap (count_by is_found_reset) whole;
       state = c.loop-event.machine;
       leads = ap (λ (events : List Event). reached c.args.shape.now events) (sym whole) ∙ c.loop-event.invariant.leads;
       sum = c.sum_of_words.ensures ∙ ap (λ (ranks : ℕ). words_until c.loop-event.machine ranks % 2 ^ 64) (ap (λ (limits : Limits). limits.ranks) c.limits.ensures.value);

@@ -40,12 +40,12 @@ answer_in-requires-clause-lent c =
     let on = c.requires.holder in
     lent-call c.args.table.now.start.shape c.requires.world c.args.invocation.now.caller c.args.call.now c.commit_join.new.held c.commit_join.new.pass.known c.commit_join.ensures.held (c.commit_join.ensures.shards.0 ∙ on.own) (c.commit_join.ensures.shards.1 ∙ on.other)
 
-pub answer_in-requires-clause-waits : goal.answer_in-requires-clause-waits
-answer_in-requires-clause-waits c =
+pub answer_in-requires-clause-pending : goal.answer_in-requires-clause-pending
+answer_in-requires-clause-pending c =
     let on = c.requires.holder in
     let named = c.call_group-group.ensures ∙ ap (λ (r : CallRow). r.group) (c.args.invocation.now.rowed ∙ ap row_of (sym c.requires.call)) in
     let itself = join-itself c.args.table.now.start.shape c.requires.world c.args.invocation.now.caller c.args.call.now c.args.args c.args.held.now c.args.pass.now.known on.held on.own on.other on.caller c.requires.joins c.call_group-group.result named in
-    (c.call_group-group.result, subst (λ (x : Call). IsPendingFor c.commit_join.new.held.nodes.own.value.posts c.args.invocation.now.caller.thread c.call_group-group.result x) itself c.commit_join.ensures.waits)
+    (c.call_group-group.result, subst (λ (x : Call). IsPendingFor c.commit_join.new.held.nodes.own.value.posts c.args.invocation.now.caller.thread c.call_group-group.result x) itself c.commit_join.ensures.pending)
 
 pub returns-clause-added : goal.returns-clause-added
 returns-clause-added c =

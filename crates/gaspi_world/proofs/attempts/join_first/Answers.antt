@@ -15,8 +15,8 @@ room-requires c =
     let on = c.requires.holder in
     record { lent = lent-call c.args.table.now.start.shape c.requires.world c.args.invocation.now.caller c.args.invocation.now.call.now c.args.held.now c.args.pass.now.known on.held on.own on.other }
 
-pub returns-then-is_early-clause-worked : goal.returns-then-is_early-clause-worked
-returns-then-is_early-clause-worked c =
+pub returns-then-waits_for_later_look-clause-worked : goal.returns-then-waits_for_later_look-clause-worked
+returns-then-waits_for_later_look-clause-worked c =
     let w = c.args.table.now.start.shape in
     let on = c.requires.holder in
     let v = c.args.pass.now.known in
@@ -27,7 +27,7 @@ returns-then-is_early-clause-worked c =
     let added = subst (λ (x : Call). IsCommitted w v (join_event c.args.invocation.now.caller x c.args.args) c.join-found.new.pass.known) c.in-Ok-copy.ensures.ok c.join-found.ensures.added in
     let e = join_event c.args.invocation.now.caller c.args.invocation.now.call.now c.args.args in
     early-attempted w c.args.invocation.now.caller c.args.invocation.now.call.now (e ∷ []) c.args.look c.join-found.result v c.join-found.new.pass.known c.join-found.new.pass.known found_then.finds
-    (attempted-joined w c.args.invocation.now.caller c.args.invocation.now.call.now v c.join-found.new.pass.known c.args.args on.caller found added) room (λ is. ap is_unready found) (sym c.is_early.ensures ∙ c.if-is_early.true) refl
+    (attempted-joined w c.args.invocation.now.caller c.args.invocation.now.call.now v c.join-found.new.pass.known c.args.args on.caller found added) room (λ is. ap is_unready found) (sym c.waits_for_later_look.ensures ∙ c.if-waits_for_later_look.true) refl
 
 pub returns-clause-worked : goal.returns-clause-worked
 returns-clause-worked c =
@@ -41,5 +41,5 @@ returns-clause-worked c =
     let added = subst (λ (x : Call). IsCommitted w v (join_event c.args.invocation.now.caller x c.args.args) c.join-found.new.pass.known) c.in-Ok-copy.ensures.ok c.join-found.ensures.added in
     let e = join_event c.args.invocation.now.caller c.args.invocation.now.call.now c.args.args in
     recorded-attempted w c.args.invocation.now.caller c.args.invocation.now.call.now (e ∷ []) c.args.look c.join-found.result v c.join-found.new.pass.known c.record_with.new.pass.known c.record_with.result on.caller c.join-found.ensures.holder.held.shards.legal found_then.finds found_then.unjoined
-    (attempted-joined w c.args.invocation.now.caller c.args.invocation.now.call.now v c.join-found.new.pass.known c.args.args on.caller found added) room (λ is. ap is_unready found) c.record_with.ensures.reply (sym c.is_early.ensures ∙ c.if-is_early.false)
+    (attempted-joined w c.args.invocation.now.caller c.args.invocation.now.call.now v c.join-found.new.pass.known c.args.args on.caller found added) room (λ is. ap is_unready found) c.record_with.ensures.reply (sym c.waits_for_later_look.ensures ∙ c.if-waits_for_later_look.false)
     (subst (λ (x : Call). IsCommitted w c.join-found.new.pass.known (Called c.args.invocation.now.caller x c.record_with.result) c.record_with.new.pass.known) c.in-Ok-copy.ensures.ok c.record_with.ensures.added)

@@ -20,7 +20,7 @@ returns-clause-step c = λ limits room.
     rw (posts, group)
     (on_group_steps limits me c.args.posts.now c.args.group.now c.args.invocation.now.caller.thread c.args.id call c.args.ready c.requires.there c.requires.look c.requires.unjoined (le-leb _ _ room))
 
-pub returns-clause-taken : goal.returns-clause-taken
-returns-clause-taken c =
+pub returns-clause-used : goal.returns-clause-used
+returns-clause-used c =
     let met = on_group-used c.args.posts.now c.args.group.now c.args.invocation.now.caller.rank c.args.id c.args.invocation.now.call.now c.recorded_reply-reply.result in
-    rw (c.requires.taken, c.complete_parts.ensures.posts) (sym met)
+    rw (c.requires.used, c.complete_parts.ensures.posts) (sym met)

@@ -15,8 +15,8 @@ complete-requires-clause-part c =
     let there = rw c.index-rank.ensures.value at c.at_mut.ensures.value in
     c.requires.whole.1.sound.collectives.parts _ _ _ _ c.at_mut-then-id-lt8.ensures.value there
 
-pub complete-requires-clause-taken : goal.complete-requires-clause-taken
-complete-requires-clause-taken c = mapped used_room_of c.args.ranks.now.posts c.index-rank.result _ _ c.at_mut.ensures.value (rw c.requires.whole.1.used at c.at_mut-then-id-lt8-2.ensures.value)
+pub complete-requires-clause-used : goal.complete-requires-clause-used
+complete-requires-clause-used c = mapped used_room_of c.args.ranks.now.posts c.index-rank.result _ _ c.at_mut.ensures.value (rw c.requires.whole.1.used at c.at_mut-then-id-lt8-2.ensures.value)
 
 pub complete-requires-clause-few : goal.complete-requires-clause-few
 complete-requires-clause-few c =
@@ -32,8 +32,8 @@ returns-then-id-lt8-clause-step c = λ memories.
     (completed_on (state_in c.args.ranks.now memories) c.args.invocation.now.caller c.args.invocation.now.call.now (recorded_reply c.args.ready) c.args.id (Ok tt) c.at_mut.result.now c.complete.new.posts c.at_mut-then-id-lt8.result.now c.complete.new.group
     (lt-ltb c.args.id 8 c.if-id-lt8.true) there c.requires.group c.at_mut-then-id-lt8.ensures.value (c.complete.ensures.step c.args.ranks.now.limits room))
 
-pub returns-then-id-lt8-clause-taken : goal.returns-then-id-lt8-clause-taken
-returns-then-id-lt8-clause-taken c = rw (c.requires.whole.1.used, c.complete.ensures.taken) (sym (map-set used_room_of c.args.ranks.now.posts c.index-rank.result c.complete.new.posts))
+pub returns-then-id-lt8-clause-used : goal.returns-then-id-lt8-clause-used
+returns-then-id-lt8-clause-used c = rw (c.requires.whole.1.used, c.complete.ensures.used) (sym (map-set used_room_of c.args.ranks.now.posts c.index-rank.result c.complete.new.posts))
 
 pub complete-requires-2-clause-part : goal.complete-requires-2-clause-part
 complete-requires-2-clause-part c =
@@ -42,8 +42,8 @@ complete-requires-2-clause-part c =
     (rw (in_none (state_in c.args.ranks.now c.requires.whole.0) c.args.id (le-ltb c.args.id 8 c.if-id-lt8.false)) at
     (contributions_sound (state_in c.args.ranks.now c.requires.whole.0) c.args.id c.args.invocation.now.caller.rank c.at_mut-2.result.now c.requires.whole.1.sound there))
 
-pub complete-requires-2-clause-taken : goal.complete-requires-2-clause-taken
-complete-requires-2-clause-taken c = mapped used_room_of c.args.ranks.now.posts c.index-rank.result _ _ c.at_mut-2.ensures.value (rw c.requires.whole.1.used at c.at_mut-3.ensures.value)
+pub complete-requires-2-clause-used : goal.complete-requires-2-clause-used
+complete-requires-2-clause-used c = mapped used_room_of c.args.ranks.now.posts c.index-rank.result _ _ c.at_mut-2.ensures.value (rw c.requires.whole.1.used at c.at_mut-3.ensures.value)
 
 pub complete-requires-2-clause-few : goal.complete-requires-2-clause-few
 complete-requires-2-clause-few c =
@@ -59,8 +59,8 @@ returns-clause-step c = λ memories.
     (completed_none (state_in c.args.ranks.now memories) c.args.invocation.now.caller c.args.invocation.now.call.now (recorded_reply c.args.ready) c.args.id (Ok tt) c.at_mut-2.result.now c.complete-2.new.posts c.empty_group-none.result c.complete-2.new.group
     (le-ltb c.args.id 8 c.if-id-lt8.false) there c.requires.group c.empty_group-none.ensures (c.complete-2.ensures.step c.args.ranks.now.limits room))
 
-pub returns-clause-taken : goal.returns-clause-taken
-returns-clause-taken c = rw (c.requires.whole.1.used, c.complete-2.ensures.taken) (sym (map-set used_room_of c.args.ranks.now.posts c.index-rank.result c.complete-2.new.posts))
+pub returns-clause-used : goal.returns-clause-used
+returns-clause-used c = rw (c.requires.whole.1.used, c.complete-2.ensures.used) (sym (map-set used_room_of c.args.ranks.now.posts c.index-rank.result c.complete-2.new.posts))
 
 pub complete-requires-clause-there : goal.complete-requires-clause-there
 complete-requires-clause-there c =

@@ -23,7 +23,7 @@ failed (Err none) is = refl
 pub overflow_add-used : goal.overflow_add-used
 overflow_add-used c =
     let posts = there-within c.args.ranks.now.posts c.args.invocation.now.caller.rank c.requires.there in
-    let taken = mapped used_room_of c.args.ranks.now.posts c.args.invocation.now.caller.rank _ _ posts.1 (rw (c.index-rank.ensures.value, c.requires.taken) at c.at-taken.ensures) in
+    let taken = mapped used_room_of c.args.ranks.now.posts c.args.invocation.now.caller.rank _ _ posts.1 (rw (c.index-rank.ensures.value, c.requires.used) at c.at-taken.ensures) in
     let charge = c.requires.charge _ posts.1 in
     let room = c.requires.room _ posts.1 in
     let limited = c.requires.ranks.limited in
@@ -32,14 +32,14 @@ overflow_add-used c =
 pub record-requires-clause-sound : goal.record-requires-clause-sound
 record-requires-clause-sound c = c.requires.ranks.sound _ _ c.at_mut.ensures.value
 
-pub record-requires-clause-taken : goal.record-requires-clause-taken
-record-requires-clause-taken c =
+pub record-requires-clause-used : goal.record-requires-clause-used
+record-requires-clause-used c =
     let there = rw c.index-rank.ensures.value at c.at_mut.ensures.value in
-    let taken : c.at-taken.result.now ≡ used_room_of c.at_mut.result.now = mapped used_room_of c.args.ranks.now.posts c.index-rank.result _ _ c.at_mut.ensures.value (rw c.requires.taken at c.at-taken.ensures) in
+    let taken : c.at-taken.result.now ≡ used_room_of c.at_mut.result.now = mapped used_room_of c.args.ranks.now.posts c.index-rank.result _ _ c.at_mut.ensures.value (rw c.requires.used at c.at-taken.ensures) in
     rw (taken, c.requires.charge _ there) refl
 
-pub record-requires-clause-look : goal.record-requires-clause-look
-record-requires-clause-look c =
+pub record-requires-clause-evaluation : goal.record-requires-clause-evaluation
+record-requires-clause-evaluation c =
     let there = rw c.index-rank.ensures.value at c.at_mut.ensures.value in
     (c.requires.look _ there).finds
 
@@ -55,9 +55,9 @@ returns-in_err-recorded-clause-step c =
     (lent_steps (Err faults.NoMemory) c.args.ranks.now.posts c.args.invocation.now.caller.rank _ _ _ _ whys.Caller
     (λ p m. called c.args.ranks.now.limits c.args.invocation.now.caller.rank p c.args.look.message m c.args.invocation.now.caller.thread c.args.invocation.now.call.now (recorded_reply c.args.look.ready)) there c.in_err-recorded.ensures.step)
 
-pub returns-in_err-recorded-clause-taken : goal.returns-in_err-recorded-clause-taken
-returns-in_err-recorded-clause-taken c =
-    c.requires.taken
+pub returns-in_err-recorded-clause-used : goal.returns-in_err-recorded-clause-used
+returns-in_err-recorded-clause-used c =
+    c.requires.used
     ∙ sym (map_kept used_room_of c.args.ranks.now.posts c.index-rank.result _ c.record.new.posts c.at_mut.ensures.value (ap (λ (w : PostsAndMemory). used_room_of w.posts) c.in_err-recorded.ensures.step))
 
 pub returns-clause-step : goal.returns-clause-step
@@ -67,6 +67,6 @@ returns-clause-step c =
     (lent_steps (Ok tt) c.args.ranks.now.posts c.args.invocation.now.caller.rank _ _ _ _ whys.Caller
     (λ p m. called c.args.ranks.now.limits c.args.invocation.now.caller.rank p c.args.look.message m c.args.invocation.now.caller.thread c.args.invocation.now.call.now (recorded_reply c.args.look.ready)) there c.in_ok-recorded.ensures.step)
 
-pub returns-clause-taken : goal.returns-clause-taken
-returns-clause-taken c =
-    rw (c.requires.taken, c.in_ok-recorded.ensures.taken) (sym (map-set used_room_of c.args.ranks.now.posts c.index-rank.result c.record.new.posts))
+pub returns-clause-used : goal.returns-clause-used
+returns-clause-used c =
+    rw (c.requires.used, c.in_ok-recorded.ensures.used) (sym (map-set used_room_of c.args.ranks.now.posts c.index-rank.result c.record.new.posts))

@@ -61,7 +61,7 @@ returns-in_ok-reply-in-PeerPosts-clause-step c =
     c.requires.plain own (sym c.call_footprint.ensures ∙ c.in-PeerPosts.is) c.empty_memory-none-in-PeerPosts.ensures peer (c.register_at_peer.ensures ∙ c.registration-registration.ensures _)
     (sym (lent_same c.args.look c.args.ranks.now.limits c.args.ranks.now.posts (call_message s caller.rank call) c.empty_memory-none-in-PeerPosts.result caller call c.requires.found.finds.message) ∙ c.in_ok-reply-in-PeerPosts.ensures.step)))
 
-pub returns-in_ok-reply-in-PeerPosts-clause-taken : goal.returns-in_ok-reply-in-PeerPosts-clause-taken
-returns-in_ok-reply-in-PeerPosts-clause-taken c =
-    c.in_ok-reply-in-PeerPosts.ensures.taken
+pub returns-in_ok-reply-in-PeerPosts-clause-used : goal.returns-in_ok-reply-in-PeerPosts-clause-used
+returns-in_ok-reply-in-PeerPosts-clause-used c =
+    c.in_ok-reply-in-PeerPosts.ensures.used
     ∙ sym (map_kept used_room_of c.record_on-in-PeerPosts.new.ranks.posts c.index-in-PeerPosts-2.result _ c.register_at_peer.new.peer c.at_mut.ensures.value (ap used_room_of c.register_at_peer.ensures ∙ registered_used c.registration-registration.result _))

@@ -33,8 +33,8 @@ returns-in-Ok-put_at-clause-step c =
     (put_done (state_in c.args.ranks.now c.args.memories.now) c.args.id.now c.args.number c.args.given c.in-Ok-put_at.outcome c.at_mut.result.now c.set_put.new.posts (found_at c.in-Ok.at) c.footprint-footprint.result c.put_at.new.memories
     c.requires.sound.memories there found footprint c.in-Ok-put_at.ensures.outcome c.in-Ok-put_at.ensures.step c.set_put.ensures)
 
-pub returns-in-Ok-put_at-clause-taken : goal.returns-in-Ok-put_at-clause-taken
-returns-in-Ok-put_at-clause-taken c =
+pub returns-in-Ok-put_at-clause-used : goal.returns-in-Ok-put_at-clause-used
+returns-in-Ok-put_at-clause-used c =
     let old = state_in c.args.ranks.now c.args.memories.now in
     let new = state_in (record c.args.ranks.now { posts = slice_set c.args.ranks.now.posts c.index-rank.result c.set_put.new.posts }) c.put_at.new.memories in
     let made = subst (λ (e : Event). step old e ≡ Ok new) (returns-in-Ok-put_at-clause-outcome c) (returns-in-Ok-put_at-clause-step c) in

@@ -39,8 +39,8 @@ returns-in-Ok-take_bytes-clause-step c =
     (take_done (state_in c.args.ranks.now c.args.memories.now) c.args.id.now c.args.number c.args.given c.at_mut.result.now c.set_take.new.posts (found_at c.in-Ok.at) c.accessed_memory-memory.result.now c.in-Ok-take_bytes.taken
     c.requires.sound.memories there found memory c.in-Ok-take_bytes.ensures.outcome c.in-Ok-take_bytes.ensures.bytes c.set_take.ensures)
 
-pub returns-in-Ok-take_bytes-clause-taken : goal.returns-in-Ok-take_bytes-clause-taken
-returns-in-Ok-take_bytes-clause-taken c =
+pub returns-in-Ok-take_bytes-clause-used : goal.returns-in-Ok-take_bytes-clause-used
+returns-in-Ok-take_bytes-clause-used c =
     let old = state_in c.args.ranks.now c.args.memories.now in
     let new = state_in (record c.args.ranks.now { posts = slice_set c.args.ranks.now.posts c.index-rank.result c.set_take.new.posts }) c.args.memories.now in
     let made = subst (λ (e : Event). step old e ≡ Ok new) (returns-in-Ok-take_bytes-clause-outcome c) (returns-in-Ok-take_bytes-clause-step c) in

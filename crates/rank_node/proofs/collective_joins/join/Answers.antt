@@ -13,7 +13,7 @@ returns-clause-left c = λ s t peer on.
     (joined-posts c.args.own.now.posts c.join_parts.new.own.posts c.add_event.new.self c.args.place c.args.caller c.args.id c.args.args c.join_parts.ensures.posts c.add_event.ensures)
     c.join_parts.ensures.memory c.join_parts.ensures.group
 
-pub returns-clause-waits : goal.returns-clause-waits
-returns-clause-waits c =
+pub returns-clause-pending : goal.returns-clause-pending
+returns-clause-pending c =
     joined-waits c.args.caller c.args.id c.args.args c.args.place c.args.own.now c.args.group.now c.add_event.new.self c.requires.step
     (joined-posts c.args.own.now.posts c.join_parts.new.own.posts c.add_event.new.self c.args.place c.args.caller c.args.id c.args.args c.join_parts.ensures.posts c.add_event.ensures)

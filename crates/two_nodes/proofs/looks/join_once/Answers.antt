@@ -44,12 +44,12 @@ joined-requires-clause-made c =
     rw c.take-made.ensures.value
     (join-made c.args.invocation.now.caller c.args.invocation.now.call.now c.args.args lent.own.now (behind lent.peer) (behind lent.group) c.args.room.now.made c.requires.joins c.requires.room.recording.made)
 
-pub returns-clause-waits : goal.returns-clause-waits
-returns-clause-waits c =
+pub returns-clause-pending : goal.returns-clause-pending
+returns-clause-pending c =
     let call = c.args.invocation.now.call.now in
     let same : c.named_group-id.result ≡ group_of call = c.named_group-id.ensures ∙ ap (λ (r : CallRow). unwrap_or r.group 0) c.args.invocation.now.rowed in
     let posts = c.joined.new.self.own.now.posts in
-    let here = subst (λ (n : ℕ). IsPendingFor posts c.args.invocation.now.caller.thread n (joining_call n c.args.args)) same c.joined.ensures.waits in
+    let here = subst (λ (n : ℕ). IsPendingFor posts c.args.invocation.now.caller.thread n (joining_call n c.args.args)) same c.joined.ensures.pending in
     subst (λ (x : Call). IsPendingFor posts c.args.invocation.now.caller.thread (group_of call) x) (join-itself c.requires.joins.0 c.args.invocation.now.caller call c.args.args c.requires.joins.1.joins) here
 
 pub returns-clause-left : goal.returns-clause-left

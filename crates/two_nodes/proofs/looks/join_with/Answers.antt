@@ -32,8 +32,8 @@ answer_in-found-requires-clause-lent c =
       lends = joined-for may.0 m.0 caller call c.args.args c.args.places.now old.own.now new.own.now (behind old.peer) (behind new.peer) (behind old.group) (behind new.group) may.1 m.1 left;
     }
 
-pub answer_in-found-requires-clause-waits : goal.answer_in-found-requires-clause-waits
-answer_in-found-requires-clause-waits c = (group_of c.args.invocation.now.call.now, c.join_once.ensures.waits)
+pub answer_in-found-requires-clause-pending : goal.answer_in-found-requires-clause-pending
+answer_in-found-requires-clause-pending c = (group_of c.args.invocation.now.call.now, c.join_once.ensures.pending)
 
 pub complete-requires-clause-step : goal.complete-requires-clause-step
 complete-requires-clause-step c =

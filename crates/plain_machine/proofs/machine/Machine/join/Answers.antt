@@ -15,7 +15,7 @@ invariant_of-self c =
     let named =
     c.self.invariant.0.named
     ∙ sym (quiet_steps old new event (recorded_of c.join_found.result) c.self.invariant.0.sound c.self.invariant.0.fitting refl refl c.join_found.ensures.step) in (
-      stepped old new event _ _ _ _ (recorded_of c.join_found.result) c.soundness.ensures.steps c.self.invariant.0 c.join_found.ensures.step c.join_found.ensures.taken named,
+      stepped old new event _ _ _ _ (recorded_of c.join_found.result) c.soundness.ensures.steps c.self.invariant.0 c.join_found.ensures.step c.join_found.ensures.used named,
       counts_joined c.self.inside.counts old new c.args.invocation.now.caller (group_of c.args.invocation.now.call.now) c.args.args (recorded_of c.join_found.result) c.soundness.ensures.limits c.self.invariant.1 c.join_found.ensures.step,
     )
 

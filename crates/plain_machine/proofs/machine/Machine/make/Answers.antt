@@ -8,7 +8,7 @@ use Rattle.plain_machine.proofs.machine.Machine.make.Goals as goal
 pub invariant_of-self : goal.invariant_of-self
 invariant_of-self c = (
   stepped (state_in c.self.inside.ranks c.self.inside.memories) _ (transfer_event (state_in c.self.inside.ranks c.self.inside.memories) c.args.transfer.now) _ _ _ _ (made_of c.make.result)
-      c.soundness.ensures.steps c.self.invariant.0 c.make.ensures.step c.make.ensures.taken c.make.ensures.named,
+      c.soundness.ensures.steps c.self.invariant.0 c.make.ensures.step c.make.ensures.used c.make.ensures.named,
   rw (c.forget_count.ensures, ← made_by (state_in c.self.inside.ranks c.self.inside.memories) c.args.transfer.now)
       (counts_left c.self.inside.counts (state_in c.self.inside.ranks c.self.inside.memories) (state_in c.make.new.ranks c.make.new.memories)
       (transfer_event (state_in c.self.inside.ranks c.self.inside.memories) c.args.transfer.now) (made_of c.make.result) c.soundness.ensures.limits c.self.invariant.1 c.make.ensures.step),

@@ -11,7 +11,7 @@ use Rattle.plain_machine.proofs.machine.Machine.record.Goals as goal
 pub invariant_of-self : goal.invariant_of-self
 invariant_of-self c = (
   stepped (state_in c.self.inside.ranks c.self.inside.memories) _ (Called c.args.invocation.now.caller c.args.invocation.now.call.now (recorded_reply c.args.look.ready)) _ _ _ _ (recorded_of c.record_with_lanes.result)
-      c.soundness.ensures.steps c.self.invariant.0 c.record_with_lanes.ensures.step c.record_with_lanes.ensures.taken c.record_with_lanes.ensures.named,
+      c.soundness.ensures.steps c.self.invariant.0 c.record_with_lanes.ensures.step c.record_with_lanes.ensures.used c.record_with_lanes.ensures.named,
   rw c.forget_moved.ensures
       (counts_recorded c.self.inside.counts (state_in c.self.inside.ranks c.self.inside.memories) (state_in c.record_with_lanes.new.ranks c.record_with_lanes.new.memories) c.args.invocation.now.caller c.args.invocation.now.call.now (recorded_reply c.args.look.ready) (recorded_of c.record_with_lanes.result)
       c.soundness.ensures.limits c.self.invariant.1 c.record_with_lanes.ensures.step),

@@ -10,8 +10,8 @@ use Rattle.gaspi_types.specs.declared.groups.Contribution.{Contribution}
 use Rattle.gaspi_types.specs.declared.groups.Group.{Group}
 use Rattle.gaspi_types.specs.declared.groups.RankContributions.{RankContributions}
 use Rattle.gaspi_types.proofs.Items.{same-or-not, there-within, changed_at-found, slice_get-set_same, slice_get-set_other, prefix-of-joined, behind-of-joined}
-use Rattle.collective_engine.specs.RoundBuffers.{RoundBuffers, ranks_of, is_in, IsMember, joined_by, completed_by, contribution_by, with_contribution, with_round_completed, AreRoundBuffers, StandsFor}
-use Rattle.collective_engine.proofs.Alike.{full-alike, first-alike, made-alike, folded-alike}
+use Rattle.collective_engine.specs.RoundBuffers.{RoundBuffers, ranks_of, is_in, IsMember, joined_by, completed_by, contribution_by, with_contribution, with_round_completed, AreRoundBuffers, Represents}
+use Rattle.collective_engine.proofs.Alike.{full-alike, first-alike, made-alike, reduced-alike}
 use Rattle.collective_engine.proofs.Giving.{joined-now, joined-other, contributed-other, contributed-now, contributed-before, contributed-later, ordered}
 use Rattle.collective_engine.proofs.Members.{all_members}
 use Rattle.collective_engine.proofs.RoundSteps.{completed-now, completed-other}
@@ -22,7 +22,7 @@ pub members-same : (g : Group) (members : Option ℕ) → g.members ≡ members 
 members-same g None is = rw is refl
 members-same g (Some mask) is = rw is refl
 
-module _ (g : Group) (t : RoundBuffers) (rank : ℕ) (ok : AreRoundBuffers t.members t.buffers) (stands : StandsFor g t) (below : rank < 16) (mine : (m : ℕ) → IsMember t.members m → is_in t.members rank ≡ true) where
+module _ (g : Group) (t : RoundBuffers) (rank : ℕ) (ok : AreRoundBuffers t.members t.buffers) (stands : Represents g t) (below : rank < 16) (mine : (m : ℕ) → IsMember t.members m → is_in t.members rank ≡ true) where
   -- what a member has given to the round of another, the buffers have
   reads : (m : ℕ) → IsMember t.members m → contribution_in g (completed_by t.buffers rank) m ≡ contribution_by t.buffers (completed_by t.buffers rank) m
   reads m its =
@@ -49,11 +49,11 @@ module _ (g : Group) (t : RoundBuffers) (rank : ℕ) (ok : AreRoundBuffers t.mem
       let round = stands.completed rank in
       rw (round, members-same g t.members stands.members) (made-alike (contribution_in g (completed_by t.buffers rank)) (contribution_by t.buffers (completed_by t.buffers rank)) (ranks_of t.members) all_read)
 
-  pub fold-stands : (op : Op) (num_type : NumType) → round_reduction g rank op num_type ≡ reduction_of (contribution_by t.buffers (completed_by t.buffers rank)) op num_type (ranks_of t.members)
-  fold-stands op num_type =
+  pub reduction_of-stands : (op : Op) (num_type : NumType) → round_reduction g rank op num_type ≡ reduction_of (contribution_by t.buffers (completed_by t.buffers rank)) op num_type (ranks_of t.members)
+  reduction_of-stands op num_type =
       let round = stands.completed rank in
       ap (λ (items : List ℤ). record { num_type = num_type; items = items })
-      (rw (round, members-same g t.members stands.members) (folded-alike (contribution_in g (completed_by t.buffers rank)) (contribution_by t.buffers (completed_by t.buffers rank)) op num_type (ranks_of t.members) all_read))
+      (rw (round, members-same g t.members stands.members) (reduced-alike (contribution_in g (completed_by t.buffers rank)) (contribution_by t.buffers (completed_by t.buffers rank)) op num_type (ranks_of t.members) all_read))
 
 -- The parts of a group with one of them changed.
 
@@ -79,7 +79,7 @@ past [] i h = refl
 past (x ∷ xs) zero h = absurd (let no : ⊥ = omega arith in no)
 past (x ∷ xs) (suc i) h = past xs i (omega arith)
 
-module _ (g : Group) (t : RoundBuffers) (rank : ℕ) (c : Contribution) (ok : AreRoundBuffers t.members t.buffers) (stands : StandsFor g t) (below : rank < 16) (within : rank < length g.contributions) where
+module _ (g : Group) (t : RoundBuffers) (rank : ℕ) (c : Contribution) (ok : AreRoundBuffers t.members t.buffers) (stands : Represents g t) (below : rank < 16) (within : rank < length g.contributions) where
   joined_here : contributions_of (with_joined g rank c) rank ≡ record { contributions = (contributions_of g rank).contributions ++ c ∷ []; completed = (contributions_of g rank).completed }
   joined_here = contributions-now g (fixed_by g.members c.args.coll) rank (λ (p : RankContributions). record p { contributions = p.contributions ++ c ∷ [] }) within
 
@@ -95,7 +95,7 @@ module _ (g : Group) (t : RoundBuffers) (rank : ℕ) (c : Contribution) (ok : Ar
       (λ this. behind-of-joined (contributions_of g rank).contributions (c ∷ []) 0 round (omega arith) ∙ (rw this (sym (contributed-now t.buffers ok.capacity rank c below))))
       (λ later. past ((contributions_of g rank).contributions ++ c ∷ []) round (omega (arith, length-append (contributions_of g rank).contributions (c ∷ []))) ∙ sym (contributed-later t.buffers ok.capacity rank c below round later))
 
-  pub stands-joined : StandsFor (with_joined g rank c) (record { members = fixed_by t.members c.args.coll; buffers = with_contribution t.buffers rank c })
+  pub stands-joined : Represents (with_joined g rank c) (record { members = fixed_by t.members c.args.coll; buffers = with_contribution t.buffers rank c })
   stands-joined = record {
     members = ap (λ (o : Option ℕ). fixed_by o c.args.coll) stands.members;
     joined = λ r. same-or-not r rank
@@ -115,7 +115,7 @@ module _ (g : Group) (t : RoundBuffers) (rank : ℕ) (c : Contribution) (ok : Ar
 
 -- Leaving.
 
-module _ (g : Group) (t : RoundBuffers) (rank : ℕ) (ok : AreRoundBuffers t.members t.buffers) (stands : StandsFor g t) (below : rank < 16) (mine : is_in t.members rank ≡ true)
+module _ (g : Group) (t : RoundBuffers) (rank : ℕ) (ok : AreRoundBuffers t.members t.buffers) (stands : Represents g t) (below : rank < 16) (mine : is_in t.members rank ≡ true)
     (full : is_full (contribution_by t.buffers (completed_by t.buffers rank)) (ranks_of t.members) ≡ true) (given : completed_by t.buffers rank < joined_by t.buffers rank) where
   -- a rank that has joined has a part
   has_contributions : rank < length g.contributions
@@ -131,7 +131,7 @@ module _ (g : Group) (t : RoundBuffers) (rank : ℕ) (ok : AreRoundBuffers t.mem
   left_there : (r : ℕ) → r ≢ rank → contributions_of (with_completed g rank) r ≡ contributions_of g r
   left_there r apart = contributions-other g g.members rank (λ (p : RankContributions). record p { completed = p.completed + 1 }) has_contributions r apart
 
-  pub stands-left : StandsFor (with_completed g rank) (record { members = t.members; buffers = with_round_completed t.buffers rank })
+  pub stands-left : Represents (with_completed g rank) (record { members = t.members; buffers = with_round_completed t.buffers rank })
   stands-left = record {
     members = stands.members;
     joined = λ r. same-or-not r rank

@@ -1,4 +1,4 @@
-//! The fold of a round. (GASPI: allreduce)
+//! The reduction of a round. (GASPI: allreduce)
 
 ghost use Rattle.std.specs.Prelude.{◌≡◌, ◌≤◌, IsSome, length};
 ghost use Rattle.std.specs.List.{AllByRecursion};
@@ -11,7 +11,7 @@ use crate::buffers::{Buffers, given};
 use gaspi_model::reduce;
 use gaspi_types::{NumType, Numbers, Op, RankId, Sequence};
 
-/// The numbers that a rank has given to a round.
+/// The numbers of a rank's contribution to a round.
 fn values(buffers: &Buffers, round: u32, rank: RankId) -> &[i128]
     requires { IsSome (contribution_by buffers.now round rank) }
     ensures items { result.now ≡ values_in (contribution_by buffers.now round rank) }
@@ -20,8 +20,8 @@ fn values(buffers: &Buffers, round: u32, rank: RankId) -> &[i128]
     given(buffers, round, rank).unwrap().values()
 }
 
-/// Folds what some members have given to a round onto a total, in their order. All have given as many numbers, of its type.
-fn fold_onto(
+/// Reduces the contributions of some members to a round onto a total, in their order. All have contributed as many numbers, of its type.
+fn reduce_onto(
     buffers: &Buffers,
     round: u32,
     op: Op,
@@ -31,21 +31,21 @@ fn fold_onto(
 )
     requires range { AreInType num_type total.old }
     requires given { AllByRecursion (λ m. GivesNumbers num_type (length total.old) (contribution_by buffers.now round m)) members.now }
-    ensures folded { total.new ≡ reduced_onto (contribution_by buffers.now round) op num_type total.old members.now }
+    ensures reduced { total.new ≡ reduced_onto (contribution_by buffers.now round) op num_type total.old members.now }
     ensures range { AreInType num_type total.new }
 {
     match members {
         [] => {}
         [member, others @ ..] => {
             reduce(op, num_type, total, values(buffers, round, *member));
-            fold_onto(buffers, round, op, num_type, total, others);
+            reduce_onto(buffers, round, op, num_type, total, others);
         }
     }
 }
 
-/// What the numbers that some members have given to a round come to, put into a list that was reserved. All have given `count`
+/// What the contributions of some members to a round come to, put into a list that was reserved. All have contributed `count`
 /// numbers of a type.
-pub(crate) fn fold(
+pub(crate) fn reduction_of(
     buffers: &Buffers,
     round: u32,
     op: Op,
@@ -68,7 +68,7 @@ pub(crate) fn fold(
             reserved.truncate(count as usize);
             reserved.overwrite(0, values(buffers, round, *first));
             let mut items = reserved.into_vec();
-            fold_onto(buffers, round, op, num_type, items.as_mut_slice(), others);
+            reduce_onto(buffers, round, op, num_type, items.as_mut_slice(), others);
             Numbers::new(num_type, Sequence::from_vec(items))
         }
     }

@@ -1,10 +1,10 @@
 use Rattle.std.proofs.Common.{ℤ, List, length, sym, ap, ◌∙◌}
 use Rattle.gaspi_types.specs.Collectives.{contribution_in}
 use Rattle.plain_calls.proofs.Rounds.{count-first}
-use Rattle.plain_calls.proofs.contributions.fold.Goals as goal
+use Rattle.plain_calls.proofs.contributions.reduction_of.Goals as goal
 
-pub fold_onto-requires-clause-alike : goal.fold_onto-requires-clause-alike
-fold_onto-requires-clause-alike c =
+pub reduce_onto-requires-clause-alike : goal.reduce_onto-requires-clause-alike
+reduce_onto-requires-clause-alike c =
     let items = c.as_mut_slice-items.ensures.value ∙ c.in_ok-total-in-len1-up.ensures.items ∙ c.values_in.ensures.values in
     let count =
     ap (λ (values : List ℤ). length values) items
