@@ -1,7 +1,7 @@
 //! The schedule of a world's scripts on one thread.
 
 ghost use Rattle.std.specs.Prelude.{◌≡◌, ℕ, ◌<◌, ◌≤◌, ◌++◌, OnOk, IfOk, true};
-ghost use Rattle.gaspi_texts.specs.JournalText.{AreInRange};
+ghost use Rattle.gaspi_texts.specs.JournalText.{AreInRange, HaveOwnValues};
 ghost use Rattle.gaspi_types.specs.World.{IsShape};
 ghost use Rattle.gaspi_model.specs.Step.{is_legal};
 ghost use Rattle.rank_script.specs.PlainScripts.{ArePlain};
@@ -96,6 +96,7 @@ pub fn schedule(
     ensures settled { IfOk result (λ ran. HasSettled shape.now ran.journal) }
     ensures runs { IfOk result (λ ran. HaveEnded shape.now scripts.now ran.journal ran.outcomes) }
     ensures ranges { IfOk result (λ ran. AreInRange ran.journal) }
+    ensures values { IfOk result (λ ran. HaveOwnValues ran.journal) }
 {
     soundness();
     enabled();

@@ -1,6 +1,7 @@
 //! The scripts of a world on threads: each caller and each worker on one of its own.
 
 ghost use Rattle.std.specs.Prelude.{◌≡◌, ◌≤◌, IfOk, true, Some, map};
+ghost use Rattle.gaspi_texts.specs.JournalText.{HaveOwnValues};
 ghost use Rattle.commit_table.specs.Calls.{AreWhole};
 ghost use Rattle.gaspi_model.specs.Step.{is_legal};
 ghost use Rattle.gaspi_model.specs.ContributionCounts.{ContributesOnce};
@@ -58,7 +59,8 @@ pub fn run_on_threads<R: Threads + Wait + Sync>(
     requires limit { 1 ≤ limit }
     requires workers { (1 ≤ workers) × (workers ≤ 4) }
     requires scripts { AreScriptsOf shape.now scripts.now }
-    ensures { IfOk result (λ ran. HasRunWorld shape.now scripts.now workers limit ran.journal (Some ran.tally) ran.outcomes) }
+    ensures ran { IfOk result (λ ran. HasRunWorld shape.now scripts.now workers limit ran.journal (Some ran.tally) ran.outcomes) }
+    ensures values { IfOk result (λ ran. HaveOwnValues ran.journal) }
 {
     settling();
     notification_order();

@@ -17,4 +17,4 @@ pub returns-clause-told : goal.returns-clause-told
 returns-clause-told g c =
     rw c.with_text.ensures (has-benched c.bench_calls.ensures c.bench_transfers.ensures c.bench_notifications.ensures c.bench_words.ensures.sum c.args.seed c.args.ranks c.args.rounds c.in_ok-shape.shape c.in_ok-shape.scripts
     c.in_ok-journal.field-0.journal (Some c.in_ok-journal.field-0.tally) c.in_ok-journal.field-0.outcomes _ _ _ c.requires.0 c.requires.1 c.in_ok-shape.ensures.shape c.in_ok-shape.ensures.scripts
-    c.in_ok-journal.ensures c.in_ok-numbers.ensures c.in_ok-text.ensures (c.run_status-status.ensures ∙ ap run_status c.as_slice.ensures))
+    c.in_ok-journal.ensures.ran c.in_ok-numbers.ensures c.in_ok-text.ensures (c.run_status-status.ensures ∙ ap run_status c.as_slice.ensures))

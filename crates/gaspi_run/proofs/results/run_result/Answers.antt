@@ -9,7 +9,7 @@ returns-clause-told g c = rw c.in_ok-told.ensures (record {
   scripts = c.in_ok-shape.scripts;
   finished = c.in_ok-journal.field-0.outcomes;
   read = c.in_ok-shape.ensures.exact;
-  ran = c.in_ok-journal.ensures;
+  ran = c.in_ok-journal.ensures.ran;
   text_is = refl;
   status_is = c.run_status-status.ensures ∙ ap run_status c.as_slice.ensures;
 })

@@ -64,3 +64,12 @@ journal_is_in_range-requires c =
     (known _ _ (laws c.soundness.ensures.steps c.soundness.ensures.limits c.soundness.ensures.active c.enabled.ensures.call (join-laws c.soundness.ensures.limits c.enabled.ensures.join c.enabled.ensures.itself c.enabled.ensures.joined c.enabled.ensures.pending c.enabled.ensures.needs) c.runs.ensures.onward c.runs.ensures.ended c.runs.ensures.stopped)
     c.soundness.ensures.counts c.enabled.ensures.transfer c.soundness.ensures.opens c.in_ok-starts.ensures.world c.requires.scripts c.in_ok-starts.ensures.plain)
     c.loop-schedule.invariant)
+
+pub returns-clause-values : goal.returns-clause-values
+returns-clause-values c =
+    let over = c.in_ok-iterate.ensures.over (cc) in
+    subst (λ (t : ScheduleState). HaveOwnValues t.journal) (sym over.1)
+    (iterated-own c.args.shape.now c.args.scripts.now c.args.seed c.args.limit c.loop-schedule.schedule
+    (known _ _ (laws c.soundness.ensures.steps c.soundness.ensures.limits c.soundness.ensures.active c.enabled.ensures.call (join-laws c.soundness.ensures.limits c.enabled.ensures.join c.enabled.ensures.itself c.enabled.ensures.joined c.enabled.ensures.pending c.enabled.ensures.needs) c.runs.ensures.onward c.runs.ensures.ended c.runs.ensures.stopped)
+    c.soundness.ensures.counts c.enabled.ensures.transfer c.soundness.ensures.opens c.in_ok-starts.ensures.world c.requires.scripts c.in_ok-starts.ensures.plain)
+    c.loop-schedule.invariant)

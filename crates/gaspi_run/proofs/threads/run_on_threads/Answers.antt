@@ -27,8 +27,8 @@ closed-requires g c = whole c.in_ok-world.field-0.world c.args.scripts.now c.arg
 pub journal_is_in_range-requires : goal.journal_is_in_range-requires
 journal_is_in_range-requires g c = legal-has-own c.in_ok-world.field-0.world.start.shape c.in_ok-journal.journal c.in_ok-journal.ensures.legal
 
-pub returns : goal.returns
-returns g c =
+pub returns-clause-ran : goal.returns-clause-ran
+returns-clause-ran g c =
     let all = known c.in_ok-world.field-0.world c.args.scripts.now c.args.limit c.args.workers c.in_ok-passes.field-0.passes.items c.in_ok-passes.field-0.outcomes c.args.shape.now c.in_ok-journal.journal c.in_ok-journal.tally
     c.in_ok-world.ensures.start c.in_ok-world.ensures.all c.requires.workers.0 c.in_ok-world.ensures.world c.requires.scripts c.in_ok-passes.ensures.plain c.in_ok-passes.ensures.ran
     c.in_ok-journal.ensures.tally c.in_ok-journal.ensures.passes c.in_ok-journal.ensures.legal c.in_ok-journal.ensures.seen c.in_ok-journal.ensures.done c.settling.ensures.stays c.waits_last.ensures in
