@@ -303,7 +303,7 @@ module _ (w : ShapeValue) (c : CallerId) (lines : List ScriptLine) (limit : ℕ)
         → HasRunTo w c lines limit (moved (AtLine line made later) r) v n
     comes-going onward itself on still (Ok reply) plain so_far told = comes-called onward itself on reply plain so_far told
     comes-going onward itself on still (Err EventLimit) plain so_far told = comes-stopped itself still true (outcomes.Limit line.number) (inl refl) (λ is. refl) (λ is. refl) so_far told
-    comes-going onward itself on still (Err NoMemory) plain so_far told = comes-stopped itself still false (outcomes.NoMemory line.number) (inr refl) (λ is. (let no : ⊥ = cc in absurd no)) (λ is. (let no : ⊥ = cc in absurd no)) so_far told
+    comes-going onward itself on still (Err NoMemory) plain so_far told = comes-stopped itself still false (outcomes.NoMemory line.number) (inr refl) (λ is. (let no : ⊥ = cc in absurd no)) (λ is. (let no : ⊥ = cc in absurd no)) so_far told.1
 
   -- the end makes the run whole
   pub has-run : Ended → Stopped → WaitsCalled → (v m n : PassView Start Event) (outcome : RunOutcome) → HasRunTo w c lines limit (RunEnded outcome) v m → IsCalled w c End (Looks 1) Done m n

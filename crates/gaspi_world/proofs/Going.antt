@@ -28,7 +28,7 @@ module _ {S : Type 0} (w : ShapeValue) (c : CallerId) where
   pub call-goes-on : (call : Call) (timeout : timeouts.Timeout) (v n : PassView S Event) (r : Result Reply Stop) → Calls w c call timeout v r n → IsExtended w c v n
   call-goes-on call timeout v n (Ok reply) told = told.goes_on
   call-goes-on call timeout v n (Err stops.EventLimit) told = told.goes_on
-  call-goes-on call timeout v n (Err stops.NoMemory) told = told.goes_on
+  call-goes-on call timeout v n (Err stops.NoMemory) told = told.1.goes_on
 
 pub may-call-on : (t : TableValue Start) (p q : PassValue Start Event) → (may : MayCall t p) → q.table ≡ p.table → HoldsNone q.known → IsExtended t.start.shape may.2.0 p.known q.known → MayCall t q
 may-call-on t p q may table free goes =

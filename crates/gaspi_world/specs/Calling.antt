@@ -1,7 +1,7 @@
 -- What a call tells, which may look more than once.
 use Rattle.std.specs.Prelude.{◌≡◌, ℕ, ◌+◌, ◌<◌, Bool, true, false, List, [], ◌∷◌, ◌++◌, map, length, slice_get, Some, Result, Ok, Err}
 use mathlib.Core.List.{IsPrefix}
-use Rattle.gaspi_types.specs.CallRows.{is_collective}
+use Rattle.gaspi_types.specs.CallRows.{is_collective, row_of}
 use Rattle.gaspi_types.specs.World.{ShapeValue}
 use Rattle.gaspi_types.specs.declared.calls.Call.{Call}
 use Rattle.gaspi_types.specs.declared.calls.Timeout as timeouts
@@ -93,10 +93,11 @@ module _ {S : Type 0} (w : ShapeValue) (c : CallerId) where
     pub room : lacks_room_after w c call last ≡ full
     pub now : full ≡ true → last ≡ n.seen
 
+  -- how a call ended: there is want of memory only at a call that may take memory
   abbrev pub Calls : Call → timeouts.Timeout → PassView S Event → Result Reply Stop → PassView S Event → Type 0
   Calls call timeout v (Ok reply) n = IsCalled call timeout reply v n
   Calls call timeout v (Err EventLimit) n = IsStopped call timeout true v n
-  Calls call timeout v (Err NoMemory) n = IsStopped call timeout false v n
+  Calls call timeout v (Err NoMemory) n = ((row_of call).takes_memory ≡ true) × IsStopped call timeout false v n
 
   -- what holds between two looks of a call
   pub record HasWaited (call : Call) (earlier : List (List Event)) (v n : PassView S Event) : Type 0 where
