@@ -96,22 +96,23 @@ arrow_head from to outcome = labelled (codes "    R") from ++ labelled (arrow ou
 abbrev pub entry_text : Outcome → Delivery → List ℕ
 entry_text outcome d = entry_word d ++ failed_word outcome
 
-abbrev pub arrow_line : ℕ → ℕ → ℕ → Outcome → Delivery → List ℕ
-arrow_line place origin target outcome d =
+-- the arrow of a transfer, with the queue of its entry
+abbrev pub arrow_line : ℕ → ℕ → ℕ → ℕ → Outcome → Delivery → List ℕ
+arrow_line place origin queue target outcome d =
     arrow_head (sender (way_of d) origin target) (receiver (way_of d) origin target) outcome
-    ++ decimal place ++ codes " " ++ entry_text outcome d ++ delivery_text d ++ codes "\n"
+    ++ decimal place ++ codes " " ++ entry_text outcome d ++ delivery_text d ++ labelled (codes ", queue ") queue ++ codes "\n"
 
-abbrev pub transfer_line : ℕ → ℕ → ℕ → Outcome → Option Delivery → List ℕ
-transfer_line place origin target outcome None = []
-transfer_line place origin target outcome (Some d) = arrow_line place origin target outcome d
+abbrev pub transfer_line : ℕ → ℕ → ℕ → ℕ → Outcome → Option Delivery → List ℕ
+transfer_line place origin queue target outcome None = []
+transfer_line place origin queue target outcome (Some d) = arrow_line place origin queue target outcome d
 
 -- the line of the event at a place, where its entry brings that: none of a take that is ok
 abbrev pub event_line : ℕ → Event → Option Delivery → List ℕ
 event_line place (Called c call reply) d = note_line place c.rank (called_text c call reply)
 event_line place (Joined c id args) d = note_line place c.rank (shortened (event_text (Joined c id args)))
 event_line place (Take origin queue target number Applied) d = []
-event_line place (Take origin queue target number Failed) d = transfer_line place origin target Failed d
-event_line place (Put origin queue target number outcome) d = transfer_line place origin target outcome d
+event_line place (Take origin queue target number Failed) d = transfer_line place origin queue target Failed d
+event_line place (Put origin queue target number outcome) d = transfer_line place origin queue target outcome d
 
 -- what the entry of a transfer brings that stands in a state
 abbrev pub entry_brings : Option Entry → Option Delivery

@@ -8,7 +8,9 @@ ghost use Rattle.journal_pictures.specs.Diagram.{arrow, arrow_head, arrow_line, 
 
 use crate::deliveries::Delivery;
 use gaspi_texts::{write_call, write_event, write_number, write_reply};
-use gaspi_types::{Bytes, Call, CallerId, Direction, Event, NoMemory, Outcome, RankId, Reply};
+use gaspi_types::{
+    Bytes, Call, CallerId, Direction, Event, NoMemory, Outcome, QueueId, RankId, Reply,
+};
 use std::alloc::Global;
 
 /// The most bytes that stand of the text of a call, a reply or a join.
@@ -250,16 +252,17 @@ fn append_entry(text: &mut Bytes, outcome: Outcome, delivery: &Delivery) -> Resu
     }
 }
 
-/// Adds the arrow of a transfer.
+/// Adds the arrow of a transfer, with the queue of its entry.
 fn write_arrow(
     text: &mut Bytes,
     place: u64,
     origin: RankId,
+    queue: QueueId,
     target: RankId,
     outcome: Outcome,
     delivery: &Delivery,
 ) -> Result<(), NoMemory>
-    ensures { OnOk result (text.new ≡ text.old ++ arrow_line place origin target outcome delivery.now) }
+    ensures { OnOk result (text.new ≡ text.old ++ arrow_line place origin queue target outcome delivery.now) }
 {
     match way_of(delivery) {
         Direction::Outward => append_arrow(text, origin, target, outcome)?,
@@ -269,6 +272,7 @@ fn write_arrow(
     text.append(b" ")?;
     append_entry(text, outcome, delivery)?;
     append_delivery(text, delivery)?;
+    append_labelled(text, b", queue ", u64::from(queue.number()))?;
     text.append(b"\n")
 }
 
@@ -277,14 +281,15 @@ fn write_transfer(
     text: &mut Bytes,
     place: u64,
     origin: RankId,
+    queue: QueueId,
     target: RankId,
     outcome: Outcome,
     delivery: Option<Delivery>,
 ) -> Result<(), NoMemory>
-    ensures { OnOk result (text.new ≡ text.old ++ transfer_line place origin target outcome delivery) }
+    ensures { OnOk result (text.new ≡ text.old ++ transfer_line place origin queue target outcome delivery) }
 {
     match delivery {
-        Some(delivery) => write_arrow(text, place, origin, target, outcome, &delivery),
+        Some(delivery) => write_arrow(text, place, origin, queue, target, outcome, &delivery),
         None => Ok(()),
     }
 }
@@ -302,11 +307,17 @@ pub(crate) fn write_line(
         Event::Called(caller, call, reply) => write_called(text, place, *caller, call, reply),
         Event::Joined(caller, _, _) => write_joined(text, place, caller.rank, event),
         Event::Take(_, _, _, _, Outcome::Applied) => Ok(()),
-        Event::Take(origin, _, target, _, Outcome::Failed) => {
-            write_transfer(text, place, *origin, *target, Outcome::Failed, delivery)
-        }
-        Event::Put(origin, _, target, _, outcome) => {
-            write_transfer(text, place, *origin, *target, *outcome, delivery)
-        }
+        Event::Take(origin, queue, target, _, Outcome::Failed) => write_transfer(
+            text,
+            place,
+            *origin,
+            *queue,
+            *target,
+            Outcome::Failed,
+            delivery,
+        ),
+        Event::Put(origin, queue, target, _, outcome) => write_transfer(
+            text, place, *origin, *queue, *target, *outcome, delivery,
+        ),
     }
 }
