@@ -7,6 +7,7 @@ import re
 import shutil
 import subprocess
 import tempfile
+import threading
 import time
 from dataclasses import dataclass, field
 from pathlib import Path
@@ -27,12 +28,13 @@ class Libraries:
     top: Path  # the clone whose crates/*/out/rlib are used
     below: dict[str, list[str]]  # what each crate names, as crates.txt has it
     kit: Path
+    turns: threading.Semaphore  # held during a check
 
     @classmethod
-    def of(cls, top: Path, crates: Path) -> Libraries:
+    def of(cls, top: Path, crates: Path, jobs: int) -> Libraries:
         lines = [it.partition("#")[0] for it in crates.read_text().splitlines()]
         halves = [it.split(":") for it in lines if ":" in it]
-        return cls(top, {it[0].split()[0]: it[1].split() for it in halves}, kit())
+        return cls(top, {it[0].split()[0]: it[1].split() for it in halves}, kit(), threading.Semaphore(jobs))
 
     def own_below(self, crate: str) -> list[str]:
         """The repository's crates below this one, each once."""
@@ -112,6 +114,7 @@ class Check:
     functions: dict[str, Said]
     unread: list[tuple[str, int, str]]  # a path, a line and what is wrong there
     has_ended: bool  # whether each function that was asked for has a verdict
+    seconds: float = 0
 
     def of(self, crate: str, function: Function) -> dict[str, Said]:
         """What is said of a function and of the closures in it, by their names."""
@@ -148,7 +151,8 @@ def parsed(crate: str, status: int, output: str) -> Check:
 
 def check(libraries: Libraries, crate: str, texts: dict[str, str], only: list[str]) -> Check:
     """Checks these files in a folder of their own: the functions named, or all where none is named."""
-    with tempfile.TemporaryDirectory(prefix="wrong-bodies-") as room:
+    with libraries.turns, tempfile.TemporaryDirectory(prefix="wrong-bodies-") as room:
+        began = time.monotonic()
         here = Path(room)
         write(here, texts)
         root = "src/main.rt" if "src/main.rt" in texts else "src/lib.rt"
@@ -163,7 +167,8 @@ def check(libraries: Libraries, crate: str, texts: dict[str, str], only: list[st
                 lines.append(line)
                 if found := re.match(r"checked (\S+), \d+ of \d+", line):
                     seconds[found[1]], last = time.monotonic() - last, time.monotonic()
-    found = parsed(crate, ran.returncode, "".join(lines))
+        found = parsed(crate, ran.returncode, "".join(lines))
+        found.seconds = time.monotonic() - began
     for name, said in found.functions.items():
         said.seconds = seconds.get(name, seconds.get(name.removeprefix(f"{crate}::"), 0))
     return found
