@@ -397,7 +397,7 @@ class Table:
     def journal_cuts(self, world: str) -> Iterator[Case]:
         """A legal journal behind a world text, cut after each of its bytes, from none to all.
 
-        The line is named that is cut, or the one behind the last line feed. A front part of its first word is a line of
+        The line is named that is cut, or the one behind the last line feed. A prefix of its first word is a line of
         the world text.
         """
         front, journal = self.text(world), self.block()
@@ -412,7 +412,7 @@ class Table:
     def torn(self, names: str) -> Iterator[Case]:
         """Rows `WORDS STATUS: OUTPUT` of what a command gives of texts, or, without their names, of what reads nothing.
 
-        Where a read fails behind a front part of the texts, nothing is written; where a write fails behind a front part of
+        Where a read fails behind a prefix of the texts, nothing is written; where a write fails behind a prefix of
         the output, that is all.
         """
         source = "".join(self.text(name) for name in names.split(" ") if names)

@@ -127,7 +127,7 @@ uncalled-table table history e none is = record {
     same (Called c call reply) rank thread none = absurd (none c call reply refl)
     same transfer rank thread none = nothing transfer rank thread refl
 
--- the front part of a history, with its next event
+-- the prefix of a history, with its next event
 pub front-more : (table : List (List (List RecordedCall))) (history : List Event) (i : ℕ) (e : Event) → i < length history → e ≡ get_or history i e
     → IsCallTable table (take i history ++ e ∷ []) → IsCallTable table (take (i + 1) history)
 front-more table history i e within at is =

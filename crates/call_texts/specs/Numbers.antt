@@ -17,6 +17,6 @@ number_up_to limit word =
 unfoldable pub number_of : List ℕ → Option ℕ
 number_of word = number_up_to 18446744073709551615 word
 
--- a notification value is below 2 ^ 32 (GASPI: notifications)
+-- a number of 32 bits, as a notification value is (GASPI: notifications)
 unfoldable pub value_of : List ℕ → Option ℕ
 value_of word = number_up_to 4294967295 word

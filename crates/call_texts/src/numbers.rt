@@ -27,7 +27,7 @@ pub fn read_number(word: &[u8]) -> Option<u64>
     Some(number)
 }
 
-/// The notification value that a word spells: a number of at most 4,294,967,295. (GASPI: notifications)
+/// The number of 32 bits that a word spells, as a notification value is: at most 4,294,967,295. (GASPI: notifications)
 #[tactic(auto, unfolding(crate::specs::Numbers::number_of, crate::specs::Numbers::value_of))]
 pub fn read_value(word: &[u8]) -> Option<u32>
     ensures { result ≡ value_of word.now }

@@ -27,7 +27,7 @@ fn two_events(alloc: Global) -> Result<Journal, NoMemory> {
     let mut reserved = ReservedJournal::with_capacity(alloc, 2)?;
     reserved.push(notified(caller()));
     reserved.push(taken(RankId::of(0)));
-    Ok(reserved.into_rows())
+    Ok(reserved.into_sequence())
 }
 
 /// The text of a journal, or nothing where some event has not its own values; each event of a run has them.
@@ -111,7 +111,7 @@ fn three_events(alloc: Global) -> Result<Journal, NoMemory> {
     reserved.push(notified(caller()));
     reserved.push(taken(RankId::of(0)));
     reserved.push(taken(RankId::of(1)));
-    Ok(reserved.into_rows())
+    Ok(reserved.into_sequence())
 }
 
 /// Whether rank journals are merged by place, and not put one behind another.

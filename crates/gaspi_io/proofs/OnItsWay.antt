@@ -48,7 +48,7 @@ pub written-on_ok : {A E : Type 0} (r : Result A E) (old : Option (List ℕ)) (t
 written-on_ok (Ok value) old text new new' block block' is emptied way = subst (λ (b : List ℕ). IsOnItsWay old text new' b) (sym emptied) (block-written old text new new' block way is)
 written-on_ok (Err error) old text new new' block block' is emptied way = is
 
--- a front part of the block written, of a text that goes on
+-- a prefix of the block written, of a text that goes on
 pub cut-in-block : (old : Option (List ℕ)) (text : List ℕ) (new new' : Option (List ℕ)) (block rest : List ℕ) → IsOnItsWay old text new block → AddsPrefix block new new' → AddsPrefix (text ++ rest) old new'
 cut-in-block old text new new' block rest way cut =
     let lengths : length (text ++ rest) ≡ length way.written + length block + length rest =

@@ -6,7 +6,7 @@ abbrev pub with_more : Option (List ℕ) → List ℕ → Option (List ℕ)
 with_more None more = None
 with_more (Some held) more = Some (held ++ more)
 
--- a front part of the piece was added, and not all of it
+-- a prefix of the piece was added, and not all of it
 pub record AddsPrefix (piece : List ℕ) (old new : Option (List ℕ)) : Type 0 where
   pub count : ℕ
   pub within : count < length piece

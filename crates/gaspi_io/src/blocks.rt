@@ -54,7 +54,7 @@ pub fn write_block<K: Sink>(sink: &mut K, block: &mut Bytes) -> Result<(), Faile
 }
 
 /// Writes all that a block holds, and empties it, where it is full, and does nothing where it is not. Where the sink fails, it has
-/// taken a front part of the block, which is shorter.
+/// taken a prefix of the block, which is shorter.
 pub fn write_full_block<K: Sink>(sink: &mut K, block: &mut Bytes) -> Result<(), Failed>
     ensures way { (old : Option (List ℕ)) (text : List ℕ) → IsOnItsWay old text (K.held sink.old) block.old → OnOk result (IsOnItsWay old text (K.held sink.new) block.new) }
     ensures front { OnErr result (AddsPrefix block.old (K.held sink.old) (K.held sink.new)) }

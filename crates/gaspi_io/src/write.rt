@@ -7,7 +7,7 @@ ghost use Rattle.gaspi_io.specs.Sink.{with_more, AddsPrefix};
 use crate::faults::Failed;
 use crate::sink::Sink;
 
-/// Writes all of a piece. Where the sink fails, it has taken a front part of it, which is shorter than the piece.
+/// Writes all of a piece. Where the sink fails, it has taken a prefix of it, which is shorter than the piece.
 pub fn write_all<K: Sink>(sink: &mut K, piece: &[u8]) -> Result<(), Failed>
     ensures all { OnOk result (K.held sink.new ≡ with_more (K.held sink.old) piece.now) }
     ensures front { OnErr result (AddsPrefix piece.now (K.held sink.old) (K.held sink.new)) }

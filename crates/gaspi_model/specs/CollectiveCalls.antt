@@ -120,7 +120,7 @@ collective_result posts group me thread id call = do
   resume_result resumed posts group me handle.members call
 
 abbrev pub collective_ready : Result Ready Refusal → Ready
-collective_ready (Ok ok_or) = ok_or
+collective_ready (Ok found) = found
 collective_ready (Err refusal) = ready.Reply (replies.Refused refusal)
 
 -- what a look at a collective answers: that the caller has ended comes before everything else
@@ -132,19 +132,19 @@ collective_answer posts group me thread id call =
 
 -- whether a reply is the one with which a collective may be recorded that was looked at: one that has not joined has none
 abbrev pub is_reply_of : Ready → Reply → Bool
-is_reply_of (ready.Reply ok_or) reply = same_reply reply ok_or
+is_reply_of (ready.Reply answer) reply = same_reply reply answer
 is_reply_of (ready.Join args) reply = false
 is_reply_of ready.NotReady reply = same_reply reply replies.Timeout
 
 -- whether it may join
 abbrev pub is_joining : Ready → Bool
-is_joining (ready.Reply ok_or) = false
+is_joining (ready.Reply answer) = false
 is_joining (ready.Join may) = true
 is_joining ready.NotReady = false
 
 -- and with those arguments
 abbrev pub is_join_of : Ready → Args → Bool
-is_join_of (ready.Reply ok_or) args = false
+is_join_of (ready.Reply answer) args = false
 is_join_of (ready.Join may) args = same_args may args
 is_join_of ready.NotReady args = false
 

@@ -190,7 +190,7 @@ pub record AreMadeKnown (s t : State) (c : CallerId) (id segment size : ℕ) : T
   pub segments : (rank other : ℕ) → (other ≡ segment → ⊥) → known_of new rank other ≡ known_of posts rank other
   pub kept : new ≡ record (counted (with_pending id None posts)) { segments = record posts.segments { known = new.segments.known } }
 
--- An allreduce that is done answers the fold of what exactly the members have given to its round, its caller's own values among them.
+-- An allreduce that is done answers the reduction of what exactly the members have given to its round, its caller's own values among them.
 pub record IsReduction (s : State) (c : CallerId) (call : allreduce.Allreduce) (answer : TypedNumbers) : Type 0 where
   pub group : Group
   pub own : Contribution

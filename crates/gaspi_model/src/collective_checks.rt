@@ -1,4 +1,4 @@
-//! What collectives are refused for, whatever is pending. (GASPI: collectives, allreduce)
+//! The checks of collectives that do not read what is pending; `pendings.rt` has those that do. (GASPI: collectives, allreduce)
 
 ghost use Rattle.std.specs.Prelude.{◌≡◌, Option, Some, OnOk};
 ghost use Rattle.gaspi_types.specs.Collectives.{count_checks, type_checks, fits};

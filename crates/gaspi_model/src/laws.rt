@@ -155,7 +155,7 @@ pub fn enabled()
 /// gives one contribution to its rank's round and is pending; that of a segment_create makes its segment besides, as an alloc does, and
 /// gives its generation; a collective that is done was pending for its caller with its arguments, every member has given to its round,
 /// and it is pending no more: a commit marks its group committed, a segment_create makes the segments of all members known, in the
-/// generations that they gave and in its size, and an allreduce answers the fold of what the members have given. An end ends its
+/// generations that they gave and in its size, and an allreduce answers the reduction of what the members have given. An end ends its
 /// caller. A refusal or a timeout changes nothing; and in each case nothing else has changed but the count of events. (GASPI: one-sided
 /// communication, notifications, state vector, segments, atomics, passive communication, groups, timeouts)
 pub fn changes()
@@ -226,7 +226,7 @@ pub fn changes()
         → AreMadeKnown s t c call.group call.seg call.size }
     ensures reduced { (s t : State) (c : CallerId) (call : allreduce.Allreduce) (answer : TypedNumbers) → IsSound s
         → step s (Called c (calls.Allreduce call) (replies.List answer)) ≡ Ok t → IsCompletionDone s t c call.group (calls.Allreduce call) (λ g posts. posts) }
-    ensures folded { (s t : State) (c : CallerId) (call : allreduce.Allreduce) (answer : TypedNumbers) → IsSound s
+    ensures reduction { (s t : State) (c : CallerId) (call : allreduce.Allreduce) (answer : TypedNumbers) → IsSound s
         → step s (Called c (calls.Allreduce call) (replies.List answer)) ≡ Ok t → IsReduction s c call answer }
     ensures ended { (s t : State) (c : CallerId) → step s (Called c End replies.Done) ≡ Ok t → IsEnded s t c }
 {}
@@ -300,7 +300,7 @@ pub fn notification_order()
 /// done, each with the rank of its sender and with the bytes that its range has at the send; what it receives is the first
 /// message of its inbox at each of its receives that is done, in whatever of its threads. In a legal history what a rank is
 /// sent is what it has received, followed by what stands in its inbox, all in the order of the history: so what it has
-/// received is a front part of what it was sent. An inbox never has more messages than the limits say. A receive answers who
+/// received is a prefix of what it was sent. An inbox never has more messages than the limits say. A receive answers who
 /// sent the first message of the inbox, which is the earliest of those that were sent to the rank and that it has not
 /// received. (GASPI: passive communication)
 pub fn messages()
@@ -423,7 +423,7 @@ pub fn replies()
 /// Collectives over legal histories. A rank has joined a group once for each collective that it has completed there, and once
 /// more where one is pending; it has given to as many rounds as it has joined, and completed as many as it has completed collectives: no
 /// contribution counts twice. What is given to one round agrees in all but values and generation, and
-/// stays given. Two members that complete the same round of an allreduce get the same list, which is (as `changes` says) the fold of
+/// stays given. Two members that complete the same round of an allreduce get the same list, which is (as `changes` says) the reduction of
 /// what exactly the members have given to that round. A barrier, and an allreduce of elements that may be reduced, join where their rank
 /// has committed the group, none is pending there, and what was given to the round is that collective. A collective that is pending for its caller, which has not ended, with its
 /// arguments, answers where every member has given to its round, an allreduce with numbers and each other that it is done, and is not

@@ -2,7 +2,7 @@
 //!
 //! Of code it has the types of the state, what ranks have at the start, and the rules of collectives that the machine in memory, the stores
 //! of a rank and scripts share: replies and arguments compared, what a collective is refused for, when a pending one is resumed, and what
-//! the numbers of an allreduce come to. (GASPI: collectives, timeouts) No call of these takes memory.
+//! the numbers of an allreduce come to. (GASPI: collectives, timeouts) Only what ranks have at the start takes memory.
 #![tactic(auto)]
 
 mod collective_checks;

@@ -46,7 +46,7 @@ pub fn reduce(op: Op, num_type: NumType, total: &mut [i128], values: &[i128])
     ensures reduced { total.new ≡ combined op num_type total.old values.now }
     ensures range { AreInType num_type total.new }
 {
-    for (place, value) in values.iter().enumerate() {
-        total[place] = reduced(op, num_type, total[place], *value);
+    for (index, value) in values.iter().enumerate() {
+        total[index] = reduced(op, num_type, total[index], *value);
     }
 }

@@ -28,7 +28,7 @@ module _ (held held' : Option (List ℕ)) (faults faults' : ℕ) (answer : Answe
   abbrev pub AnswersFault : TextFault → Type 0
   AnswersFault fault = (IsWritten 2 (fault_text fault) ⊎ IsSilent 7) × HasNoJournal answer
 
-  -- a front part of a text was written that is not held, or nothing of it, and then there was no memory
+  -- a prefix of a text was written that is not held, or nothing of it, and then there was no memory
   abbrev pub IsCutShort : ResultValue → Type 0
   IsCutShort told = (told.is_held ≡ false) × ((answer.status ≡ 7) × AddsPrefix told.text held held' × (faults' ≡ faults))
 

@@ -221,7 +221,7 @@ pub record ReadFailed (before after held held' : Option (List ℕ)) (faults faul
   pub status : answer.status ≡ 5
   pub empty : HasNoJournal answer
 
--- the text of the input or of a fault could not be written whole: status 6; what was written is a front part of it
+-- the text of the input or of a fault could not be written whole: status 6; what was written is a prefix of it
 pub record WriteFailed (command : Command) (before after held held' : Option (List ℕ)) (faults faults' sink_faults sink_faults' : ℕ) (answer : Answer) : Type 0 where
   pub text : List ℕ
   pub of : ((would_be : ℕ) × IsResultOf command before after answer.journal answer.tally would_be text) ⊎ (IsFaultOf command before after text × HasNoJournal answer)
@@ -230,8 +230,8 @@ pub record WriteFailed (command : Command) (before after held held' : Option (Li
   pub still : faults' ≡ faults
   pub status : answer.status ≡ 6
 
--- of a command that writes a journal a front part of its text was written, which is shorter than the text
-pub record WroteFront (command : Command) (before after held held' : Option (List ℕ)) : Type 0 where
+-- of a command that writes a journal a prefix of its text was written, which is shorter than the text
+pub record WrotePrefix (command : Command) (before after held held' : Option (List ℕ)) : Type 0 where
   pub text : List ℕ
   pub journal : List Event
   pub tally : AnswerTally
@@ -240,11 +240,11 @@ pub record WroteFront (command : Command) (before after held held' : Option (Lis
   pub of : IsResultOf command before after journal tally would_be text
   pub front : AddsPrefix text held held'
 
--- want of memory, and nothing else: status 7; nothing was written, or a front part of a journal, and at most one byte more was taken
+-- want of memory, and nothing else: status 7; nothing was written, or a prefix of a journal, and at most one byte more was taken
 -- than an input may have
 pub record RanOutOfMemory (command : Command) (before after held held' : Option (List ℕ)) (faults faults' sink_faults sink_faults' : ℕ) (answer : Answer) : Type 0 where
   pub taken : TakesAtMost (input_limit + 1) before after
-  pub kept : (held' ≡ held) ⊎ WroteFront command before after held held'
+  pub kept : (held' ≡ held) ⊎ WrotePrefix command before after held held'
   pub still : NothingFailed faults faults' sink_faults sink_faults'
   pub status : answer.status ≡ 7
   pub empty : HasNoJournal answer
@@ -267,7 +267,7 @@ pub record WroteNumbers (seed ranks rounds : ℕ) (held held' : Option (List ℕ
   pub told : HasBenched seed ranks rounds answer.journal answer.tally answer.status text
   pub written : held' ≡ with_more held text
 
--- they could not be written whole: status 6; what was written is a front part of them
+-- they could not be written whole: status 6; what was written is a prefix of them
 pub record NumbersNotWritten (seed ranks rounds : ℕ) (held held' : Option (List ℕ)) (sink_faults sink_faults' : ℕ) (answer : Answer) : Type 0 where
   pub text : List ℕ
   pub would_be : ℕ

@@ -66,7 +66,7 @@ impl CommandResult {
     }
 
     /// Writes the text, and gives the status: 6 where it could not be written whole. Out of memory comes of a text alone that is not
-    /// held; then a front part of it was written, which is shorter.
+    /// held; then a prefix of it was written, which is shorter.
     pub(crate) fn write<K: Sink>(&self, alloc: Global, sink: &mut K) -> Result<u8, NoMemory>
         ensures written { IfOk result (λ status. ((status ≡ self.now.status) × (K.held sink.new ≡ with_more (K.held sink.old) self.now.text) × (K.faults sink.new ≡ K.faults sink.old))
             ⊎ ((status ≡ 6) × AddsPrefix self.now.text (K.held sink.old) (K.held sink.new) × HasCause (K.faults sink.old) (K.faults sink.new))) }

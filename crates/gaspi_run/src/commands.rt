@@ -146,7 +146,7 @@ pub fn run_command<S: Source, K: Sink>(
     }
 }
 
-/// Runs the input that the source has left on threads, and writes what it tells.
+/// Runs the input that the source has left on threads, and writes its journal or its transcripts.
 pub fn run_threads<R: Threads + Wait + Sync, S: Source, K: Sink>(
     rt: &R,
     alloc: Global,

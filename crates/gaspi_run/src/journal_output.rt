@@ -12,7 +12,7 @@ use gaspi_types::{Bytes, NoMemory};
 use std::alloc::Global;
 
 /// Writes the text of a journal. The memory of one block is taken before anything is written; a line that is longer takes more. Where
-/// it stops, a front part of the text was written, which is shorter than the text.
+/// it stops, a prefix of the text was written, which is shorter than the text.
 pub(crate) fn write_journal<K: Sink>(
     alloc: Global,
     sink: &mut K,

@@ -41,7 +41,7 @@ one_field [] = None
 one_field (word ∷ []) = value_of word
 one_field (word ∷ next ∷ words) = None
 
--- a kept collective
+-- an allreduce: its operation, its type and how many numbers
 abbrev pub allreduce_of : List (List ℕ) → Option Coll
 allreduce_of (first ∷ second ∷ third ∷ []) = do
   op ← op_of first

@@ -46,7 +46,7 @@ pub use text_laws::{
 pub type Journal = Sequence<Event>;
 
 /// A journal with room for so many events: it takes its memory when it is made, and adding an event below its room cannot
-/// fail. `into_rows` makes a journal of it, without taking memory. The place of an event is its index, so it is the journal of
+/// fail. `into_sequence` makes a journal of it, without taking memory. The place of an event is its index, so it is the journal of
 /// a whole world, as under one lock, and not the part of one rank.
 pub type ReservedJournal = Buffer<Event>;
 

@@ -34,7 +34,7 @@ impl UnmergedEvents {
     fn all_of(journal: RankJournal) -> UnmergedEvents
         ensures { result ≡ journal.items }
     {
-        let mut reversed = journal.into_rows().into_vec();
+        let mut reversed = journal.into_sequence().into_vec();
         reversed.reverse();
         UnmergedEvents { reversed }
     }
@@ -116,10 +116,10 @@ impl MergeRoom {
         ensures { (journal : List Event) → AreCutOf self.lists journal → result ≡ journal }
     {
         let MergeRoom { lists, mut journal } = self;
-        let mut lists = lists.into_rows().into_vec();
+        let mut lists = lists.into_sequence().into_vec();
         while let Some(list) = next_list(&lists, journal.len() as u64) {
             journal.push(lists[list].take_next().event);
         }
-        journal.into_rows()
+        journal.into_sequence()
     }
 }

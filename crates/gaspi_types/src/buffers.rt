@@ -92,7 +92,7 @@ impl<T> Buffer<T> {
     }
 
     /// The same items as a list, at most as many as the room, without taking memory.
-    pub fn into_rows(self) -> Sequence<T>
+    pub fn into_sequence(self) -> Sequence<T>
         ensures items { result ≡ self.items }
         ensures bound { length self.items ≤ self.capacity }
     {

@@ -181,7 +181,7 @@ collective-none posts g me thread id call =
     chained (resume (item_at posts.pending id) thread (args_of handle.members call)) _ _ (λ resumed. on_group-timely resumed posts g me handle.members call)))
 
 collective-ready-timely : (finds : Result Ready Refusal) → (finds ≡ Ok (ready.Reply replies.Timeout) → ⊥) → IsTimely (collective_ready finds)
-collective-ready-timely (Ok ok_or) none h = none (ap (λ (r : Ready). Ok r) h)
+collective-ready-timely (Ok found) none h = none (ap (λ (r : Ready). Ok r) h)
 collective-ready-timely (Err refusal) none h = (let no : ⊥ = cc in no)
 
 collective-timely : (posts : Posts) (g : Group) (me thread id : ℕ) (call : Call) → IsTimely (collective_answer posts g me thread id call)

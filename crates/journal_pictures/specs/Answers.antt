@@ -26,7 +26,7 @@ abbrev pub IsTraceAnswer : ShapeValue → List Event → Option (List ℕ) → O
 IsTraceAnswer w journal held held' Traced = (is_legal w journal ≡ true) × (held' ≡ with_more held (trace_text w journal))
 IsTraceAnswer w journal held held' (Refuted place why) = IsIllegalAt w journal place why × (held' ≡ held)
 
--- the trace was not written whole: what was written is a front part of it
+-- the trace was not written whole: what was written is a prefix of it
 pub record IsCutTrace (w : ShapeValue) (journal : List Event) (held held' : Option (List ℕ)) : Type 0 where
   pub legal : is_legal w journal ≡ true
   pub front : AddsPrefix (trace_text w journal) held held'

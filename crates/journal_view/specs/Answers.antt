@@ -57,7 +57,7 @@ module _ (held held' : Option (List ℕ)) (faults faults' status : ℕ) where
     pub is : HasTrace world journal meant text
     pub written : IsWritten meant text
 
-  -- a front part of a trace was written, or nothing of it, and then there was no memory
+  -- a prefix of a trace was written, or nothing of it, and then there was no memory
   abbrev pub IsCutShort : ShapeValue → List Event → Type 0
   IsCutShort world journal = (status ≡ 7) × IsCutTrace world journal held held' × (faults' ≡ faults)
 
@@ -123,7 +123,7 @@ pub record ReadFailed (before after held held' : Option (List ℕ)) (faults faul
   pub kept : held' ≡ held
   pub status_is : status ≡ 5
 
--- the text of the input or of a fault could not be written whole: status 6; what was written is a front part of it
+-- the text of the input or of a fault could not be written whole: status 6; what was written is a prefix of it
 pub record WriteFailed (asked : Picture) (before after held held' : Option (List ℕ)) (faults faults' sink_faults sink_faults' status : ℕ) : Type 0 where
   pub text : List ℕ
   pub of : ((would_be : ℕ) × IsResultOf asked before after would_be text) ⊎ IsFaultOf before after text
@@ -132,18 +132,18 @@ pub record WriteFailed (asked : Picture) (before after held held' : Option (List
   pub still : faults' ≡ faults
   pub status_is : status ≡ 6
 
--- where a trace is asked for, a front part of the trace of a legal journal was written, which is shorter than the whole
-pub record WroteFront (asked : Picture) (before after held held' : Option (List ℕ)) : Type 0 where
+-- where a trace is asked for, a prefix of the trace of a legal journal was written, which is shorter than the whole
+pub record WrotePrefix (asked : Picture) (before after held held' : Option (List ℕ)) : Type 0 where
   pub text : List ℕ
   pub trace : asked ≡ Trace
   pub of : IsResultOf asked before after 0 text
   pub front : AddsPrefix text held held'
 
--- want of memory, and nothing else: status 7; nothing was written, or a front part of a trace, and at most one byte more was taken than
+-- want of memory, and nothing else: status 7; nothing was written, or a prefix of a trace, and at most one byte more was taken than
 -- an input may have
 pub record RanOutOfMemory (asked : Picture) (before after held held' : Option (List ℕ)) (faults faults' sink_faults sink_faults' status : ℕ) : Type 0 where
   pub taken : TakesAtMost (input_limit + 1) before after
-  pub kept : (held' ≡ held) ⊎ WroteFront asked before after held held'
+  pub kept : (held' ≡ held) ⊎ WrotePrefix asked before after held held'
   pub still : NothingFailed faults faults' sink_faults sink_faults'
   pub status_is : status ≡ 7
 

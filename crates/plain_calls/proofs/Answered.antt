@@ -44,30 +44,30 @@ is_more (ready.Reply reply) = not (is_idle reply)
 is_more (ready.Join args) = true
 is_more ready.NotReady = true
 
-found_more : (r : Result Ready Refusal) (ok_or : Ready) → collective_ready r ≡ ok_or → is_more ok_or ≡ true → r ≡ Ok ok_or
-found_more (Ok x) ok_or is more = ap (λ (y : Ready). Ok y) is
-found_more (Err e) ok_or is more = absurd (let refused = rw (← is) at more in let no : ⊥ = cc in no)
+found_more : (r : Result Ready Refusal) (found : Ready) → collective_ready r ≡ found → is_more found ≡ true → r ≡ Ok found
+found_more (Ok x) found is more = ap (λ (y : Ready). Ok y) is
+found_more (Err e) found is more = absurd (let refused = rw (← is) at more in let no : ⊥ = cc in no)
 
 -- what it met
-pub record IsMet (posts : Posts) (g : Group) (me thread id : ℕ) (call : Call) (ok_or : Ready) : Type 0 where
+pub record IsMet (posts : Posts) (g : Group) (me thread id : ℕ) (call : Call) (found : Ready) : Type 0 where
   pub handle : Handle
   pub resumed : Resume
   pub resumes : resume (item_at posts.pending id) thread (args_of handle.members call) ≡ Ok resumed
-  pub finds : resume_result resumed posts g me handle.members call ≡ Ok ok_or
+  pub finds : resume_result resumed posts g me handle.members call ≡ Ok found
 
-on_group_by : (posts : Posts) (g : Group) (me thread id : ℕ) (call : Call) (ok_or : Ready) → collective_result posts g me thread id call ≡ Ok ok_or → IsMet posts g me thread id call ok_or
-on_group_by posts g me thread id call ok_or is =
+on_group_by : (posts : Posts) (g : Group) (me thread id : ℕ) (call : Call) (found : Ready) → collective_result posts g me thread id call ≡ Ok found → IsMet posts g me thread id call found
+on_group_by posts g me thread id call found is =
     bind_then (element_checks call) _ _ is (λ u elements more.
     bind_then (staged_at posts.groups me id call) _ _ more (λ handle staged more.
     bind_then (resume (item_at posts.pending id) thread (args_of handle.members call)) _ _ more (λ resumed resumes finds.
     record { handle = handle; resumed = resumed; resumes = resumes; finds = finds })))
 
-pub answer_on_group : (posts : Posts) (g : Group) (me thread id : ℕ) (call : Call) (ok_or : Ready) → collective_answer posts g me thread id call ≡ ok_or → is_more ok_or ≡ true
-    → IsMet posts g me thread id call ok_or
-answer_on_group posts g me thread id call ok_or is more = by_running (is_running (thread_at posts thread)) refl
+pub answer_on_group : (posts : Posts) (g : Group) (me thread id : ℕ) (call : Call) (found : Ready) → collective_answer posts g me thread id call ≡ found → is_more found ≡ true
+    → IsMet posts g me thread id call found
+answer_on_group posts g me thread id call found is more = by_running (is_running (thread_at posts thread)) refl
   where
-    by_running : (running : Bool) → is_running (thread_at posts thread) ≡ running → IsMet posts g me thread id call ok_or
-    by_running true runs = on_group_by posts g me thread id call ok_or (found_more (collective_result posts g me thread id call) ok_or (rw runs at is) more)
+    by_running : (running : Bool) → is_running (thread_at posts thread) ≡ running → IsMet posts g me thread id call found
+    by_running true runs = on_group_by posts g me thread id call found (found_more (collective_result posts g me thread id call) found (rw runs at is) more)
     by_running false ended = absurd (let refused = rw ended at is in let none = rw (← refused) at more in let no : ⊥ = cc in no)
 
 -- one that may join: its arguments, and the segment that it makes is free
@@ -102,7 +102,7 @@ answer_join posts g me thread id call args is =
     by_resumed Same members finds = absurd (resumed_join (is_round_full g me) (full_reply g me call) args finds)
 
 -- a test that says it may join
-pub joins_with : (ok_or : Ready) (args : Args) → is_join_of ok_or args ≡ true → ok_or ≡ ready.Join args
+pub joins_with : (found : Ready) (args : Args) → is_join_of found args ≡ true → found ≡ ready.Join args
 joins_with (ready.Reply reply) args is = absurd (let no : ⊥ = cc in no)
 joins_with (ready.Join may) args is = ap (λ (a : Args). ready.Join a) (same_args-same may args is)
 joins_with ready.NotReady args is = absurd (let no : ⊥ = cc in no)
@@ -118,8 +118,8 @@ making_by limits posts id args coll is limited sound free = tt
 pub making_room : (limits : Limits) (posts : Posts) (g : Group) (me thread id : ℕ) (args : Args) → are_limits limits ≡ true → IsSoundPosts limits posts
     → is_join_of (collective_answer posts g me thread id (joining_call id args)) args ≡ true → JoinIsBounded posts args.coll
 making_room limits posts g me thread id args limited sound joins =
-    let ok_or = answer_join posts g me thread id (joining_call id args) args (joins_with _ args joins) in
-    making_by limits posts id args args.coll refl limited sound ok_or.1.free
+    let found = answer_join posts g me thread id (joining_call id args) args (joins_with _ args joins) in
+    making_by limits posts id args args.coll refl limited sound found.1.free
 
 -- the size that a segment_create makes known fits
 
@@ -152,8 +152,8 @@ telling_by posts g me thread id (calls.Create call) reply met = by_resumed met.r
     by_resumed Same resumes finds = create_fits (item_at posts.pending id) thread call.seg call.size (nat_lt call.seg 4294967296 && nat_lt call.size 4294967296) refl resumes
 telling_by posts g me thread id call reply met = tt
 
-pub telling_room : (posts : Posts) (g : Group) (me thread id : ℕ) (call : Call) (ok_or : Ready) → ok_or ≡ collective_answer posts g me thread id call → is_joining ok_or ≡ false
-    → is_idle (recorded_reply ok_or) ≡ false → CompletionIsBounded call
+pub telling_room : (posts : Posts) (g : Group) (me thread id : ℕ) (call : Call) (found : Ready) → found ≡ collective_answer posts g me thread id call → is_joining found ≡ false
+    → is_idle (recorded_reply found) ≡ false → CompletionIsBounded call
 telling_room posts g me thread id call (ready.Reply reply) is unjoined busy =
     telling_by posts g me thread id call reply (answer_on_group posts g me thread id call (ready.Reply reply) (sym is) (rw busy refl))
 telling_room posts g me thread id call (ready.Join args) is unjoined busy = absurd (let no : ⊥ = cc in no)
@@ -161,21 +161,21 @@ telling_room posts g me thread id call ready.NotReady is unjoined busy = absurd 
 
 -- The step, where the rank has room and where it has none.
 
-pub records : (ok_or : Ready) → is_joining ok_or ≡ false → is_reply_of ok_or (recorded_reply ok_or) ≡ true
+pub records : (found : Ready) → is_joining found ≡ false → is_reply_of found (recorded_reply found) ≡ true
 records (ready.Reply reply) unjoined = same_reply-refl reply
 records (ready.Join args) unjoined = absurd (let no : ⊥ = cc in no)
 records ready.NotReady unjoined = refl
 
-answered : (posts : Posts) (g : Group) (me thread id : ℕ) (call : Call) (ok_or : Ready) → ok_or ≡ collective_answer posts g me thread id call → is_joining ok_or ≡ false
-    → is_reply_of (collective_answer posts g me thread id call) (recorded_reply ok_or) ≡ true
-answered posts g me thread id call ok_or is unjoined = subst (λ (r : Ready). is_reply_of r (recorded_reply ok_or) ≡ true) is (records ok_or unjoined)
+answered : (posts : Posts) (g : Group) (me thread id : ℕ) (call : Call) (found : Ready) → found ≡ collective_answer posts g me thread id call → is_joining found ≡ false
+    → is_reply_of (collective_answer posts g me thread id call) (recorded_reply found) ≡ true
+answered posts g me thread id call found is unjoined = subst (λ (r : Ready). is_reply_of r (recorded_reply found) ≡ true) is (records found unjoined)
 
-pub on_group_limit : (limits : Limits) (me : ℕ) (posts : Posts) (g : Group) (thread id : ℕ) (call : Call) (ok_or : Ready) → is_there (thread_at posts thread) ≡ true
-    → ok_or ≡ collective_answer posts g me thread id call → is_joining ok_or ≡ false → nat_le (posts.events + owed posts + 1) limits.events ≡ false
-    → completed limits me posts g thread id call (recorded_reply ok_or) ≡ Err whys.Limit
-on_group_limit limits me posts g thread id call ok_or there is unjoined full = rw (there, answered posts g me thread id call ok_or is unjoined, full) refl
+pub on_group_limit : (limits : Limits) (me : ℕ) (posts : Posts) (g : Group) (thread id : ℕ) (call : Call) (found : Ready) → is_there (thread_at posts thread) ≡ true
+    → found ≡ collective_answer posts g me thread id call → is_joining found ≡ false → nat_le (posts.events + owed posts + 1) limits.events ≡ false
+    → completed limits me posts g thread id call (recorded_reply found) ≡ Err whys.Limit
+on_group_limit limits me posts g thread id call found there is unjoined full = rw (there, answered posts g me thread id call found is unjoined, full) refl
 
-pub on_group_steps : (limits : Limits) (me : ℕ) (posts : Posts) (g : Group) (thread id : ℕ) (call : Call) (ok_or : Ready) → is_there (thread_at posts thread) ≡ true
-    → ok_or ≡ collective_answer posts g me thread id call → is_joining ok_or ≡ false → nat_le (posts.events + owed posts + 1) limits.events ≡ true
-    → completed limits me posts g thread id call (recorded_reply ok_or) ≡ Ok (record { posts = posts_after_collective posts g me id call (recorded_reply ok_or); group = group_after_collective g me (recorded_reply ok_or) })
-on_group_steps limits me posts g thread id call ok_or there is unjoined room = rw (there, answered posts g me thread id call ok_or is unjoined, room) refl
+pub on_group_steps : (limits : Limits) (me : ℕ) (posts : Posts) (g : Group) (thread id : ℕ) (call : Call) (found : Ready) → is_there (thread_at posts thread) ≡ true
+    → found ≡ collective_answer posts g me thread id call → is_joining found ≡ false → nat_le (posts.events + owed posts + 1) limits.events ≡ true
+    → completed limits me posts g thread id call (recorded_reply found) ≡ Ok (record { posts = posts_after_collective posts g me id call (recorded_reply found); group = group_after_collective g me (recorded_reply found) })
+on_group_steps limits me posts g thread id call found there is unjoined room = rw (there, answered posts g me thread id call found is unjoined, room) refl

@@ -67,7 +67,7 @@ fn complete_posts(posts: &mut Posts, group: &Group, me: RankId, id: u64, call: &
 
 /// What a collective with that reply leaves in its group and in the posts of its rank: a refusal or a timeout nothing but the
 /// count of events.
-fn complete_parts(
+fn apply_completion(
     posts: &mut Posts,
     group: &mut Group,
     me: RankId,
@@ -75,7 +75,7 @@ fn complete_parts(
     call: &Call,
     reply: &Reply,
 )
-    requires room { is_idle reply.now ≡ false → CompletionIsBounded call.now }
+    requires bounded { is_idle reply.now ≡ false → CompletionIsBounded call.now }
     requires rounds { round_of group.old me + 1 < 2 ^ 32 }
     requires events { posts.old.events + 1 < 2 ^ 32 }
     ensures posts { posts.new ≡ posts_after_collective posts.old group.old me id call.now reply.now }
@@ -113,7 +113,7 @@ pub fn complete(
     ensures used { used.new ≡ posts.new.events + owed posts.new }
 {
     let reply = recorded_reply(ready);
-    complete_parts(
+    apply_completion(
         posts,
         group,
         invocation.caller.rank,
@@ -171,7 +171,7 @@ fn contribute(
 
 /// What a join leaves: its collective is pending for its caller, and the rank has contributed to its round; and one event more. All memory is
 /// taken first, and without it nothing changes.
-fn join_parts(
+fn apply_join(
     alloc: Global,
     limits: &Limits,
     joining: &Joining<'_>,
@@ -179,7 +179,7 @@ fn join_parts(
     memory: &mut Memory,
     group: &mut Group,
 ) -> Result<(), NoMemory>
-    requires room { JoinIsBounded posts.old joining.now.args.now.coll }
+    requires bounded { JoinIsBounded posts.old joining.now.args.now.coll }
     requires events { posts.old.events + 1 < 2 ^ 32 }
     ensures posts { OnOk result (posts.new ≡ counted (joined_posts posts.old joining.now.caller.thread joining.now.group joining.now.args.now)) }
     ensures memory { OnOk result (memory.new ≡ made_memory limits.now posts.old memory.old joining.now.args.now.coll) }
@@ -233,7 +233,7 @@ pub fn join(
     ensures memory_kept { OnErr result (memory.new ≡ memory.old) }
     ensures used { used.new ≡ posts.new.events + owed posts.new }
 {
-    join_parts(alloc, limits, joining, posts, memory, group)?;
+    apply_join(alloc, limits, joining, posts, memory, group)?;
     *used += 1;
     Ok(())
 }

@@ -48,7 +48,7 @@ impl Evaluation {
 
     /// Whether a reply is the one with which the call may be recorded: a collective that has not joined has none.
     /// (GASPI: timeouts, collectives)
-    pub fn is_recorded_with(&self, reply: &Reply) -> bool
+    pub fn may_be_recorded_with(&self, reply: &Reply) -> bool
         ensures { result ≡ is_reply_of self.now.ready reply.now }
     {
         match &self.ready {

@@ -396,7 +396,7 @@ pub fn step_called(
         Ok(look) => look,
         Err(NoMemory) => return Err(StepFault::NoMemory),
     };
-    if !look.is_recorded_with(reply) {
+    if !look.may_be_recorded_with(reply) {
         return Err(StepFault::Illegal(Why::Reply));
     }
     let charge = event_charge(ranks, invocation, &look.ready);

@@ -22,7 +22,7 @@ use std::alloc::Global;
 use std::marker::Model;
 
 /// So many empty queues.
-fn empty_rings(
+fn empty_queues(
     alloc: Global,
     queues: u32,
     ranks: u32,
@@ -99,7 +99,7 @@ impl Lanes {
             depth,
             ranks,
             next: 0,
-            queues: empty_rings(alloc, queues, ranks, depth)?,
+            queues: empty_queues(alloc, queues, ranks, depth)?,
             movable: 0,
         })
     }

@@ -41,8 +41,8 @@ use Rattle.rank_node.specs.declared.rooms.Room.{Room}
 abbrev Finds : Type 0
 Finds = Result (Option Reply) Refusal
 
-done-fits : (room : Room) (reply ok_or : Reply) → ◌≡◌ {A = Finds} (Ok (Some ok_or)) (Ok (Some reply)) → ReplyFitsReserved ok_or room → ReplyFitsReserved reply room
-done-fits room reply ok_or h fits = subst (λ (x : Reply). ReplyFitsReserved x room) (let is : ok_or ≡ reply = cc in is) fits
+done-fits : (room : Room) (reply found : Reply) → ◌≡◌ {A = Finds} (Ok (Some found)) (Ok (Some reply)) → ReplyFitsReserved found room → ReplyFitsReserved reply room
+done-fits room reply found h fits = subst (λ (x : Reply). ReplyFitsReserved x room) (let is : found ≡ reply = cc in is) fits
 
 then-fits : {A : Type 0} (room : Room) (reply : Reply) (r : Result A Refusal) (f : A → Finds) → (r >>= f) ≡ Ok (Some reply) → ((x : A) → f x ≡ Ok (Some reply) → ReplyFitsReserved reply room) → ReplyFitsReserved reply room
 then-fits room reply (Ok x) f h go = go x h
@@ -124,6 +124,6 @@ answer-fits p own memory thread call room is = go (is_running (thread_at p.posts
 
 -- what a look found at a call that is no collective
 pub look-fits : {E : Type 0} (p : PostsValue) (own : MemoryValue) (memory : Memory) (thread : ℕ) (call : Call) (room : Room) (r : Result Ready E) → IsReservedFor p own call room
-    → IfOk r (λ ok_or. ok_or ≡ answer p.limits p.me p.posts memory thread call) → IfOk r (λ ok_or. FitsReserved ok_or room)
-look-fits p own memory thread call room (Ok ok_or) is same = subst (λ (x : Ready). FitsReserved x room) (sym same) (answer-fits p own memory thread call room is)
+    → IfOk r (λ found. found ≡ answer p.limits p.me p.posts memory thread call) → IfOk r (λ found. FitsReserved found room)
+look-fits p own memory thread call room (Ok found) is same = subst (λ (x : Ready). FitsReserved x room) (sym same) (answer-fits p own memory thread call room is)
 look-fits p own memory thread call room (Err e) is same = same

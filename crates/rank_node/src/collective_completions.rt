@@ -93,7 +93,7 @@ fn complete_round(
 }
 
 /// What a collective with a reply leaves, its event not counted: a refusal or a timeout nothing.
-fn complete_parts(
+fn apply_completion(
     own: &mut NodePosts,
     group: &mut GroupNode,
     caller: &CallerId,
@@ -128,7 +128,7 @@ pub(crate) fn complete(
     ensures { (s t : State) (peer : Option Node) → IsStepOn s t (Called caller call reply) own.old peer (Some group.old)
         → IsLeft s t (Called caller call reply) place own.old own.new peer peer (Some group.new) }
 {
-    complete_parts(&mut own.posts, group, &caller, id, &call, &reply);
+    apply_completion(&mut own.posts, group, &caller, id, &call, &reply);
     own.posts
         .add_event(place, Event::Called(caller, call, reply));
 }

@@ -88,7 +88,7 @@ fn join_group(group: &mut GroupNode, me: RankId, args: &Args, generation: u32)
 }
 
 /// What a join leaves, its event not counted: the rank has contributed, its segment is there, and its collective is pending.
-fn join_parts(
+fn apply_join(
     own: &mut Node,
     group: &mut GroupNode,
     caller: &CallerId,
@@ -134,6 +134,6 @@ pub(crate) fn join(
     ensures caller { room.new.caller ≡ room.old.caller }
 {
     let kept = copied_args(&args, take_numbers(&mut room.values));
-    join_parts(own, group, &caller, id, &args, kept, made);
+    apply_join(own, group, &caller, id, &args, kept, made);
     own.posts.add_event(place, Event::Joined(caller, id, args));
 }

@@ -76,7 +76,7 @@ outcomes-many {P} {T} (suc n) (t ∷ tasks) less each =
 module _ {P T : Type 0} (world : TableValue Start) (there : AreCallersThere world) where
   needs-made : (place : ℕ) (body : ThreadBody P T) → IsBodyOf world place body → BodyNeeds body world (made_pass world place)
   needs-made place (Caller program outcome) is = ((refl, refl), (λ i. refl), there place is)
-  needs-made place (Worker turns) is = ((refl, refl), (λ i. refl), (place, refl, is))
+  needs-made place (Worker first_turn) is = ((refl, refl), (λ i. refl), (place, refl, is))
 
   needs : (place : ℕ) (task : Task (ThreadBody P T)) → IsReady world place task → BodyNeeds task.body world task.pass
   needs place task ready = subst (BodyNeeds task.body world) (sym ready.0) (needs-made place task.body ready.1)
@@ -88,7 +88,7 @@ module _ {P T : Type 0} (world : TableValue Start) (there : AreCallersThere worl
   ran-made place (Caller program outcome) next q is did =
       let may = did.1 world (needs-made place (Caller program outcome) is) in
       record { of_table = may.0; free = may.1; none_left = λ behind. absurd (omega arith) }
-  ran-made place (Worker turns) next q is did = record { of_table = (did.1.table, did.1.goes_on.start); free = did.1.free; none_left = λ behind. did.1.none_left world.start refl }
+  ran-made place (Worker first_turn) next q is did = record { of_table = (did.1.table, did.1.goes_on.start); free = did.1.free; none_left = λ behind. did.1.none_left world.start refl }
 
   ran : (place : ℕ) (task next : Task (ThreadBody P T)) → IsReady world place task → BodyDid task.body task.pass next.body next.pass → HasRunPass world place next.pass
   ran place task next ready did =
@@ -116,7 +116,7 @@ module _ {P T : Type 0} (world : TableValue Start) (there : AreCallersThere worl
       go : (body : ThreadBody P T) → IsBodyOf world place body → BodyDid body task.pass next.body next.pass
           → (place < length world.start.shape.callers → length (outcome_of next.body) ≡ 1) × (length world.start.shape.callers ≤ place → length (outcome_of next.body) ≡ 0)
       go (Caller program outcome) is did = ((λ less. did.0), (λ behind. absurd (omega arith)))
-      go (Worker turns) is did = ((λ less. absurd (omega arith)), (λ behind. did.0))
+      go (Worker first_turn) is did = ((λ less. absurd (omega arith)), (λ behind. did.0))
 
   -- each caller has come to something
   pub outcomes-all : (old new : List (Task (ThreadBody P T))) → EachAt (IsReady world) old → HaveAllRun old new → length new ≡ length old → length world.start.shape.callers < length old

@@ -36,13 +36,13 @@ module _ {P T : Type 0} where
   -- what a body needs of its pass: it is that of a caller, or of a worker
   abbrev pub BodyNeeds : ThreadBody P T → TableValue Start → PassValue Start Event → Type 0
   BodyNeeds (Caller program outcome) world pass = MayCall world pass
-  BodyNeeds (Worker turns) world pass = IsOf world pass × HoldsNone pass.known × IsWorkers world.start.shape pass.known
+  BodyNeeds (Worker first_turn) world pass = IsOf world pass × HoldsNone pass.known × IsWorkers world.start.shape pass.known
 
   -- the outcome of the caller of a body that has run the program
   abbrev pub outcome_of : ThreadBody P T → List T
   outcome_of (Caller program None) = []
   outcome_of (Caller program (Some outcome)) = outcome ∷ []
-  outcome_of (Worker turns) = []
+  outcome_of (Worker first_turn) = []
 
   -- what the callers came to, in the order of the tasks
   abbrev pub outcomes_in : List (Task (ThreadBody P T)) → List T
@@ -52,7 +52,7 @@ module _ {P T : Type 0} where
   -- made all transfers
   abbrev pub BodyDid : ThreadBody P T → PassValue Start Event → ThreadBody P T → PassValue Start Event → Type 0
   BodyDid (Caller program outcome) p next q = (length (outcome_of next) ≡ 1) × ((world : TableValue Start) → MayCall world p → MayCall world q)
-  BodyDid (Worker turns) p next q = (length (outcome_of next) ≡ 0) × HasWorked p q
+  BodyDid (Worker first_turn) p next q = (length (outcome_of next) ≡ 0) × HasWorked p q
 
   -- each body has run with its pass: it is as a body at its place leaves itself and its pass
   abbrev pub HaveAllRun : List (Task (ThreadBody P T)) → List (Task (ThreadBody P T)) → Type 0
@@ -62,7 +62,7 @@ module _ {P T : Type 0} (world : TableValue Start) where
   -- the bodies of callers stand first
   abbrev pub IsBodyOf : ℕ → ThreadBody P T → Type 0
   IsBodyOf place (Caller program outcome) = place < length world.start.shape.callers
-  IsBodyOf place (Worker turns) = length world.start.shape.callers ≤ place
+  IsBodyOf place (Worker first_turn) = length world.start.shape.callers ≤ place
 
   -- a body and its pass, before it runs
   abbrev pub IsReady : ℕ → Task (ThreadBody P T) → Type 0

@@ -59,7 +59,7 @@ fn body_of<'a, P: Program>(
         };
     }
     ThreadBody::Worker {
-        turns: (party - callers) as u64,
+        first_turn: (party - callers) as u64,
     }
 }
 

@@ -20,7 +20,7 @@ pub(crate) enum ThreadBody<'a, P, T> {
     /// It runs the program for a caller, which comes to this once it has.
     Caller { program: &'a P, outcome: Option<T> },
     /// It makes transfers until none is left. Its first turn begins at the rank of that number.
-    Worker { turns: u64 },
+    Worker { first_turn: u64 },
 }
 
 /// Runs the program for the caller of a pass, and makes the caller's end.
@@ -42,7 +42,7 @@ fn run_caller<'a, R: Wait, P: Program>(
 }
 
 /// Makes transfers by the pass of a worker until none is left.
-fn drain<R: Wait>(rt: &R, world: &World, pass: &mut Pass, turns: u64)
+fn drain<R: Wait>(rt: &R, world: &World, pass: &mut Pass, first_turn: u64)
     requires pass { IsOf world.now pass.old }
     requires free { HoldsNone pass.old.known }
     requires worker { IsWorkers world.now.start.shape pass.old.known }
@@ -51,7 +51,12 @@ fn drain<R: Wait>(rt: &R, world: &World, pass: &mut Pass, turns: u64)
     ensures goes_on { IsExtended pass.old.known pass.new.known }
     ensures drained { IsDrained world.now.start.shape pass.new.known.seen }
 {
-    Worker { world, pass, turns }.drain(rt);
+    Worker {
+        world,
+        pass,
+        turns: first_turn,
+    }
+    .drain(rt);
 }
 
 impl<'a, P: Program> Body for ThreadBody<'a, P, P::Outcome> {
@@ -67,7 +72,7 @@ impl<'a, P: Program> Body for ThreadBody<'a, P, P::Outcome> {
             ThreadBody::Caller { program, outcome } => {
                 *outcome = Some(run_caller(rt, alloc, world, pass, *program));
             }
-            ThreadBody::Worker { turns } => drain(rt, world, pass, *turns),
+            ThreadBody::Worker { first_turn } => drain(rt, world, pass, *first_turn),
         }
     }
 }

@@ -75,7 +75,8 @@ impl TwoNodes {
     }
 
     /// One look at a call of a caller: where its rank has room for it, a collective joins where it may, and the call is recorded
-    /// where it is answered. None where it is not ready. A call on another group than 0 is not made here.
+    /// where it is answered. None where it is not ready; a collective may have joined. Required is that the call is no collective on
+    /// the groups 1 to 7 (`is_driven`).
     pub fn call(
         &mut self,
         alloc: Global,

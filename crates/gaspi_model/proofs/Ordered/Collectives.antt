@@ -416,8 +416,8 @@ done-answers s t c id call reply sound named awake h =
 same-list : (a b : TypedNumbers) → replies.List a ≡ replies.List b → a ≡ b
 same-list a b h = cc
 
-pub allreduce-folded : (s t : State) (c : CallerId) (call : allreduce.Allreduce) (answer : TypedNumbers) → IsSound s → step s (Called c (calls.Allreduce call) (replies.List answer)) ≡ Ok t → IsReduction s c call answer
-allreduce-folded s t c call answer sound h =
+pub allreduce-reduces : (s t : State) (c : CallerId) (call : allreduce.Allreduce) (answer : TypedNumbers) → IsSound s → step s (Called c (calls.Allreduce call) (replies.List answer)) ≡ Ok t → IsReduction s c call answer
+allreduce-reduces s t c call answer sound h =
     let made = done-step s t c call.group (calls.Allreduce call) (replies.List answer) refl refl sound h in
     let m = made.5 in
     let part = sound.collectives.parts call.group made.1 c.rank made.0 m.there.there m.posts_there in
@@ -435,16 +435,16 @@ allreduce-folded s t c call answer sound h =
     own-args h p is = (let same : ◌≡◌ {A = Args} (record { coll = colls.Allreduce call.op call.values.num_type (length call.values.items); values = call.values }) p.args = cc in sym same)
 
 -- folds of the same contributions are the same
-fold-alike : (given given' : ℕ → Option Contribution) (op : Op) (t : NumType) (xs : List ℕ) (total : List ℤ) → ((k m : ℕ) → slice_get xs k ≡ Some m → given m ≡ given' m) → reduced_onto given op t total xs ≡ reduced_onto given' op t total xs
-fold-alike given given' op t [] total alike = refl
-fold-alike given given' op t (m ∷ xs) total alike =
+reduces-alike : (given given' : ℕ → Option Contribution) (op : Op) (t : NumType) (xs : List ℕ) (total : List ℤ) → ((k m : ℕ) → slice_get xs k ≡ Some m → given m ≡ given' m) → reduced_onto given op t total xs ≡ reduced_onto given' op t total xs
+reduces-alike given given' op t [] total alike = refl
+reduces-alike given given' op t (m ∷ xs) total alike =
     ap (λ (o : Option Contribution). reduced_onto given op t (combined op t total (values_in o)) xs) (alike 0 m refl)
-    ∙ fold-alike given given' op t xs (combined op t total (values_in (given' m))) (λ k x at. alike (suc k) x at)
+    ∙ reduces-alike given given' op t xs (combined op t total (values_in (given' m))) (λ k x at. alike (suc k) x at)
 
-folds-alike : (given given' : ℕ → Option Contribution) (op : Op) (t : NumType) (xs : List ℕ) → ((k m : ℕ) → slice_get xs k ≡ Some m → given m ≡ given' m) → reduced_values given op t xs ≡ reduced_values given' op t xs
-folds-alike given given' op t [] alike = refl
-folds-alike given given' op t (m ∷ xs) alike =
-    ap (λ (o : Option Contribution). reduced_onto given op t (values_in o) xs) (alike 0 m refl) ∙ fold-alike given given' op t xs (values_in (given' m)) (λ k x at. alike (suc k) x at)
+reductions-alike : (given given' : ℕ → Option Contribution) (op : Op) (t : NumType) (xs : List ℕ) → ((k m : ℕ) → slice_get xs k ≡ Some m → given m ≡ given' m) → reduced_values given op t xs ≡ reduced_values given' op t xs
+reductions-alike given given' op t [] alike = refl
+reductions-alike given given' op t (m ∷ xs) alike =
+    ap (λ (o : Option Contribution). reduced_onto given op t (values_in o) xs) (alike 0 m refl) ∙ reduces-alike given given' op t xs (values_in (given' m)) (λ k x at. alike (suc k) x at)
 
 -- an item of a full round
 full-at : (given : ℕ → Option Contribution) (xs : List ℕ) (k m : ℕ) → list_all (λ n. is_some (given n)) xs ≡ true → slice_get xs k ≡ Some m → (c : Contribution) × (given m ≡ Some c)
@@ -455,15 +455,15 @@ full-at given xs k m full at = go (given m) refl
     go None is = absurd (let some = each-passes (λ n. is_some (given n)) xs k m full at in let none : is_some {T = Contribution} None ≡ true = subst (λ (o : Option Contribution). is_some o ≡ true) is some in let no : ⊥ = cc in no)
 
 -- Two members that complete the same round of a group get the same list.
-pub same-fold : (s t u v : State) (between : List Event) (c d : CallerId) (a b : allreduce.Allreduce) (x y : TypedNumbers) (g k : Group) → IsSound s → step s (Called c (calls.Allreduce a) (replies.List x)) ≡ Ok t → after t between ≡ Ok u
+pub same-reduction : (s t u v : State) (between : List Event) (c d : CallerId) (a b : allreduce.Allreduce) (x y : TypedNumbers) (g k : Group) → IsSound s → step s (Called c (calls.Allreduce a) (replies.List x)) ≡ Ok t → after t between ≡ Ok u
     → step u (Called d (calls.Allreduce b) (replies.List y)) ≡ Ok v → a.group ≡ b.group → slice_get s.groups a.group ≡ Some g → slice_get u.groups b.group ≡ Some k → round_of g c.rank ≡ round_of k d.rank → x ≡ y
-same-fold s t u v between c d a b x y g k sound h later h' same_group at at' rounds =
+same-reduction s t u v between c d a b x y g k sound h later h' same_group at at' rounds =
     let sound_t = steps s t (Called c (calls.Allreduce a) (replies.List x)) sound h in
     let sound_u = after-sound t u between sound_t later in
     let one = done-step s t c a.group (calls.Allreduce a) (replies.List x) refl refl sound h in
     let two = done-step u v d b.group (calls.Allreduce b) (replies.List y) refl refl sound_u h' in
-    let fold = allreduce-folded s t c a x sound h in
-    let fold' = allreduce-folded u v d b y sound_u h' in
+    let fold = allreduce-reduces s t c a x sound h in
+    let fold' = allreduce-reduces u v d b y sound_u h' in
     let g_is : fold.group ≡ g = (let some : ◌≡◌ {A = Option Group} (Some fold.group) (Some g) = sym fold.group_there ∙ at in cc) in
     let k_is : fold'.group ≡ k = (let some : ◌≡◌ {A = Option Group} (Some fold'.group) (Some k) = sym fold'.group_there ∙ at' in cc) in
     let g_one : one.1 ≡ g = (let some : ◌≡◌ {A = Option Group} (Some one.1) (Some g) = sym one.5.there.there ∙ at in cc) in
@@ -482,7 +482,7 @@ same-fold s t u v between c d a b x y g k sound h later h' same_group at at' rou
     let types : a.values.num_type ≡ b.values.num_type = cc in
     let one_of = (sound.collectives.groups a.group g at).members (round_of g c.rank) c.rank fold.own mine in
     let members : members_in g ≡ members_in k = rw (one_of.fixed, grows.members one_of.mask one_of.fixed) refl in
-    let alike = folds-alike (contribution_in g (round_of g c.rank)) (contribution_in k (round_of k d.rank)) a.op a.values.num_type (members_in g) (λ n m here.
+    let alike = reductions-alike (contribution_in g (round_of g c.rank)) (contribution_in k (round_of k d.rank)) a.op a.values.num_type (members_in g) (λ n m here.
     let there = full-at (contribution_in g (round_of g c.rank)) (members_in g) n m full here in
     there.1 ∙ sym (subst (λ (z : ℕ). contribution_in k z m ≡ Some there.0) rounds (grows.given (round_of g c.rank) m there.0 there.1))) in
     fold.answers

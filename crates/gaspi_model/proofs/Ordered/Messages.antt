@@ -1,4 +1,4 @@
--- What a rank receives is a front part of what is sent to it, and what stands in its inbox is the rest.
+-- What a rank receives is a prefix of what is sent to it, and what stands in its inbox is the rest.
 use Rattle.std.proofs.Common.{◌≡◌, ℕ, zero, suc, ◌≤◌, Bool, true, false, ◌==◌, nat_lt, inl, inr, if◌then◌else◌, List, [], ◌∷◌, ◌++◌, length, take, Option, None, Some, Ok, refl, sym, ap, ◌∙◌, subst, arith, append_assoc}
 use Rattle.std.specs.List.{slice_get, slice_set, range_with_len}
 use Rattle.std.proofs.lemmas.Bool.{eqb-true, eqb-false}

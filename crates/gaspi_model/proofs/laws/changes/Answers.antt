@@ -11,7 +11,7 @@ use Rattle.gaspi_model.proofs.Changed.Posted.{post-done}
 use Rattle.gaspi_model.proofs.Changed.Ends.{ended}
 use Rattle.gaspi_model.proofs.Changed.Joins.{join-done, create-joined}
 use Rattle.gaspi_model.proofs.Changed.Known.{create-known}
-use Rattle.gaspi_model.proofs.Ordered.Collectives.{commit-done, barrier-done, create-done, allreduce-done, allreduce-folded}
+use Rattle.gaspi_model.proofs.Ordered.Collectives.{commit-done, barrier-done, create-done, allreduce-done, allreduce-reduces}
 use Rattle.gaspi_model.proofs.laws.changes.Goals as goal
 
 pub returns-clause-load : goal.returns-clause-load
@@ -119,5 +119,5 @@ returns-clause-ended c = ended
 pub returns-clause-reduced : goal.returns-clause-reduced
 returns-clause-reduced c = allreduce-done
 
-pub returns-clause-folded : goal.returns-clause-folded
-returns-clause-folded c = allreduce-folded
+pub returns-clause-reduction : goal.returns-clause-reduction
+returns-clause-reduction c = allreduce-reduces

@@ -1,4 +1,4 @@
-use Rattle.gaspi_model.proofs.Ordered.Collectives.{joins-counted, rounds-counted, done-answers, rounds-agree, group-grows, same-fold, barrier-joined}
+use Rattle.gaspi_model.proofs.Ordered.Collectives.{joins-counted, rounds-counted, done-answers, rounds-agree, group-grows, same-reduction, barrier-joined}
 use Rattle.gaspi_model.proofs.Listed.Joinable.{barrier-joins, allreduce-joins}
 use Rattle.gaspi_model.proofs.Listed.Readiness.{ready-where-full, waits-where-late, unready-waits, timeout-waits}
 use Rattle.gaspi_model.proofs.laws.collectives.Goals as goal
@@ -13,7 +13,7 @@ pub returns-clause-grows : goal.returns-clause-grows
 returns-clause-grows c = group-grows
 
 pub returns-clause-same : goal.returns-clause-same
-returns-clause-same c = same-fold
+returns-clause-same c = same-reduction
 
 pub returns-clause-barrier : goal.returns-clause-barrier
 returns-clause-barrier c = barrier-joined

@@ -3,8 +3,8 @@ use Rattle.gaspi_types.specs.Collectives.{combined}
 use Rattle.gaspi_types.specs.NumberTypes.{AreInType}
 use Rattle.gaspi_model.proofs.reductions.reduce.Given as goal
 
-abbrev pub invariant-loop-place : goal.invariant-loop-place
-invariant-loop-place l = record {
-  reduced : l.total ≡ combined l.op l.num_type (take l.place l.initial.total) (take l.place l.values) ++ drop l.place l.initial.total;
+abbrev pub invariant-loop-index : goal.invariant-loop-index
+invariant-loop-index l = record {
+  reduced : l.total ≡ combined l.op l.num_type (take l.index l.initial.total) (take l.index l.values) ++ drop l.index l.initial.total;
   range : AreInType l.num_type l.total;
 }

@@ -21,15 +21,15 @@ pub look_in-requires-clause-there : goal.look_in-requires-clause-there
 look_in-requires-clause-there c =
     (declared_there (state_in c.args.ranks.now c.args.memories.now) c.args.invocation.now.caller.rank c.args.invocation.now.caller.thread (sym (c.has_section.ensures c.args.memories.now) ∙ c.if-not-has_section.false)).within
 
-pub returns-then-not-is_recorded_with-clause-step : goal.returns-then-not-is_recorded_with-clause-step
-returns-then-not-is_recorded_with-clause-step c = (
+pub returns-then-not-may_be_recorded_with-clause-step : goal.returns-then-not-may_be_recorded_with-clause-step
+returns-then-not-may_be_recorded_with-clause-step c = (
   unanswered (state_in c.args.ranks.now c.args.memories.now) c.args.invocation.now.caller c.args.invocation.now.call.now c.args.reply.now c.in-Ok.look (sym (c.has_section.ensures c.args.memories.now) ∙ c.if-not-has_section.false)
-      c.in-Ok.ensures.look (sym c.is_recorded_with.ensures ∙ c.if-not-is_recorded_with.true),
+      c.in-Ok.ensures.look (sym c.may_be_recorded_with.ensures ∙ c.if-not-may_be_recorded_with.true),
   refl,
 )
 
 pub record_with_lanes-requires-clause-unjoined : goal.record_with_lanes-requires-clause-unjoined
-record_with_lanes-requires-clause-unjoined c = (recorded_by c.in-Ok.look.ready c.args.reply.now (sym c.is_recorded_with.ensures ∙ c.if-not-is_recorded_with.false)).0
+record_with_lanes-requires-clause-unjoined c = (recorded_by c.in-Ok.look.ready c.args.reply.now (sym c.may_be_recorded_with.ensures ∙ c.if-not-may_be_recorded_with.false)).0
 
 pub event_charge-charge-requires : goal.event_charge-charge-requires
 event_charge-charge-requires c =
@@ -54,7 +54,7 @@ record_with_lanes-requires-clause-found c = record {
 pub returns-clause-step : goal.returns-clause-step
 returns-clause-step c =
     let s = state_in c.args.ranks.now c.args.memories.now in
-    let same : c.args.reply.now ≡ recorded_reply c.in-Ok.look.ready = (recorded_by c.in-Ok.look.ready c.args.reply.now (sym c.is_recorded_with.ensures ∙ c.if-not-is_recorded_with.false)).1 in
+    let same : c.args.reply.now ≡ recorded_reply c.in-Ok.look.ready = (recorded_by c.in-Ok.look.ready c.args.reply.now (sym c.may_be_recorded_with.ensures ∙ c.if-not-may_be_recorded_with.false)).1 in
     let stepped : recorded_of c.record_with_lanes.result ≡ c.match-record_with_lanes.result =
     elim c.match-record_with_lanes.branch [ in-Ok-record_with_lanes w ↦ rw (w.in-Ok-record_with_lanes.is, w.result-is) refl | in-Err-record_with_lanes w ↦ rw (w.in-Err-record_with_lanes.is, w.result-is) refl ] in
     subst (λ (m : Result (Unit {0}) StepFault). Steps m s (state_in c.record_with_lanes.new.ranks c.record_with_lanes.new.memories) (step s (Called c.args.invocation.now.caller c.args.invocation.now.call.now c.args.reply.now))) stepped
@@ -65,7 +65,7 @@ returns-then-not-has_room-clause-step c =
     let s = state_in c.args.ranks.now c.args.memories.now in
     let declared = sym (c.has_section.ensures c.args.memories.now) ∙ c.if-not-has_section.false in
     let d = declared_there s c.args.invocation.now.caller.rank c.args.invocation.now.caller.thread declared in
-    let by = recorded_by c.in-Ok.look.ready c.args.reply.now (sym c.is_recorded_with.ensures ∙ c.if-not-is_recorded_with.false) in
+    let by = recorded_by c.in-Ok.look.ready c.args.reply.now (sym c.may_be_recorded_with.ensures ∙ c.if-not-may_be_recorded_with.false) in
     let full = subst (λ (n : ℕ). nat_le (d.posts.events + owed d.posts + n) s.limits.events ≡ false) (c.event_charge-charge.ensures.charge d.posts d.item) (sym (c.has_room.ensures d.posts d.item) ∙ c.if-not-has_room.true) in (
       rw by.1 (full_step s c.args.invocation.now.caller c.args.invocation.now.call.now c.in-Ok.look d.posts declared c.in-Ok.ensures.look by.0 d.item full),
       refl,

@@ -42,5 +42,5 @@ loop-list-preserved c =
 pub returns : goal.returns
 returns c journal cut =
     let none : position (starts_at (length c.loop-list.journal.items)) c.loop-list.lists.items ≡ None = sym (rw (c.len.ensures.value, c.deref.ensures.value) at c.in_default.ensures) in
-    c.into_rows-2.ensures.items
+    c.into_sequence-2.ensures.items
     ∙ all-merged c.args.self.lists c.loop-list.lists.items c.loop-list.journal.items journal cut c.loop-list.invariant.merged (none-next (length c.loop-list.journal.items) c.loop-list.lists.items none)

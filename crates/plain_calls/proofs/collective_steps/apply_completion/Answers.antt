@@ -2,8 +2,8 @@ use Rattle.std.proofs.Common.{◌≡◌, None, ap, ◌∙◌, arith}
 use Rattle.gaspi_model.specs.CollectiveCalls.{with_pending, completed_posts}
 use Rattle.gaspi_model.specs.declared.states.Posts.{Posts}
 use Rattle.plain_calls.proofs.Completed.{completed-even}
-use Rattle.plain_calls.proofs.collective_steps.complete_parts.Goals as goal
-use Rattle.plain_calls.proofs.collective_steps.complete_parts.Goals.{then-not-is_refused_or_timeout, else-not-is_refused_or_timeout}
+use Rattle.plain_calls.proofs.collective_steps.apply_completion.Goals as goal
+use Rattle.plain_calls.proofs.collective_steps.apply_completion.Goals.{then-not-is_refused_or_timeout, else-not-is_refused_or_timeout}
 
 pub overflow_add-posts : goal.overflow_add-posts
 overflow_add-posts c =
