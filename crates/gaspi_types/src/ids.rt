@@ -10,7 +10,7 @@ use std::marker::Model;
 /// The number of a rank, from 0. It is below 16.
 #[derive(Clone, Copy, Debug, PartialEq, Eq)]
 pub struct RankId {
-    number: u32,
+    number: u8,
 }
 
 impl Model for RankId {
@@ -31,7 +31,9 @@ impl RankId {
         requires { number < 16 }
         ensures { result ≡ number }
     {
-        RankId { number }
+        RankId {
+            number: number as u8,
+        }
     }
 
     /// The rank with a number, exactly where it is below the number of ranks.
@@ -39,7 +41,7 @@ impl RankId {
         ensures { SomeIff result (n < shape.now.limits.ranks) n }
     {
         if n < u64::from(shape.limits().ranks) {
-            Some(RankId { number: n as u32 })
+            Some(RankId { number: n as u8 })
         } else {
             None
         }
@@ -50,7 +52,7 @@ impl RankId {
         ensures value { result ≡ self }
         ensures bound { result < 16 }
     {
-        self.number
+        u32::from(self.number)
     }
 
     /// Its number, as an index.
@@ -58,14 +60,14 @@ impl RankId {
         ensures value { result ≡ self }
         ensures bound { result < 16 }
     {
-        self.number as usize
+        usize::from(self.number)
     }
 }
 
 /// The number of a thread of a rank, from 0. It is below 4.
 #[derive(Clone, Copy, Debug, PartialEq, Eq)]
 pub struct ThreadId {
-    number: u32,
+    number: u8,
 }
 
 impl Model for ThreadId {
@@ -86,7 +88,9 @@ impl ThreadId {
         requires { number < 4 }
         ensures { result ≡ number }
     {
-        ThreadId { number }
+        ThreadId {
+            number: number as u8,
+        }
     }
 
     /// The thread with a number, exactly where it is below 4.
@@ -95,7 +99,7 @@ impl ThreadId {
     {
         let _ = shape;
         if n < 4 {
-            Some(ThreadId { number: n as u32 })
+            Some(ThreadId { number: n as u8 })
         } else {
             None
         }
@@ -106,7 +110,7 @@ impl ThreadId {
         ensures value { result ≡ self }
         ensures bound { result < 4 }
     {
-        self.number
+        u32::from(self.number)
     }
 
     /// Its number, as an index.
@@ -114,14 +118,14 @@ impl ThreadId {
         ensures value { result ≡ self }
         ensures bound { result < 4 }
     {
-        self.number as usize
+        usize::from(self.number)
     }
 }
 
 /// The number of a segment of a rank, from 0. It is below 32. (GASPI: segments)
 #[derive(Clone, Copy, Debug, PartialEq, Eq)]
 pub struct SegId {
-    number: u32,
+    number: u8,
 }
 
 impl Model for SegId {
@@ -142,7 +146,9 @@ impl SegId {
         requires { number < 32 }
         ensures { result ≡ number }
     {
-        SegId { number }
+        SegId {
+            number: number as u8,
+        }
     }
 
     /// The segment with a number, exactly where it is below 32.
@@ -151,7 +157,7 @@ impl SegId {
     {
         let _ = shape;
         if n < 32 {
-            Some(SegId { number: n as u32 })
+            Some(SegId { number: n as u8 })
         } else {
             None
         }
@@ -162,7 +168,7 @@ impl SegId {
         ensures value { result ≡ self }
         ensures bound { result < 32 }
     {
-        self.number
+        u32::from(self.number)
     }
 
     /// Its number, as an index.
@@ -170,14 +176,14 @@ impl SegId {
         ensures value { result ≡ self }
         ensures bound { result < 32 }
     {
-        self.number as usize
+        usize::from(self.number)
     }
 }
 
 /// The number of a queue, from 0. It is below 8. (GASPI: one-sided communication)
 #[derive(Clone, Copy, Debug, PartialEq, Eq)]
 pub struct QueueId {
-    number: u32,
+    number: u8,
 }
 
 impl Model for QueueId {
@@ -198,7 +204,9 @@ impl QueueId {
         requires { number < 8 }
         ensures { result ≡ number }
     {
-        QueueId { number }
+        QueueId {
+            number: number as u8,
+        }
     }
 
     /// The queue with a number, exactly where it is below the number of queues.
@@ -206,7 +214,7 @@ impl QueueId {
         ensures { SomeIff result (n < shape.now.limits.queues) n }
     {
         if n < u64::from(shape.limits().queues) {
-            Some(QueueId { number: n as u32 })
+            Some(QueueId { number: n as u8 })
         } else {
             None
         }
@@ -217,7 +225,7 @@ impl QueueId {
         ensures value { result ≡ self }
         ensures bound { result < 8 }
     {
-        self.number
+        u32::from(self.number)
     }
 
     /// Its number, as an index.
@@ -225,14 +233,14 @@ impl QueueId {
         ensures value { result ≡ self }
         ensures bound { result < 8 }
     {
-        self.number as usize
+        usize::from(self.number)
     }
 }
 
 /// The number of a notification slot of a segment, from 0. It is below 1,024. (GASPI: notifications)
 #[derive(Clone, Copy, Debug, PartialEq, Eq)]
 pub struct NoteId {
-    number: u32,
+    number: u16,
 }
 
 impl Model for NoteId {
@@ -253,7 +261,9 @@ impl NoteId {
         requires { number < 1024 }
         ensures { result ≡ number }
     {
-        NoteId { number }
+        NoteId {
+            number: number as u16,
+        }
     }
 
     /// The slot with a number, exactly where it is below the number of slots.
@@ -261,7 +271,7 @@ impl NoteId {
         ensures { SomeIff result (n < shape.now.limits.notes) n }
     {
         if n < u64::from(shape.limits().notes) {
-            Some(NoteId { number: n as u32 })
+            Some(NoteId { number: n as u16 })
         } else {
             None
         }
@@ -272,7 +282,7 @@ impl NoteId {
         ensures value { result ≡ self }
         ensures bound { result < 1024 }
     {
-        self.number
+        u32::from(self.number)
     }
 
     /// Its number, as an index.
@@ -280,14 +290,14 @@ impl NoteId {
         ensures value { result ≡ self }
         ensures bound { result < 1024 }
     {
-        self.number as usize
+        usize::from(self.number)
     }
 }
 
 /// The number of a group of a rank, from 0, which is the group of all ranks. It is below 8. (GASPI: groups)
 #[derive(Clone, Copy, Debug, PartialEq, Eq)]
 pub struct GroupId {
-    number: u32,
+    number: u8,
 }
 
 impl Model for GroupId {
@@ -308,7 +318,9 @@ impl GroupId {
         requires { number < 8 }
         ensures { result ≡ number }
     {
-        GroupId { number }
+        GroupId {
+            number: number as u8,
+        }
     }
 
     /// The group with a number, exactly where it is below 8.
@@ -317,7 +329,7 @@ impl GroupId {
     {
         let _ = shape;
         if n < 8 {
-            Some(GroupId { number: n as u32 })
+            Some(GroupId { number: n as u8 })
         } else {
             None
         }
@@ -328,7 +340,7 @@ impl GroupId {
         ensures value { result ≡ self }
         ensures bound { result < 8 }
     {
-        self.number
+        u32::from(self.number)
     }
 
     /// Its number, as an index.
@@ -336,6 +348,6 @@ impl GroupId {
         ensures value { result ≡ self }
         ensures bound { result < 8 }
     {
-        self.number as usize
+        usize::from(self.number)
     }
 }
