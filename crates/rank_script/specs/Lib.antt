@@ -3,6 +3,7 @@ pub mod BenchScripts
 pub mod Cursors
 pub mod CutLines
 pub mod Generator
+pub mod LineTimeouts
 pub mod Lines
 pub mod PlainScripts
 pub mod Readings

@@ -31,7 +31,7 @@ late_fault said line =
     else (if is_repeated said line then Some 8
     else (if is_crowded said line then Some 9 else None)))
 
--- A line was read: it has no fault and was added, or its fault is named. Want of memory is no fault of it.
+-- A line was read: it has no fault and was added, or its fault is named. `NoMemory` is no fault of it.
 abbrev pub ReadsLine : Result (Unit {0}) ScriptFault → WorldReading → WorldReading → ℕ → List ℕ → Type 0
 ReadsLine (Ok done) old new number line = (fault_of old line ≡ None) × (new ≡ after_line old number line)
 ReadsLine (Err (faults.At fault at)) old new number line = (fault_of old line ≡ Some fault) × (at ≡ number)

@@ -11,7 +11,7 @@ use std::alloc::Global;
 
 /// The world of `bench`, with 1 to 16 ranks in a ring, and 1 to 5,000 rounds. In each round a rank stores a number of the
 /// generator that starts from the seed, posts it to its right neighbour, and looks whether the one that came is its left
-/// neighbour's. A line has the number that it has in the same world as a text. `NoMemory` comes for want of memory alone;
+/// neighbour's. A line has the number that it has in the same world as a text. `NoMemory` comes only where memory is refused;
 /// the memory taken is in proportion to the ranks: the lines are made round by round, by the cursor that walks them.
 pub fn bench_world(
     alloc: Global,
@@ -63,7 +63,7 @@ fn declare_rank(shape: &mut Shape, rank: u32) -> Result<(), NoMemory>
     }
 }
 
-/// The want of memory that the fault of a declaration is.
+/// `NoMemory`, which the fault of a declaration is.
 fn no_memory(fault: ShapeFault) -> NoMemory
     requires { fault ≡ ShapeFault.NoMemory }
 {

@@ -49,7 +49,7 @@ impl<'a> Cursor<'a> {
         ensures { option_map (λ call. (call.0.now, call.1)) result ≡ present_of self.now }
     {
         let line = self.left.first()?;
-        Some((&line.call, line.timeout))
+        Some((&line.call, line.timeout.get()))
     }
 
     /// Goes on after the reply of the present call: the same call again where it timed out and its line has tries left,
@@ -121,7 +121,7 @@ impl<'a> Cursor<'a> {
 fn is_stuck(line: &ScriptLine, reply: &Reply) -> bool
     ensures { result ≡ is_stuck line.now reply.now }
 {
-    matches!(line.timeout, Timeout::Block) && is_timeout(reply)
+    matches!(line.timeout.get(), Timeout::Block) && is_timeout(reply)
 }
 
 /// Whether a line's call is made again after a reply, where it was made so often before that reply's call: it timed out,

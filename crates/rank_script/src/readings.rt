@@ -10,6 +10,7 @@ ghost use Rattle.rank_script.specs.declared.scripts.ScriptFault.TheVariants.{At}
 use crate::arguments::{read_section, read_segment, read_shape, timeout_of, tries_of};
 use crate::call_lines::CallParts;
 use crate::line_fields::LineParts;
+use crate::line_timeouts::LineTimeout;
 use crate::lines::is_bad_line;
 use crate::scripts::{ScriptFault, ScriptLine, Scripts};
 use call_texts::set_words;
@@ -244,7 +245,7 @@ fn read_script_line(alloc: Global, number: u64, parts: CallParts) -> Result<Scri
     Ok(ScriptLine {
         number,
         call,
-        timeout,
+        timeout: LineTimeout::new(timeout),
         tries,
         expected,
     })

@@ -3,10 +3,12 @@
 ghost use Rattle.std.specs.Prelude.{◌≡◌, ◌+◌, ◌<◌, ◌≤◌, ◌∷◌, List, ℕ, [], length, drop, slice_get, IfOk, Some, true, false};
 ghost use Rattle.byteorder.specs.Endian.{little_bytes};
 ghost use Rattle.rank_script.specs.Bench.{bench_lines, once_line};
+ghost use Rattle.rank_script.specs.PlainScripts.{has_look_in};
 ghost use Rattle.rank_script.specs.Rounds.{round_with, store_with, load_with, lines_in};
 
 use crate::expected::ExpectedReply;
 use crate::generator::after_draws;
+use crate::line_timeouts::LineTimeout;
 use crate::ring_ranks::RingRank;
 use crate::scripts::ScriptLine;
 use byteorder::{ByteOrder, LittleEndian};
@@ -24,12 +26,13 @@ fn once_line(
     timeout: Timeout,
     expected: Option<ExpectedReply>,
 ) -> ScriptLine
+    requires { has_look_in timeout ≡ true }
     ensures { result ≡ once_line number call timeout expected }
 {
     ScriptLine {
         number,
         call,
-        timeout,
+        timeout: LineTimeout::new(timeout),
         tries: 1,
         expected,
     }

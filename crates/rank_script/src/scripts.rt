@@ -4,8 +4,9 @@ ghost use Rattle.std.specs.Prelude.{◌≡◌, ◌<◌, ◌++◌, ◌∷◌, [],
 ghost use Rattle.rank_script.specs.declared.scripts.ScriptFault.TheVariants.{NoMemory};
 
 use crate::expected::ExpectedReply;
+use crate::line_timeouts::LineTimeout;
 use crate::ring_ranks::RingRank;
-use gaspi_types::{Call, CallerId, NoMemory, Sequence, Timeout};
+use gaspi_types::{Call, CallerId, NoMemory, Sequence};
 use std::alloc::Global;
 use std::marker::Model;
 use thiserror::Error;
@@ -16,7 +17,7 @@ pub struct ScriptLine {
     /// Its number in the text, from 1.
     pub number: u64,
     pub call: Call,
-    pub timeout: Timeout,
+    pub timeout: LineTimeout,
     /// How often the call is made at most, from 1.
     pub tries: u32,
     /// The reply that the last of these calls must have, where the line says one.
@@ -99,7 +100,7 @@ pub enum RunOutcome {
 pub enum RunStop {
     /// The rank has no room for the present call.
     Limit,
-    /// Want of memory.
+    /// Out of memory.
     NoMemory,
 }
 
@@ -109,7 +110,7 @@ pub enum ScriptFault {
     /// The fault with that number, 1 to 9, in that line.
     #[error("fault S{number} line {line}")]
     At { number: u32, line: u64 },
-    /// Want of memory.
+    /// Out of memory.
     #[error("out of memory")]
     NoMemory,
 }
