@@ -1,17 +1,18 @@
 //! The node of a rank at the start, with all its tables, rings and its rank journal.
 
-ghost use Rattle.std.specs.Prelude.{◌≡◌, ◌<◌, ◌≤◌, IfOk, map};
+ghost use Rattle.std.specs.Prelude.{◌≡◌, ◌<◌, ◌≤◌, IfOk, [], None, false, map, replicate};
 ghost use Rattle.std.specs.Option.{option_map};
 ghost use Rattle.std.specs.List.{range_with_len};
-ghost use Rattle.gaspi_model.specs.State.{declared_size, new_slots, opening_slots};
+ghost use Rattle.gaspi_types.specs.Groups.{opening_handles};
+ghost use Rattle.gaspi_model.specs.State.{declared_size, new_slots, opening_slots, opening_table, opening_thread};
 ghost use Rattle.rank_node.specs.Openings.{IsOpeningNode};
 
 use crate::node_counts::running_count;
 use crate::node_memory::NodeMemory;
 use crate::node_posts::NodePosts;
 use crate::nodes::Node;
-use gaspi_model::{declared_size, opening_corrupt, opening_table, opening_threads};
-use gaspi_types::{Buffer, NoMemory, RankId, Sequence, Shape};
+use gaspi_model::{ThreadState, declared_size, opening_corrupt, opening_table, opening_threads};
+use gaspi_types::{Buffer, Limits, NoMemory, PlacedEvent, RankId, SegmentTable, Sequence, Shape};
 use group_registry::Groups;
 use plain_calls::opening_segments;
 use post_queue::Lanes;
@@ -51,6 +52,43 @@ fn opening_slots(
     Ok(slots)
 }
 
+/// Of a rank at the start: which ranks are corrupt for it, what it has and knows of segments, and its threads.
+fn opening_tables(
+    alloc: Global,
+    shape: &Shape,
+    rank: u32,
+) -> Result<(Sequence<bool>, SegmentTable, Sequence<ThreadState>), NoMemory>
+    ensures corrupt { IfOk result (λ tables. tables.0 ≡ replicate shape.now.limits.ranks false) }
+    ensures segments { IfOk result (λ tables. tables.1 ≡ opening_table shape.now rank) }
+    ensures threads { IfOk result (λ tables. tables.2 ≡ map (opening_thread shape.now rank) (range_with_len 0 4)) }
+{
+    Ok((
+        opening_corrupt(alloc, shape.limits().ranks)?,
+        opening_table(alloc, shape, rank)?,
+        opening_threads(alloc, shape, rank)?,
+    ))
+}
+
+/// Of a rank at the start: its groups, its collectives that are pending, and its rank journal.
+fn opening_records(
+    alloc: Global,
+    limits: Limits,
+    rank: RankId,
+) -> Result<(Groups, Pending, Buffer<PlacedEvent>), NoMemory>
+    requires least { 1 ≤ limits.ranks }
+    requires greatest { limits.ranks ≤ 16 }
+    requires own { rank < limits.ranks }
+    ensures groups { IfOk result (λ records. records.0 ≡ record { me = rank; groups = opening_handles limits.ranks }) }
+    ensures pending { IfOk result (λ records. records.1 ≡ replicate 8 None) }
+    ensures journal { IfOk result (λ records. records.2 ≡ record { items = []; capacity = limits.events }) }
+{
+    Ok((
+        Groups::new(alloc, rank, limits.ranks)?,
+        Pending::new(alloc)?,
+        Buffer::with_capacity(alloc, limits.events as usize)?,
+    ))
+}
+
 impl NodePosts {
     ghost use Rattle.std.specs.Prelude.{◌≡◌, ◌<◌, IfOk};
     ghost use Rattle.rank_node.specs.Openings.{posts_at_start};
@@ -62,19 +100,20 @@ impl NodePosts {
     {
         let limits = shape.limits();
         let lanes = Lanes::new(alloc, limits.queues, limits.ranks, limits.depth)?;
-        let threads = opening_threads(alloc, shape, rank.number())?;
+        let (corrupt, segments, threads) = opening_tables(alloc, shape, rank.number())?;
+        let (groups, pending, journal) = opening_records(alloc, limits, rank)?;
         Ok(NodePosts {
             limits,
             me: rank,
             owed: lanes.owed(),
             lanes,
-            corrupt: opening_corrupt(alloc, limits.ranks)?,
-            segments: opening_table(alloc, shape, rank.number())?,
-            groups: Groups::new(alloc, rank, limits.ranks)?,
-            pending: Pending::new(alloc)?,
+            corrupt,
+            segments,
+            groups,
+            pending,
             running: running_count(&threads),
             threads,
-            journal: Buffer::with_capacity(alloc, limits.events as usize)?,
+            journal,
         })
     }
 }
