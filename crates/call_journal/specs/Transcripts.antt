@@ -34,7 +34,7 @@ stuck_line c line = caller_word c ++ codes " stuck " ++ decimal line ++ codes "\
 abbrev pub limit_line : CallerId → ℕ → List ℕ
 limit_line c line = caller_word c ++ codes " limit " ++ decimal line ++ codes "\n"
 
--- no run that is told ended for want of memory; its line is that of a run that stopped
+-- no run that is told ended out of memory; its line is that of a run that stopped
 abbrev pub outcome_line : CallerId → RunOutcome → List ℕ
 outcome_line c outcomes.Ended = ended_line c
 outcome_line c (outcomes.Failed line) = failed_line c line

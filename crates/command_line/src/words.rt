@@ -139,7 +139,7 @@ fn asked(matches: &ArgMatches<'_>) -> Option<Command>
     }
 }
 
-/// The answer to words that clap refuses: none, or want of memory.
+/// The answer to words that clap refuses: none, or `NoMemory`.
 fn refused(error: &Error) -> Result<Option<Command>, NoMemory>
     ensures { IfOk result (λ command. (command ≡ None) × (kind_of error.now ≢ ErrorKind.OutOfMemory)) }
 {

@@ -1,4 +1,4 @@
-//! Scripts that end for want of memory, and where a journal begins behind a world text.
+//! Scripts that end out of memory, and where a journal begins behind a world text.
 
 use crate::one_rank::caller;
 use gaspi_types::NoMemory;

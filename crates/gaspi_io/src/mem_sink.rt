@@ -39,7 +39,7 @@ impl Model for MemSink {
 }
 
 impl MemSink {
-    /// A sink that holds nothing. A write takes the whole piece, and none fails but for want of memory.
+    /// A sink that holds nothing. A write takes the whole piece, and none fails unless there is no memory left.
     pub fn new(alloc: Global) -> MemSink
         ensures { result ≡ record {
           held = [];

@@ -86,6 +86,6 @@ pub enum Why {
 pub enum StepFault {
     /// The event is no step.
     Illegal(Why),
-    /// Want of memory.
+    /// Out of memory.
     NoMemory,
 }

@@ -76,7 +76,7 @@ module _ (old : Option (List ℕ)) (journal : List Event) where
       subst (λ (text : List ℕ). IsOnItsWay old text old block') (sym (append-nil first_line))
       (more-behind old [] old [] block' first_line (nothing-yet old) (is ∙ ap (λ (b : List ℕ). b ++ first_line) empty))
 
-  -- want of memory at a place
+  -- out of memory at a place
   pub stops-before : (place : ℕ) (new : Option (List ℕ)) (block : List ℕ) → IsBefore place new block → AddsPrefix (journal_text journal) old new
   stops-before place new block way =
       let t = to-come place journal in

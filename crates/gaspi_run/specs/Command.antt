@@ -240,7 +240,7 @@ pub record WrotePrefix (command : Command) (before after held held' : Option (Li
   pub of : IsResultOf command before after journal tally would_be text
   pub front : AddsPrefix text held held'
 
--- want of memory, and nothing else: status 7; nothing was written, or a prefix of a journal, and at most one byte more was taken
+-- out of memory, and nothing else: status 7; nothing was written, or a prefix of a journal, and at most one byte more was taken
 -- than an input may have
 pub record RanOutOfMemory (command : Command) (before after held held' : Option (List ℕ)) (faults faults' sink_faults sink_faults' : ℕ) (answer : Answer) : Type 0 where
   pub taken : TakesAtMost (input_limit + 1) before after
@@ -276,7 +276,7 @@ pub record NumbersNotWritten (seed ranks rounds : ℕ) (held held' : Option (Lis
   pub cause : HasCause sink_faults sink_faults'
   pub status : answer.status ≡ 6
 
--- want of memory, and nothing else: status 7; nothing was written
+-- out of memory, and nothing else: status 7; nothing was written
 pub record BenchOutOfMemory (held held' : Option (List ℕ)) (sink_faults sink_faults' : ℕ) (answer : Answer) : Type 0 where
   pub kept : held' ≡ held
   pub still : sink_faults' ≡ sink_faults

@@ -55,7 +55,7 @@ pub record LackedRoom (w : ShapeValue) (journal : List Event) (caller : CallerId
   pub leads : reached w before ≡ Ok state
   pub full : w.limits.events < used_room state caller.rank + present_need state caller line
 
--- why a caller ended at the event limit, where it did: at a line of its script; none ended for want of memory
+-- why a caller ended at the event limit, where it did: at a line of its script; none ended out of memory
 abbrev pub HasLimitCause : ShapeValue → List Event → CallerId → List ScriptLine → RunOutcome → Type 0
 HasLimitCause w journal caller lines outcomes.Ended = Unit {0}
 HasLimitCause w journal caller lines (outcomes.Failed number) = Unit {0}

@@ -119,7 +119,7 @@ ended_caller (Worker turns) = []
 abbrev pub ended_callers : List (Task ThreadBody) → List EndedCaller
 ended_callers tasks = flat_map (λ (task : Task ThreadBody). ended_caller task.body) tasks
 
--- a run did not end for want of memory
+-- a run did not end out of memory
 abbrev pub is_not_out_of_memory : RunOutcome → Bool
 is_not_out_of_memory outcomes.Ended = true
 is_not_out_of_memory (outcomes.Failed line) = true

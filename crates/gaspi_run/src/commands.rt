@@ -33,7 +33,7 @@ use std::thread::Threads;
 /// | 4 | `check`, `why`: there is no journal, or it is not legal; `why`: no notification was put at that place |
 /// | 5 | a read failed |
 /// | 6 | a write failed |
-/// | 7 | want of memory |
+/// | 7 | out of memory |
 /// | 8 | a caller ended at the event limit, and none has failed or is stuck |
 #[derive(Drop)]
 pub struct Answer {

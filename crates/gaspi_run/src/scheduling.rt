@@ -81,7 +81,7 @@ fn starts<'a>(
 }
 
 /// The scheduled history of a world's scripts, and how each caller ended. A call that blocks has `limit` looks, at least
-/// one; the scripts are those of this shape's callers. Only want of memory is an error.
+/// one; the scripts are those of this shape's callers. Only `NoMemory` is an error.
 pub fn schedule(
     alloc: Global,
     shape: &Shape,

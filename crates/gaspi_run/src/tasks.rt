@@ -190,7 +190,7 @@ fn passes_of(alloc: Global, tasks: Vec<Task<ThreadBody<'_>>>) -> Result<Passes, 
     Ok(passes)
 }
 
-/// Runs the scripts of a world and makes its transfers, each caller and each worker on a thread of its own. Only want of memory
+/// Runs the scripts of a world and makes its transfers, each caller and each worker on a thread of its own. Only `NoMemory`
 /// is an error.
 pub(crate) fn run_bodies<R: Threads + Wait + Sync>(
     rt: &R,

@@ -47,7 +47,7 @@ fn closed(alloc: Global, world: World, passes: Passes) -> Result<(Journal, Tally
 }
 
 /// Runs the scripts of a world on threads, with so many workers that make its transfers. A call that blocks has `limit` looks,
-/// at least one; the scripts are those of this shape's callers. Only want of memory is an error.
+/// at least one; the scripts are those of this shape's callers. Only `NoMemory` is an error.
 pub fn run_on_threads<R: Threads + Wait + Sync>(
     rt: &R,
     alloc: Global,

@@ -17,7 +17,7 @@ pub enum JournalFault {
     /// The first line that cannot stand there, from 1; where the text ends too early, the number of its lines plus 1.
     #[error("not a journal {line}")]
     At { line: u64 },
-    /// Want of memory.
+    /// Out of memory.
     #[error("out of memory")]
     NoMemory,
 }

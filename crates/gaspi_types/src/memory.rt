@@ -1,10 +1,10 @@
-//! Want of memory.
+//! Out of memory.
 
 ghost use Rattle.std.specs.Prelude.{◌≡◌};
 
 use std::alloc::{AllocError, AllocFailed};
 
-/// Want of memory: an allocation was refused. It has no other cause, and is merged with no other answer.
+/// Out of memory: an allocation was refused. It has no other cause, and is merged with no other answer.
 #[derive(Clone, Copy, Debug, PartialEq, Eq)]
 pub struct NoMemory;
 

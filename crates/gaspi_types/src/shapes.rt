@@ -60,7 +60,7 @@ pub enum ShapeFault {
     /// The rank's callers would be more than the events that it may record.
     #[error("more threads than events")]
     Threads,
-    /// Want of memory.
+    /// Out of memory.
     #[error("out of memory")]
     NoMemory,
 }

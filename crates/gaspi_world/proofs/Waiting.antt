@@ -44,11 +44,6 @@ at-snoc [] x (suc k) y at = absurd (let no : ⊥ = cc in no)
 at-snoc (z ∷ xs) x zero y at = inl at
 at-snoc (z ∷ xs) x (suc k) y at = at-snoc xs x k y at
 
--- what is not false is true
-pub not-false : (b : Bool) → (b ≡ false → ⊥) → b ≡ true
-not-false true never = refl
-not-false false never = absurd (never refl)
-
 -- nothing is left of a list that is as long without it
 nothing-more : {A : Type 0} (xs ys : List A) → xs ++ ys ≡ xs → ys ≡ []
 nothing-more xs [] same = refl

@@ -93,7 +93,7 @@ module _ {S : Type 0} (w : ShapeValue) (c : CallerId) where
     pub room : lacks_room_after w c call last ≡ full
     pub now : full ≡ true → last ≡ n.seen
 
-  -- how a call ended: there is want of memory only at a call that may take memory
+  -- how a call ended: out of memory only at a call that may take memory
   abbrev pub Calls : Call → timeouts.Timeout → PassView S Event → Result Reply Stop → PassView S Event → Type 0
   Calls call timeout v (Ok reply) n = IsCalled call timeout reply v n
   Calls call timeout v (Err EventLimit) n = IsStopped call timeout true v n

@@ -23,7 +23,7 @@ use std::boxed::Box;
 /// What is known of a closed world: its journal, and of each pass what it saw, did and looked at.
 pub type Tally = commit_table::Tally<Start>;
 
-/// A world that could not be closed for want of memory, and its passes: both are as they were.
+/// A world that could not be closed, out of memory, and its passes: both are as they were.
 #[derive(Drop)]
 pub struct Unclosed {
     pub world: World,
@@ -73,7 +73,7 @@ fn close_with(world: World, passes: Passes, room: MergeRoom) -> (Journal, Tally)
 
 impl World {
     /// Ends a world, with all its passes, none of which holds a shard, and gives its journal with what is known of its
-    /// passes. The only failure is want of memory: all memory is taken first, so that the world can be closed later.
+    /// passes. The only failure is `NoMemory`: all memory is taken first, so that the world can be closed later.
     pub fn close(self, alloc: Global, passes: Passes) -> Result<(Journal, Tally), Unclosed>
         requires whole { AreWhole self passes.items }
         ensures tally { IfOk result (λ r. (r.1.start ≡ Some self.start) × (r.1.journal ≡ r.0)) }

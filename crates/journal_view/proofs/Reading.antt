@@ -37,7 +37,7 @@ pub the_app_is_free : is_simple_and_free the_app ≡ true
 unfolding clap_on_literals
 the_app_is_free = refl
 
--- a parse that fails by one of these, and not for want of memory
+-- a parse that fails by one of these, and not by `NoMemory`
 pub fails_for : (kinds : Kinds) (e : Error) → HasKind kinds e → (kind_of e ≡ OutOfMemory → ⊥) → IsAmong (kind_of e) kinds
 fails_for kinds e has not_memory = elim has [
   | inl h ↦ absurd (not_memory h)

@@ -139,7 +139,7 @@ pub record WrotePrefix (asked : Picture) (before after held held' : Option (List
   pub of : IsResultOf asked before after 0 text
   pub front : AddsPrefix text held held'
 
--- want of memory, and nothing else: status 7; nothing was written, or a prefix of a trace, and at most one byte more was taken than
+-- out of memory, and nothing else: status 7; nothing was written, or a prefix of a trace, and at most one byte more was taken than
 -- an input may have
 pub record RanOutOfMemory (asked : Picture) (before after held held' : Option (List ℕ)) (faults faults' sink_faults sink_faults' status : ℕ) : Type 0 where
   pub taken : TakesAtMost (input_limit + 1) before after

@@ -123,7 +123,7 @@ fn view_picture<S: Source, K: Sink>(
 /// | 4 | there is no journal, or it is not legal |
 /// | 5 | a read failed |
 /// | 6 | a write failed |
-/// | 7 | want of memory; a prefix of a trace may have been written, and of no other text |
+/// | 7 | out of memory; a prefix of a trace may have been written, and of no other text |
 /// | 9 | the journal has too many events for that picture |
 pub fn view<S: Source, K: Sink>(alloc: Global, words: &[&str], source: &mut S, sink: &mut K) -> u8
     ensures refused { picture_of (map (λ word. word.now) words.now) ≡ None

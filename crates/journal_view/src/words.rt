@@ -78,7 +78,7 @@ fn asked(matches: &ArgMatches<'_>) -> Option<Picture>
     }
 }
 
-/// The answer to words that clap refuses: none, or want of memory.
+/// The answer to words that clap refuses: none, or `NoMemory`.
 fn refused(error: &Error) -> Result<Option<Picture>, NoMemory>
     ensures { IfOk result (λ picture. (picture ≡ None) × (kind_of error.now ≢ ErrorKind.OutOfMemory)) }
 {

@@ -26,7 +26,7 @@ build_result limits me table call = do
   there ← lane_checks limits (row_of call).posting
   call_kinds limits.notes me table call
 
--- What is built is what is found: entries of just these kinds, or that refusal. Want of memory may come in place of either.
+-- What is built is what is found: entries of just these kinds, or that refusal. `NoMemory` may come in place of either.
 abbrev pub Builds : Result (List Kind) BuildStop → Result (List Kind) Refusal → Type 0
 Builds (Ok entries) found = found ≡ Ok entries
 Builds (Err (Refused refusal)) found = found ≡ Err refusal

@@ -10,7 +10,7 @@ use gaspi_types::{NoMemory, Refusal};
 pub enum BuildStop {
     /// The call is refused, for that cause.
     Refused(Refusal),
-    /// Want of memory.
+    /// Out of memory.
     NoMemory,
 }
 

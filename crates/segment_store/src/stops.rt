@@ -10,7 +10,7 @@ use gaspi_types::{NoMemory, Refusal};
 pub enum PartStop {
     /// The call is refused, for that cause.
     Refused(Refusal),
-    /// Want of memory, where the call is not refused.
+    /// Out of memory, where the call is not refused.
     NoMemory,
 }
 

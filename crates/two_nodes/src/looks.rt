@@ -169,7 +169,7 @@ fn join(
 }
 
 /// One look at a call: where its rank has room for it, a collective joins where it may, and the call is recorded where it is answered.
-/// None where it is not ready. Want of memory leaves everything as it was.
+/// None where it is not ready. `NoMemory` leaves everything as it was.
 pub(crate) fn look(
     lent: &mut Lent<'_>,
     alloc: Global,

@@ -1,10 +1,11 @@
 use Rattle.std.proofs.Common.{◌≡◌, ℕ, suc, ◌+◌, [], ◌∷◌, ◌++◌, length, length-append, Result, Err, refl, sym, ap, ◌∙◌, subst, arith}
+use Rattle.std.proofs.lemmas.Bool.{true_from_ne_false}
 use Rattle.gaspi_types.specs.CallRows.{row_of}
 use Rattle.gaspi_types.specs.declared.replies.Reply.{Reply}
 use Rattle.timeout_state.specs.Looks.{looks_of, left_after, answer_of, spent, HasLook}
 use Rattle.gaspi_world.specs.Attempts.{Attempted}
 use Rattle.gaspi_world.specs.declared.attempts.Halt.{Halt}
-use Rattle.gaspi_world.proofs.Waiting.{waited-none, waited-busy, waited-more, called-now, stopped-full, stopped-empty, left-more, not-false}
+use Rattle.gaspi_world.proofs.Waiting.{waited-none, waited-busy, waited-more, called-now, stopped-full, stopped-empty, left-more}
 use Rattle.gaspi_world.proofs.calling.call.Goals as goal
 
 pub loop-init : goal.loop-init
@@ -75,6 +76,6 @@ pub returns-in-Err-NoMemory-clause-calls : goal.returns-in-Err-NoMemory-clause-c
 returns-in-Err-NoMemory-clause-calls g c =
     let out = c.in-Err-NoMemory.is ∙ ap (λ (h : Halt). Err h) c.in-Err-NoMemory.field-0-is in
     let told = subst (λ (r : Result Reply Halt). Attempted c.args.table.now.start.shape c.args.invocation.now.caller c.args.invocation.now.call.now c.loop.look c.loop.pass.known r c.attempt.new.pass.known) out c.attempt.ensures.attempted in (
-      not-false (row_of c.args.invocation.now.call.now).takes_memory (λ small. c.attempt.ensures.ample small out),
+      true_from_ne_false (row_of c.args.invocation.now.call.now).takes_memory (λ small. c.attempt.ensures.ample small out),
       stopped-empty c.args.table.now.start.shape c.args.invocation.now.caller c.args.invocation.now.call.now c.args.pass.now.known c.loop.pass.known c.attempt.new.pass.known c.loop.invariant.4.0 c.args.timeout c.requires.world c.loop.invariant.4.1 told c.loop.invariant.4.2,
     )
