@@ -1,9 +1,6 @@
-//! Tests alone: whole runs of the command that no text of `tests/` can show, the worked examples over the public call, and
-//! the texts of single calls, replies and events.
+//! Tests alone: whole runs of the command that no text of `tests/` can show, and the texts of single calls, replies and events.
 #![tactic(auto)]
 
-#[cfg(test)]
-mod examples;
 #[cfg(test)]
 mod pieces;
 #[cfg(test)]

@@ -2,8 +2,7 @@
 
 ghost use Rattle.std.specs.Prelude.{◌≡◌, map};
 
-use crate::examples::{TOLD, TWO_RANKS, TWO_RESETS};
-use crate::running::{RUN, answer_to, source_of};
+use crate::running::{RUN, TOLD, TWO_RANKS, TWO_RESETS, answer_to, source_of};
 use call_journal::write_transcripts;
 use command_line::Command;
 use gaspi_io::{SureSink, SureSource};

@@ -2,8 +2,7 @@
 
 ghost use Rattle.std.specs.Prelude.{◌<◌};
 
-use crate::examples::{TOLD, TWO_RANKS};
-use crate::running::{STEP, answer_to};
+use crate::running::{STEP, TOLD, TWO_RANKS, answer_to};
 use gaspi_io::{MemSink, MemSource};
 use gaspi_types::{Bytes, NoMemory, Sequence};
 use std::alloc::Global;
