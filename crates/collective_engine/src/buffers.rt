@@ -1,4 +1,5 @@
-//! The two buffers of a group. (GASPI: collectives)
+//! The two buffers of a group, with the counts of each rank: to read a contribution, to add one, and to complete a round. What the
+//! ranks must have done before is required, and not checked. (GASPI: collectives)
 
 ghost use Rattle.std.specs.Prelude.{◌≡◌, ◌+◌, ◌<◌, ◌≤◌, length, replicate, IfOk};
 ghost use Rattle.std.specs.Option.{option_copied};
@@ -8,17 +9,20 @@ use crate::kept_contributions::KeptContribution;
 use gaspi_types::{Args, NoMemory, RankId, Sequence};
 use std::alloc::Global;
 
-/// Who has joined which round of a group with what: of each rank the number of rounds that it has joined, and of those that it has
-/// left, and its contributions to its last two rounds, that to an even round in one buffer and that to an odd round in the other.
+/// The contributions of each rank to its last two rounds, and how far it has come. A rank is an index from 0 to 15.
 #[derive(Debug, Drop)]
 pub struct Buffers {
+    /// To how many rounds the rank has contributed.
     pub(crate) joined: [u32; 16],
+    /// How many rounds the rank has completed.
     pub(crate) completed: [u32; 16],
+    /// Its contribution to the last even round.
     pub(crate) even: Sequence<KeptContribution>,
+    /// Its contribution to the last odd round.
     pub(crate) odd: Sequence<KeptContribution>,
 }
 
-/// A place for the contribution of each rank.
+/// One buffer: a stored contribution for each rank.
 fn kept_contributions(alloc: Global) -> Result<Sequence<KeptContribution>, NoMemory>
     ensures { IfOk result (λ kept. length kept ≡ 16) }
 {
@@ -29,7 +33,7 @@ fn kept_contributions(alloc: Global) -> Result<Sequence<KeptContribution>, NoMem
     Ok(kept)
 }
 
-/// Buffers of rounds that no rank has joined.
+/// The buffers of a group with no contribution.
 pub(crate) fn opening(alloc: Global) -> Result<Buffers, NoMemory>
     ensures capacity { IfOk result HasCapacity }
     ensures joined { IfOk result (λ buffers. buffers.joined ≡ replicate 16 0) }
@@ -43,7 +47,7 @@ pub(crate) fn opening(alloc: Global) -> Result<Buffers, NoMemory>
     })
 }
 
-/// How many rounds a rank has joined, and how many of these it has left.
+/// To how many rounds a rank has contributed, and how many it has completed.
 pub(crate) fn counts(buffers: &Buffers, rank: RankId) -> (u32, u32)
     ensures joined { result.0 ≡ joined_by buffers.now rank }
     ensures completed { result.1 ≡ completed_by buffers.now rank }
@@ -54,7 +58,7 @@ pub(crate) fn counts(buffers: &Buffers, rank: RankId) -> (u32, u32)
     )
 }
 
-/// The buffer of a round.
+/// The buffer of a round: by its number, even or odd.
 fn buffer_of(buffers: &Buffers, round: u32) -> &Sequence<KeptContribution>
     ensures { result.now ≡ buffer_of buffers.now round }
 {
@@ -65,7 +69,7 @@ fn buffer_of(buffers: &Buffers, round: u32) -> &Sequence<KeptContribution>
     }
 }
 
-/// What a rank has given to a round, of its last two.
+/// The contribution of a rank to a round, one of its last two; None where the rank has not contributed.
 pub(crate) fn given(buffers: &Buffers, round: u32, rank: RankId) -> Option<&KeptContribution>
     ensures { option_copied result ≡ contribution_by buffers.now round rank }
 {
@@ -76,7 +80,7 @@ pub(crate) fn given(buffers: &Buffers, round: u32, rank: RankId) -> Option<&Kept
     }
 }
 
-/// A rank gives to its round. What it overwrites is its contribution of two rounds before.
+/// Appends a contribution of a rank to its next round. It overwrites the one of two rounds before. It takes no memory.
 pub(crate) fn contribute(buffers: &mut Buffers, rank: RankId, args: &Args, generation: u32)
     requires capacity { HasCapacity buffers.old }
     requires count { joined_by buffers.old rank < 4294967295 }
@@ -91,7 +95,7 @@ pub(crate) fn contribute(buffers: &mut Buffers, rank: RankId, args: &Args, gener
     buffers.joined[rank.index()] = round + 1;
 }
 
-/// A rank leaves its round, the last that it has joined.
+/// Completes the round of a rank, the last to which it has contributed.
 pub(crate) fn leave(buffers: &mut Buffers, rank: usize)
     requires bound { rank < 16 }
     requires joined { joined_by buffers.old rank ≡ completed_by buffers.old rank + 1 }

@@ -1,14 +1,16 @@
-//! The generations of a round. (GASPI: segment_create)
+//! The generations in which members have made their segments, in a value that takes no memory. (GASPI: segment_create)
 
 ghost use Rattle.std.specs.Prelude.{◌≡◌};
 
 use gaspi_types::MemberSegment;
 use std::marker::Model;
 
-/// In which generation each member has made its segment, by rising rank. Contracts see the list.
+/// For each member the generation of its new segment, by rising rank. Contracts see the list.
 #[derive(Debug, Drop)]
 pub struct Generations {
+    /// The list, and then items of no account.
     pub(crate) made: [MemberSegment; 16],
+    /// How many items the list has.
     pub(crate) count: usize,
 }
 
@@ -24,7 +26,7 @@ impl Model for Generations {
 }
 
 impl Generations {
-    /// The generations, by rising rank.
+    /// The list, by rising rank.
     pub fn as_slice(&self) -> &[MemberSegment]
         ensures { result.now ≡ self.now }
     {

@@ -1,4 +1,5 @@
-//! The contribution of one rank in one buffer. (GASPI: collectives)
+//! One contribution as a buffer stores it: its memory is taken once, and a later contribution is written over it.
+//! (GASPI: collectives)
 
 ghost use Rattle.std.specs.Prelude.{◌≡◌, ◌≤◌, length, IfOk};
 ghost use Rattle.gaspi_types.specs.NumberTypes.{AreInType};
@@ -7,14 +8,18 @@ use gaspi_types::{Args, Coll, NoMemory, NumType, Sequence};
 use std::alloc::Global;
 use std::marker::Model;
 
-/// A contribution of up to 255 numbers, whose memory is taken once. Contracts see the contribution that it keeps.
+/// A stored contribution of up to 255 values. Contracts see the contribution.
 #[derive(Debug, Drop)]
 pub(crate) struct KeptContribution {
+    /// The collective, values aside.
     coll: Coll,
+    /// The type of the values.
     num_type: NumType,
-    /// 255 numbers, of which the first `count` are those of the contribution.
+    /// 255 numbers, of which the first `count` are the values of the contribution.
     numbers: Sequence<i128>,
+    /// How many values there are.
     count: usize,
+    /// The generation of a new segment, or 0.
     generation: u32,
 }
 
@@ -31,7 +36,7 @@ impl Model for KeptContribution {
 }
 
 impl KeptContribution {
-    /// One that keeps nothing that is ever read. All its memory is taken here.
+    /// A stored contribution of no account, for a rank that has not contributed. All its memory is taken here.
     pub(crate) fn empty(alloc: Global) -> Result<KeptContribution, NoMemory> {
         Ok(KeptContribution {
             coll: Coll::Barrier,
@@ -42,7 +47,7 @@ impl KeptContribution {
         })
     }
 
-    /// Keeps a contribution in place of the one that it kept.
+    /// Stores a contribution over the one that was there. It takes no memory.
     pub(crate) fn put(&mut self, args: &Args, generation: u32)
         requires { length args.now.values.items ≤ 255 }
         ensures { self.new ≡ record { args = args.now; generation = generation } }
@@ -55,14 +60,14 @@ impl KeptContribution {
         self.generation = generation;
     }
 
-    /// What the contribution is for, values aside.
+    /// The collective of the contribution, values aside.
     pub(crate) fn coll(&self) -> Coll
         ensures { result ≡ self.now.args.coll }
     {
         self.coll
     }
 
-    /// The numbers of the contribution.
+    /// The values of the contribution.
     pub(crate) fn values(&self) -> &[i128]
         ensures items { result.now ≡ self.now.args.values.items }
         ensures range { AreInType self.now.args.values.num_type self.now.args.values.items }
@@ -70,7 +75,7 @@ impl KeptContribution {
         &self.numbers.as_slice()[..self.count]
     }
 
-    /// The generation of the contribution.
+    /// The generation of the new segment in the contribution; 0 where there is none.
     pub(crate) fn generation(&self) -> u32
         ensures { result ≡ self.now.generation }
     {

@@ -1,10 +1,10 @@
-//! The collectives of one group: who has joined which round with what, when a round is full, and what it comes to, in two buffers.
-//! (GASPI: collectives)
+//! The rounds of one group in two buffers: the contributions to them, when a round is full, and what its values and new segments
+//! come to.
 //!
-//! Ranks take rounds one after another, and no member is over one round ahead of another. So a rank's contributions to its last two
-//! rounds are enough: one buffer has those of the even rounds, and the other those of the odd ones. Contracts say what each call
-//! answers and leaves in the words of `gaspi_types` on groups, whose lists of contributions only grow, for each group that the
-//! buffers stand for. Only `Rounds::new` takes memory.
+//! A rank contributes to its rounds one after another, and no member is over one round ahead of another. So its contributions to the
+//! last two rounds are enough: one buffer has those to the even rounds, and the other those to the odd ones. Contracts speak of each
+//! machine's group, whose lists of contributions only grow, that the buffers represent (`Represents`). The round of a rank is the
+//! first that it has not completed. Only `Rounds::new` takes memory. (GASPI: collectives)
 #![tactic(auto)]
 
 mod buffers;

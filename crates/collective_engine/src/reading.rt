@@ -1,4 +1,5 @@
-//! What a round comes to, read from the buffers. (GASPI: collectives)
+//! Questions on one round, read from the buffers: the collective of its first contribution, whether it is full, and the generations
+//! of its new segments. Nothing changes. `reductions` has the values. (GASPI: collectives)
 
 ghost use Rattle.std.specs.Prelude.{◌≡◌, ◌<◌, ◌≤◌, Some, OnOk, length};
 ghost use Rattle.gaspi_types.specs.Collectives.{first_contribution, fits, is_full, generation_in, made_by};
@@ -11,7 +12,7 @@ use crate::generations::Generations;
 use gaspi_model::check_fits;
 use gaspi_types::{Coll, MemberSegment, RankId, Refusal};
 
-/// What the first of some members that has joined a round has joined it with.
+/// The collective that the first contribution to a round has, in the order of these members; None where none has contributed.
 pub(crate) fn first_coll(buffers: &Buffers, round: u32, members: &[RankId]) -> Option<Coll>
     ensures { result ≡ coll_in (first_contribution (contribution_by buffers.now round) members.now) }
 {
@@ -24,7 +25,7 @@ pub(crate) fn first_coll(buffers: &Buffers, round: u32, members: &[RankId]) -> O
     }
 }
 
-/// Whether a rank may join its round with a collective, which is that of some members who have joined it: else
+/// Checks a collective of a rank against the contributions of these members to the rank's round: it is theirs, values aside; else
 /// `CollectiveMismatch`.
 pub(crate) fn check(
     buffers: &Buffers,
@@ -40,7 +41,7 @@ pub(crate) fn check(
     check_fits(first_coll(buffers, round, members), coll)
 }
 
-/// What a rank has joined its round with.
+/// The collective of a rank's contribution to its round; None where the rank has not contributed.
 pub(crate) fn own_coll(buffers: &Buffers, rank: RankId) -> Option<Coll>
     ensures { result ≡ coll_in (contribution_by buffers.now (completed_by buffers.now rank) rank) }
 {
@@ -49,7 +50,7 @@ pub(crate) fn own_coll(buffers: &Buffers, rank: RankId) -> Option<Coll>
     Some(kept.coll())
 }
 
-/// Whether each of some members has joined a round.
+/// Whether each of these members has contributed to a round.
 pub(crate) fn is_full(buffers: &Buffers, round: u32, members: &[RankId]) -> bool
     ensures { result ≡ is_full (contribution_by buffers.now round) members.now }
 {
@@ -58,7 +59,7 @@ pub(crate) fn is_full(buffers: &Buffers, round: u32, members: &[RankId]) -> bool
         .all(|member| given(buffers, round, *member).is_some())
 }
 
-/// The generation that a rank has given to a round.
+/// The generation of the new segment in a rank's contribution to a round; 0 where the rank has not contributed.
 fn generation(buffers: &Buffers, round: u32, rank: RankId) -> u32
     ensures { result ≡ generation_in (contribution_by buffers.now round rank) }
 {
@@ -68,7 +69,7 @@ fn generation(buffers: &Buffers, round: u32, rank: RankId) -> u32
     }
 }
 
-/// The generations that some members have given to a round.
+/// The generations of the new segments of these members in a round.
 pub(crate) fn generations(buffers: &Buffers, round: u32, members: &[RankId]) -> Generations
     requires { length members.now ≤ 16 }
     ensures { result ≡ made_by (contribution_by buffers.now round) members.now }

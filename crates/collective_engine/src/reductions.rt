@@ -1,4 +1,4 @@
-//! The reduction of a round. (GASPI: allreduce)
+//! The reduction of a round, from the values in the buffers. (GASPI: allreduce)
 
 ghost use Rattle.std.specs.Prelude.{◌≡◌, ◌≤◌, IsSome, length};
 ghost use Rattle.std.specs.List.{AllByRecursion};
@@ -11,7 +11,7 @@ use crate::buffers::{Buffers, given};
 use gaspi_model::reduce;
 use gaspi_types::{NumType, Numbers, Op, RankId, Sequence};
 
-/// The numbers of a rank's contribution to a round.
+/// The values of a rank's contribution to a round. The rank has contributed.
 fn values(buffers: &Buffers, round: u32, rank: RankId) -> &[i128]
     requires { IsSome (contribution_by buffers.now round rank) }
     ensures items { result.now ≡ values_in (contribution_by buffers.now round rank) }
@@ -20,7 +20,8 @@ fn values(buffers: &Buffers, round: u32, rank: RankId) -> &[i128]
     given(buffers, round, rank).unwrap().values()
 }
 
-/// Reduces the contributions of some members to a round onto a total, in their order. All have contributed as many numbers, of its type.
+/// Reduces the contributions of these members to a round onto `total`, in their order. Each has contributed as many values, of the
+/// same type.
 fn reduce_onto(
     buffers: &Buffers,
     round: u32,
@@ -43,8 +44,8 @@ fn reduce_onto(
     }
 }
 
-/// What the contributions of some members to a round come to, put into a list that was reserved. All have contributed `count`
-/// numbers of a type.
+/// The reduction of the contributions of these members to a round, in their order, in the list `reserved`, which is long enough.
+/// Each has contributed `count` values of the same type. It takes no memory.
 pub(crate) fn reduction_of(
     buffers: &Buffers,
     round: u32,

@@ -1,4 +1,5 @@
-//! The rounds of one group. (GASPI: collectives)
+//! The rounds of one group: what other crates see of this one. A function requires of its rank what the counts in the buffers say
+//! (`may_join`, `full`), for a group that the buffers represent. (GASPI: collectives)
 
 ghost use Rattle.std.specs.Prelude.{◌≡◌, ℕ, ◌<◌, ◌≤◌, true, Some, length, IfOk, OnOk, OnErr};
 ghost use Rattle.gaspi_types.specs.Collectives.{contribution_in, round_of, fixed_by, is_round_full, round_checks, round_reduction, round_segments, with_joined, with_completed};
@@ -18,13 +19,15 @@ use gaspi_types::{Args, Coll, NoMemory, Numbers, RankId, Refusal, Sequence, is_m
 use std::alloc::Global;
 use std::marker::Model;
 
-/// The rounds of one group: its members, once they are fixed, and what ranks have joined them with. Contracts speak of each group,
-/// of lists that only grow, which the buffers stand for; and the conditions of calls speak of the counts in the buffers.
+/// The rounds of one group: its member list, once that is fixed, and the contributions of ranks. Contracts speak of each group of
+/// the machine that the buffers represent; what functions require is said by the counts in the buffers.
 #[derive(Debug, Drop)]
 pub struct Rounds {
+    /// The member list, bit r for rank r; None where it is not fixed.
     members: Option<u32>,
     /// The members by rising rank; none where they are not fixed.
     ranks: Members,
+    /// The contributions to the last two rounds.
     buffers: Buffers,
 }
 
@@ -40,14 +43,14 @@ impl Model for Rounds {
     ghost invariant = { IsRounds };
 }
 
-/// The ranks of a set, or none.
+/// The ranks of a member list; none where there is no list.
 fn ranks_of(members: Option<u32>) -> Members
     ensures { result ≡ ranks_of members }
 {
     members_of(members.unwrap_or(0))
 }
 
-/// The first commit fixes the members.
+/// Fixes the member list by the first `commit`. Any other collective changes nothing.
 fn fix(members: &mut Option<u32>, ranks: &mut Members, coll: Coll)
     requires { ranks.old ≡ ranks_of members.old }
     ensures members { members.new ≡ fixed_by members.old coll }
@@ -63,8 +66,8 @@ impl Rounds {
     ghost use Rattle.collective_engine.specs.KeptContributions.{HasItsValues, elements_of, TakesFold};
     ghost use Rattle.collective_engine.specs.RoundBuffers.{is_in, may_join, own_contribution, is_full_for, Represents, IsOpening};
 
-    /// A group that no rank has joined. Of group 0 the members are told, bit r for rank r; of another they are fixed by its first
-    /// join. All memory is taken here. (GASPI: groups)
+    /// The rounds of a group with no contribution. The member list of group 0 is given, bit r for rank r; that of another group is
+    /// None, and its first `commit` fixes it. All memory is taken here. (GASPI: groups)
     pub fn new(alloc: Global, members: Option<u32>) -> Result<Rounds, NoMemory>
         ensures { IfOk result (λ rounds. (g : Group) → IsOpening g members → Represents g rounds) }
     {
@@ -75,8 +78,8 @@ impl Rounds {
         })
     }
 
-    /// Whether a collective of a rank is that of members who have joined its round: else `CollectiveMismatch`. The rank may come to
-    /// join, as `may_join` tells. (GASPI: collectives)
+    /// Checks a collective of a rank against the contributions to the rank's round: it is theirs, values aside; else
+    /// `CollectiveMismatch`. `may_join` holds of the rank. Nothing changes. (GASPI: collectives)
     pub fn fits(&self, rank: RankId, args: &Args) -> Result<(), Refusal>
         requires { may_join self.now rank args.now.coll ≡ true }
         ensures { (g : Group) → Represents g self.now → result ≡ round_checks g rank args.now.coll }
@@ -84,10 +87,9 @@ impl Rounds {
         check(&self.buffers, self.ranks.ranks(), rank.index(), args.coll)
     }
 
-    /// A rank joins its round with a collective, whose values are as many as it says, and of a segment that it makes with its
-    /// generation, else with 0: `CollectiveMismatch` where that is not the collective of members who have joined the round. As
-    /// `may_join` tells, the rank is a member, or the collective is the commit that fixes the members, of which it is one; and it has
-    /// left each round that it joined, fewer than 4,294,967,295. It takes no memory. (GASPI: collectives)
+    /// Appends a contribution of a rank to its round; the first `commit` fixes the member list. `generation` is that of the new
+    /// segment, 0 where there is none. `CollectiveMismatch` as `fits` says, and then nothing changes. `may_join` holds of the rank,
+    /// and the arguments have as many values as their collective says. It takes no memory. (GASPI: collectives)
     pub fn join(&mut self, rank: RankId, args: &Args, generation: u32) -> Result<(), Refusal>
         requires rank { may_join self.old rank args.now.coll ≡ true }
         requires values { HasItsValues args.now }
@@ -103,7 +105,7 @@ impl Rounds {
         Ok(())
     }
 
-    /// Whether a rank is a member. None is where the members are not fixed.
+    /// Whether a rank is a member; false for every rank where the members are not fixed.
     pub fn is_member(&self, rank: RankId) -> bool
         ensures { result ≡ is_in self.now.members rank }
     {
@@ -113,7 +115,9 @@ impl Rounds {
         }
     }
 
-    /// Whether a rank may come to join its round with a collective: what `join` asks of its rank.
+    /// Whether a rank may contribute to its round with a collective, as far as the counts say: it is a member, or is in the list of
+    /// the `commit` that fixes the members; and it has completed each round to which it has contributed, fewer than 4,294,967,295.
+    /// Whether its collective fits is asked by `fits`.
     pub fn may_join(&self, rank: RankId, coll: Coll) -> bool
         ensures { result ≡ may_join self.now rank coll }
     {
@@ -125,7 +129,7 @@ impl Rounds {
         is_one && joined == completed && joined < 4_294_967_295
     }
 
-    /// Whether every member has joined the round of a rank, the first that it has not left. (GASPI: collectives)
+    /// Whether the round of a rank is full. (GASPI: collectives)
     pub fn full(&self, rank: RankId) -> bool
         ensures value { result ≡ is_full_for self.now rank }
         ensures group { (g : Group) → Represents g self.now → result ≡ is_round_full g rank }
@@ -135,7 +139,7 @@ impl Rounds {
         is_full(&self.buffers, round, self.ranks.ranks())
     }
 
-    /// How many numbers the round of a rank comes to, which the rank has joined with an allreduce; else None.
+    /// How many values the round of a rank comes to, where the rank has contributed an allreduce; else None.
     pub fn elements(&self, rank: RankId) -> Option<u32>
         ensures { result ≡ elements_of (coll_in (own_contribution self.now rank)) }
     {
@@ -145,9 +149,9 @@ impl Rounds {
         }
     }
 
-    /// What the round of a rank comes to, which is a member: the numbers of all members, reduced in the order of their ranks. Every
-    /// member has joined the round, which is an allreduce, and the result is put into a list that was reserved, as `elements`
-    /// tells: it has no more numbers than that list. It takes no memory. (GASPI: allreduce)
+    /// The reduction of the values of all members in the round of a rank, in the order of the ranks. The rank is a member, the round
+    /// is full, and it is an allreduce. The values are put into `reserved`, which is long enough, as `elements` tells. It takes no
+    /// memory. (GASPI: allreduce)
     pub fn result(&self, rank: RankId, reserved: Sequence<i128>) -> Numbers
         requires member { is_in self.now.members rank ≡ true }
         requires full { is_full_for self.now rank ≡ true }
@@ -166,7 +170,7 @@ impl Rounds {
         }
     }
 
-    /// In which generation each member has made its segment in the round of a rank, which is a member. It takes no memory.
+    /// The generations of the new segments of all members in the round of a rank, which is a member. It takes no memory.
     /// (GASPI: segment_create)
     pub fn generations(&self, rank: RankId) -> Generations
         requires { is_in self.now.members rank ≡ true }
@@ -176,7 +180,8 @@ impl Rounds {
         generations(&self.buffers, round, self.ranks.ranks())
     }
 
-    /// A rank, which is a member, leaves its round, which every member has joined. (GASPI: collectives)
+    /// Completes the round of a rank, which is a member; the round is full. One completed round more is counted for the rank; the
+    /// contributions stay. (GASPI: collectives)
     pub fn leave(&mut self, rank: RankId)
         requires member { is_in self.old.members rank ≡ true }
         requires full { is_full_for self.old rank ≡ true }

@@ -1,16 +1,16 @@
--- What a rank does to its groups, one thing after another. (GASPI: groups)
+-- Changes of a rank's groups, one after another. (GASPI: groups)
 use Rattle.std.specs.Prelude.{ℕ, List, [], ◌∷◌}
 use Rattle.gaspi_types.specs.Groups.{with_group, with_added, without_group, with_committed}
 use Rattle.gaspi_types.specs.declared.groups.Handles.{Handles}
 
--- a group is made; a rank is added to one; one is dropped; one is committed
+-- a group is made; a rank is added to one; one is deleted; one is committed
 pub data Change : Type 0 where
   Made : Change
   Added : (id rank : ℕ) → Change
   Dropped : (id : ℕ) → Change
   Committed : (id : ℕ) → Change
 
--- the groups after one thing
+-- the groups after one change
 abbrev pub with_change : Handles → Change → Handles
 with_change groups Made = with_group groups
 with_change groups (Added id rank) = with_added groups id rank

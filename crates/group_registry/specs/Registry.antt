@@ -18,14 +18,14 @@ pub record Registry : Type 0 where
 abbrev pub with_groups : Registry → Handles → Registry
 with_groups registry groups = record registry { groups = groups }
 
--- There is room for eight groups; group 0 is there, committed; the others have the numbers from 1 to the last that was given.
+-- The invariant: the table has eight items; group 0 is there, committed; the others have ids from 1 to the last that was given.
 pub record IsRegistry (groups : Handles) : Type 0 where
   pub room : length groups.table ≡ 8
   pub made : groups.last_id ≤ 7
   pub all : stage_of groups 0 ≡ Ok Committed
   pub given : (id : ℕ) → groups.last_id < id → handle_at groups id ≡ None
 
--- why a rank may not be added to a group: it is not there, or not built any more (group_add)
+-- the refusal of a rank that is added to a group: there is no such group, or its stage is committed (group_add)
 abbrev pub add_checks : Handles → ℕ → Result (Unit {0}) Refusal
 add_checks groups id = do
   handle ← building_at groups id

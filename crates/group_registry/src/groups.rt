@@ -1,4 +1,5 @@
-//! The groups of one rank. (GASPI: groups)
+//! The groups of one rank as a store: to make one, to add a rank, to delete one, to make one committed. Whether a collective is
+//! pending on a group is not asked here. (GASPI: groups)
 
 ghost use Rattle.std.specs.Prelude.{◌≡◌, ◌≤◌, ◌<◌, None, IfOk, OnOk, OnErr, IsOk};
 ghost use Rattle.gaspi_types.specs.Groups.{opening_handles, handle_at, next_group, with_group, stage_of, building_at, with_added, delete_checks, without_group, commit_list, with_committed};
@@ -9,13 +10,15 @@ use gaspi_types::{
 use std::alloc::Global;
 use std::marker::Model;
 
-/// The groups of one rank, by their numbers: group 0, which has every rank and stays, and up to seven that the rank has made.
-/// Contracts see the rank and the handles of its groups.
+/// The groups of one rank, by their ids: group 0, which has every rank and stays, and up to seven that the rank has made. Contracts
+/// see the rank and the handles.
 ///
-/// The numbers of groups are those that a caller wrote, so any number may come.
+/// Ids of groups are those that a caller wrote, so any number may come.
 #[derive(Debug, Drop)]
 pub struct Groups {
+    /// The rank.
     me: RankId,
+    /// Its handles.
     handles: Handles,
 }
 
@@ -32,8 +35,8 @@ impl Model for Groups {
 impl Groups {
     ghost use Rattle.group_registry.specs.Registry.{IsRegistry, add_checks, AddsRank, with_groups};
 
-    /// The groups of a rank at the start, in a world of 1 to 16 ranks: group 0 with every rank, committed. All room is taken here,
-    /// and no memory after. (GASPI: groups)
+    /// The groups of a rank in the opening state of a world of 1 to 16 ranks: group 0 with every rank, committed. All memory is
+    /// taken here. (GASPI: groups)
     pub fn new(alloc: Global, rank: RankId, ranks: u32) -> Result<Groups, NoMemory>
         requires least { 1 ≤ ranks }
         requires greatest { ranks ≤ 16 }
@@ -46,7 +49,8 @@ impl Groups {
         })
     }
 
-    /// The handles of the groups, lent: the table that the checks of a rank's calls read.
+    /// The handles of the groups, lent: the checks of a rank's calls read them. The clause `registry` gives what holds of them at
+    /// any time.
     pub fn handles(&self) -> &Handles
         ensures value { result.now ≡ self.now.groups }
         ensures registry { IsRegistry self.now.groups }
@@ -54,7 +58,8 @@ impl Groups {
         &self.handles
     }
 
-    /// The number that `create` would give to a group; `GroupsFull` where it would make none.
+    /// The id that `create` would give to a group; `GroupsFull` where it would make none. The clause `registry` gives what holds of
+    /// the groups at any time.
     pub fn next(&self) -> Result<GroupId, Refusal>
         ensures answer { result ≡ next_group self.now.groups }
         ensures registry { IsRegistry self.now.groups }
@@ -65,8 +70,8 @@ impl Groups {
         Ok(GroupId::of(self.handles.last_id + 1))
     }
 
-    /// Makes a group without ranks, to be built. It has the next number: these rise from 1 to 7, and none is given again.
-    /// `GroupsFull` where all are given. (GASPI: group_create)
+    /// Makes the group with the next id: building, with no rank. The ids rise from 1 to 7, and none is given again. `GroupsFull`
+    /// where all are given, and then nothing changes. (GASPI: group_create)
     pub fn create(&mut self) -> Result<GroupId, Refusal>
         ensures answer { result ≡ next_group self.old.groups }
         ensures made { OnOk result (self.new ≡ with_groups self.old (with_group self.old.groups)) }
@@ -83,8 +88,8 @@ impl Groups {
         Ok(id)
     }
 
-    /// Adds a rank to a group; one that is there changes nothing. `NoGroup`, or `GroupStage` where the group is committed.
-    /// (GASPI: group_add)
+    /// Adds a rank to a group; one that is in it already changes nothing. `NoGroup`, or `GroupStage` where the group is committed;
+    /// then nothing changes. Whether the rank is in the world is not asked. (GASPI: group_add)
     pub fn add(&mut self, group: u64, rank: RankId) -> Result<(), Refusal>
         ensures answer { result ≡ add_checks self.old.groups group }
         ensures added { OnOk result (self.new ≡ with_groups self.old (with_added self.old.groups group rank)) }
@@ -97,7 +102,7 @@ impl Groups {
         Ok(())
     }
 
-    /// Drops a group. `NoGroup`, or `GroupStage` for group 0, which stays. (GASPI: group_delete)
+    /// Deletes a group. `NoGroup`, or `GroupStage` for group 0, which stays; then nothing changes. (GASPI: group_delete)
     pub fn delete(&mut self, group: u64) -> Result<(), Refusal>
         ensures answer { result ≡ delete_checks self.old.groups group }
         ensures dropped { OnOk result (self.new ≡ with_groups self.old (without_group self.old.groups group)) }
@@ -113,7 +118,7 @@ impl Groups {
         Ok(())
     }
 
-    /// The stage of a group; `NoGroup` where it is not there.
+    /// The stage of a group; `NoGroup` where there is no such group.
     pub fn stage(&self, group: u64) -> Result<Stage, Refusal>
         ensures { result ≡ stage_of self.now.groups group }
     {
@@ -121,8 +126,8 @@ impl Groups {
         Ok(handle.stage)
     }
 
-    /// The list of ranks that the rank is to commit for a group: bit r for rank r. `NoGroup`; `GroupStage` where the group is
-    /// committed; `NotMember` where the list lacks this rank. (GASPI: group_commit)
+    /// The ranks that this rank commits for a group, bit r for rank r. `NoGroup`; `GroupStage` where the group is committed;
+    /// `NotMember` where this rank is not among them. (GASPI: group_commit)
     pub fn commit_list(&self, group: u64) -> Result<u32, Refusal>
         ensures answer { result ≡ commit_list self.now.groups self.now.me group }
         ensures built { OnOk result (IsOk (building_at self.now.groups group)) }
@@ -134,7 +139,7 @@ impl Groups {
         Ok(members)
     }
 
-    /// Marks a group committed: one that is built yet, as `commit_list` tells. (GASPI: group_commit)
+    /// Makes the stage of a group committed. Its stage is building, as `commit_list` checks. (GASPI: group_commit)
     pub fn committed(&mut self, group: u64)
         requires { IsOk (building_at self.old.groups group) }
         ensures { self.new ≡ with_groups self.old (with_committed self.old.groups group) }

@@ -1,9 +1,8 @@
-//! The groups of one rank, and the one list of ranks that the first commit fixes for a number of a group in the whole world.
-//! (GASPI: groups)
+//! The groups of one rank, and the member list that the first `commit` fixes for a group id in the whole world.
 //!
-//! Contracts see `Groups` as its rank and the handles of its groups, and a `Meeting` as the list that is fixed, if there is one.
-//! Every call says what it answers and what it leaves, by the definitions of `gaspi_types` that the machine uses. A refused call
-//! changes nothing, and only `Groups::new` takes memory.
+//! Contracts see `Groups` as the rank and the handles of its groups, and a `Meeting` as the member list that is fixed, if there is
+//! one. A call answers by the definitions of `gaspi_types` that the machine uses. Where it is refused nothing changes, and only
+//! `Groups::new` takes memory. (GASPI: groups)
 #![tactic(auto)]
 
 mod groups;

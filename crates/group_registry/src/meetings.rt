@@ -1,4 +1,4 @@
-//! The list of ranks that is fixed for a number of a group. (GASPI: groups)
+//! The member list of a group id, which all ranks share. (GASPI: groups)
 
 ghost use Rattle.std.specs.Prelude.{◌≡◌, None, Some, OnOk, OnErr, IsSome};
 ghost use Rattle.gaspi_types.specs.Groups.{fix_checks};
@@ -6,9 +6,10 @@ ghost use Rattle.gaspi_types.specs.Groups.{fix_checks};
 use gaspi_types::Refusal;
 use std::marker::Model;
 
-/// The one list of ranks that is fixed for a number of a group in the whole world, once there is one. Contracts see that list.
+/// The member list of a group id in the whole world, once it is fixed. Contracts see that list, or none.
 #[derive(Debug, Drop)]
 pub struct Meeting {
+    /// The list, bit r for rank r; None where none is fixed.
     fixed: Option<u32>,
 }
 
@@ -28,8 +29,8 @@ impl Meeting {
         Meeting { fixed: None }
     }
 
-    /// Fixes a list, bit r for rank r. Where one is fixed it stays, and another is refused: `GroupMismatch` has the one that is
-    /// kept. (GASPI: group_commit)
+    /// Fixes a member list, bit r for rank r. A list that is fixed stays, and another one is refused: `GroupMismatch` has the list
+    /// that is fixed. (GASPI: group_commit)
     pub fn fix(&mut self, mask: u32) -> Result<(), Refusal>
         ensures answer { result ≡ fix_checks self.old mask }
         ensures fixed { OnOk result (self.new ≡ Some mask) }
@@ -45,7 +46,7 @@ impl Meeting {
         }
     }
 
-    /// The list that is fixed: bit r for rank r.
+    /// The member list, bit r for rank r; None where none is fixed.
     pub fn members(&self) -> Option<u32>
         ensures { result ≡ self.now }
     {

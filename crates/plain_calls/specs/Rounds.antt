@@ -1,4 +1,4 @@
--- The round of a group at which a collective is looked at, answered and joins.
+-- The round of a rank in a group, as looks, joins and records of collectives use it.
 use Rattle.std.specs.Prelude.{◌≡◌, ℕ, length, Option, Some, Result, if◌then◌else◌}
 use Rattle.gaspi_types.specs.Checks.{◌>>=◌}
 use Rattle.gaspi_types.specs.Collectives.{contribution_in, round_of, with_completed}
@@ -16,26 +16,26 @@ use Rattle.gaspi_model.specs.CollectiveCalls.{element_checks, staged_at, complet
 use Rattle.gaspi_model.specs.Posting.{counted}
 use Rattle.gaspi_model.specs.declared.states.Posts.{Posts}
 
--- what is given to a round is as many numbers each, of one type
+-- the contributions to a round are alike: each has as many values, and all of one type
 abbrev pub AreAlike : (ℕ → Option Contribution) → NumType → ℕ → Type 0
 AreAlike given num_type count =
     (rank : ℕ) (c : Contribution) → given rank ≡ Some c → (c.args.values.num_type ≡ num_type) × (length c.args.values.items ≡ count)
 
--- so is what is given to the round of an allreduce, and of its type
+-- the contributions to the round of a rank are alike, with the type of its call, where that is an allreduce
 abbrev pub IsReducible : Group → ℕ → Call → Type 0
 IsReducible g rank (Allreduce call) = (count : ℕ) × AreAlike (contribution_in g (round_of g rank)) call.values.num_type count
 IsReducible g rank call = Unit {0}
 
--- the group of a collective that is not refused whatever is pending on it
+-- the handle of a collective's group, where neither its elements nor the group's stage refuse it; what is pending is not asked
 abbrev pub called_on : Handles → ℕ → ℕ → Call → Result Handle Refusal
 called_on groups me id call = do
   elements ← element_checks call
   staged_at groups me id call
 
--- what a collective with that reply leaves in the posts of its caller's rank: a refusal or a timeout nothing but the count of events
+-- the posts of the caller's rank after a collective with this reply: a refusal or a timeout changes the count of events alone
 abbrev pub posts_after_collective : Posts → Group → ℕ → ℕ → Call → Reply → Posts
 posts_after_collective posts group me id call reply = counted (if is_idle reply then posts else completed_posts posts group me id call)
 
--- and in its group
+-- its group after that
 abbrev pub group_after_collective : Group → ℕ → Reply → Group
 group_after_collective group me reply = if is_idle reply then group else with_completed group me

@@ -1,5 +1,5 @@
-//! The calls on a word of a segment of a rank: what they find, and what they leave. The memory is that of the rank.
-//! (GASPI: atomics)
+//! The atomics, on one memory word of a rank that the call names: the result of both, and their effects. `memory` and `segments` are
+//! those of the named rank. A clause on a result speaks of all posts and memories that have these tables. (GASPI: atomics)
 
 ghost use Rattle.std.specs.Prelude.{◌≡◌};
 ghost use Rattle.gaspi_types.specs.declared.shapes.Limits.{Limits};
@@ -14,8 +14,9 @@ use segment_store::{
     word_at,
 };
 
-/// Looks at an atomic of a rank, in a world of so many ranks: it answers the word that stands there. These are the table of the
-/// caller's rank, and the segments of the rank that the call names. (GASPI: atomic_fetch_add, atomic_compare_swap)
+/// The result of an atomic of `me`: the present value of the word, or `BadRank`, `Unregistered` where `me` knows no such segment or
+/// the known generation is gone, `BadRange`, or `BadAlign`. `table` is the table of segments of `me`, and `ranks` the number of
+/// ranks. (GASPI: atomic_fetch_add, atomic_compare_swap)
 pub fn word_result(
     ranks: u32,
     me: RankId,
@@ -38,14 +39,16 @@ pub fn word_result(
     Ok(Some(Reply::Value(word_at(bytes_of(segments, seg), offset))))
 }
 
-/// Adds to the word. (GASPI: atomic_fetch_add)
+/// Adds the value of the call to the memory word that it names. Where there is no such word nothing changes.
+/// (GASPI: atomic_fetch_add)
 pub fn fetch_add_effect(memory: &mut Memory, call: &FetchAdd)
     ensures { memory.new ≡ fetch_add_effect memory.old call.now }
 {
     add_to_segment(&mut memory.segments, call.seg, call.offset, call.value);
 }
 
-/// Writes over the word, where it is the comparator. (GASPI: atomic_compare_swap)
+/// Puts the new value of the call into the memory word that it names, where that is the comparator; else nothing changes.
+/// (GASPI: atomic_compare_swap)
 pub fn compare_swap_effect(memory: &mut Memory, call: &CompareSwap)
     ensures { memory.new ≡ compare_swap_effect memory.old call.now }
 {

@@ -1,4 +1,7 @@
-//! What a call answers and what it leaves, by the kinds of calls.
+//! Chooses by the kind of a call: its evaluation at a look, its effect on posts and memory, and the registration that it gives a
+//! peer. A call was done where its reply is neither a refusal nor a timeout. In this file a *plain* call posts nothing and is no
+//! collective; collectives are in `collective_calls` and `collective_steps`. `me` is the caller's rank, `memory` the memory that the
+//! call works on: that of the rank that an atomic or a send names, else the own one.
 
 ghost use Rattle.std.specs.Prelude.{◌≡◌, ◌≤◌, List, Option, Result, length, IfOk, IsOk, OnOk, OnErr, None, true, false};
 ghost use Rattle.gaspi_types.specs.declared.entries.Kind.{Kind};
@@ -42,7 +45,9 @@ use gaspi_types::{
 use segment_store::EntryKinds;
 use std::alloc::Global;
 
-/// What a call finds that posts nothing. Only a load takes memory.
+/// The result of a plain call: its refusal, its reply, or None where it is not ready. A load takes memory for its bytes; no other
+/// call takes any. The world's limits (8 queues, 32 ranks, 4,096 bytes of a message) are required, so that each number of a reply
+/// fits 32 bits.
 fn plain_result(
     alloc: Global,
     limits: &Limits,
@@ -123,7 +128,8 @@ fn plain_result(
     })
 }
 
-/// The look at a call that posts.
+/// The evaluation of a call that posts, from what `posting_result` found: done, with the kinds of its entries, or its refusal. The
+/// clause says so of any requested kinds and any result that `finds` agrees with (`Accepts`).
 fn post_evaluation(finds: Result<EntryKinds, Refusal>) -> Evaluation
     ensures message { result.message ≡ None }
     ensures finding { (asked : Result (List Kind) Refusal) (answers : Result (Option Reply) Refusal) → Accepts finds asked answers → IsPostEvaluation result asked answers }
@@ -138,7 +144,8 @@ fn post_evaluation(finds: Result<EntryKinds, Refusal>) -> Evaluation
     }
 }
 
-/// The message that a call brings, taken from the own memory, where it is done.
+/// The message of a send that is done, copied from the own memory. A send that is refused or not ready has none, nor has any other
+/// call; these take no memory.
 fn sent_message(
     alloc: Global,
     me: RankId,
@@ -158,9 +165,9 @@ fn sent_message(
     Ok(None)
 }
 
-/// Looks at a call. The memory is that which the call works on: its rank's or, of an atomic and a send, that of the rank that
-/// it names; a send takes its message from the own memory. Only a load, the post of a list and a send take memory, and none
-/// that is not ready.
+/// The evaluation of a call that is no collective, by its caller, who may have ended. `own` is the memory of the caller's rank; a
+/// send copies its message from there. Only a load, the post of a list (clause `ample`) and a send that is done (clause `idle`) take
+/// memory. Nothing changes.
 pub fn look(
     alloc: Global,
     limits: &Limits,
@@ -201,7 +208,8 @@ pub fn look(
     }
 }
 
-/// What a call leaves that posts nothing.
+/// Makes the effect of a plain call that was done, and leaves the count of events as it is. `thread` matters for the end alone, and
+/// `message` for a send. An alloc and a send take memory; where memory runs out nothing changes.
 fn plain_done(
     alloc: Global,
     limits: &Limits,
@@ -238,9 +246,9 @@ fn plain_done(
     Ok(())
 }
 
-/// What a call leaves that was answered neither with a refusal nor with a timeout, in the posts of its rank and in the
-/// memory that it works on; a post appends entries of these kinds, and a send its message. Only a post, a segment that is made
-/// and a message take memory, and without it nothing changes.
+/// Makes the effect of a call that is recorded neither with a refusal nor with a timeout, on the posts of its rank and on the memory
+/// that it works on. A post appends entries of `kinds`, a send its `message`. The count of events stays as it is. A post, an alloc
+/// and a send take memory; where memory runs out nothing changes.
 pub fn call_effect(
     alloc: Global,
     limits: &Limits,
@@ -274,7 +282,8 @@ pub fn call_effect(
     }
 }
 
-/// What a call tells a peer that it reaches, where its look is recorded.
+/// The registration that a call gives a peer: that of a `register` which is recorded as done; None for each other call, and for a
+/// refusal. `look` is the evaluation of the call.
 pub fn registration(
     me: RankId,
     posts: &Posts,
@@ -292,7 +301,7 @@ pub fn registration(
     }
 }
 
-/// Tells a peer.
+/// Makes the segment of a registration known to a peer, in the peer's posts; None changes nothing.
 pub fn register_at_peer(peer: &mut Posts, registration: Option<Registration>)
     ensures { peer.new ≡ with_registration registration peer.old }
 {

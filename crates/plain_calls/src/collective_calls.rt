@@ -1,4 +1,6 @@
-//! The collective calls: what a look at one finds. (GASPI: collectives, groups, segments, timeouts)
+//! What a look at a collective finds, with its checks and its arguments. Nothing changes here; `collective_steps` has the steps.
+//! `me` is the caller's rank and `id` the id of the collective's group. *Plain* arguments have no values: those of every collective
+//! but an allreduce. (GASPI: collectives, groups, segments, timeouts)
 
 ghost use Rattle.std.specs.Prelude.{◌≡◌, ℕ, length, true, false, Ok, OnOk, IfOk, IsOk};
 ghost use Rattle.std.specs.Option.{option_map};
@@ -23,7 +25,8 @@ use gaspi_types::{
 use segment_store::check_alloc;
 use std::alloc::Global;
 
-/// Checks the elements of an allreduce: their count, and then their type. (GASPI: allreduce)
+/// Checks the elements of an allreduce: their count (`BadCount`), and then their type (`FloatType`). Every other collective passes.
+/// (GASPI: allreduce)
 fn check_elements(call: &Call) -> Result<(), Refusal>
     ensures { result ≡ element_checks call.now }
 {
@@ -36,7 +39,7 @@ fn check_elements(call: &Call) -> Result<(), Refusal>
     }
 }
 
-/// The group with a number, if it is committed: else `NoGroup`, or `GroupStage`.
+/// The handle of group `id`, where its stage is committed: else `NoGroup`, or `GroupStage` where its stage is building.
 fn committed_at(groups: &Handles, id: u64) -> Result<Handle, Refusal>
     ensures { result ≡ committed_at groups.now id }
 {
@@ -49,7 +52,8 @@ fn committed_at(groups: &Handles, id: u64) -> Result<Handle, Refusal>
     }
 }
 
-/// The group with a number, if it is built yet and has the rank: else `NoGroup`, `GroupStage` or `NotMember`.
+/// The handle of group `id`, where its stage is building and the rank `me` is in it: else `NoGroup`, `GroupStage` where its stage is
+/// committed, or `NotMember`.
 fn building_with(groups: &Handles, me: RankId, id: u64) -> Result<Handle, Refusal>
     ensures { result ≡ building_with groups.now me id }
 {
@@ -60,7 +64,8 @@ fn building_with(groups: &Handles, me: RankId, id: u64) -> Result<Handle, Refusa
     Ok(handle)
 }
 
-/// The group on which a collective may be called: a commit on one that is built yet, each other on one that is committed.
+/// The handle of the group of a collective, where its stage is that which the collective needs: building for a `commit`, committed
+/// for each other.
 fn staged_at(groups: &Handles, me: RankId, id: u64, call: &Call) -> Result<Handle, Refusal>
     ensures { result ≡ staged_at groups.now me id call.now }
 {
@@ -70,7 +75,8 @@ fn staged_at(groups: &Handles, me: RankId, id: u64, call: &Call) -> Result<Handl
     }
 }
 
-/// The group of a collective, of the groups of its caller's rank, where it is not refused whatever is pending on it.
+/// The handle of the group of a collective, where neither its elements nor the group's stage refuse it. What is pending on the
+/// group, and its rounds, are not asked here.
 pub fn called_on(groups: &Handles, me: RankId, id: u64, call: &Call) -> Result<Handle, Refusal>
     ensures group { result ≡ called_on groups.now me id call.now }
     ensures elements { OnOk result (element_checks call.now ≡ Ok tt) }
@@ -79,14 +85,14 @@ pub fn called_on(groups: &Handles, me: RankId, id: u64, call: &Call) -> Result<H
     staged_at(groups, me, id, call)
 }
 
-/// No values, as all collectives but an allreduce have.
+/// No values. Their type is of no account.
 fn no_values(alloc: Global) -> Numbers
     ensures { result ≡ no_values }
 {
     Numbers::new(NumType::Int, Sequence::new(alloc))
 }
 
-/// What a segment_create is asked for: its numbers have to fit 32 bits.
+/// What a create asks for; None where its id or its size is over 32 bits.
 fn create_coll(call: &Create) -> Option<Coll>
     ensures { (members : ℕ) → option_map plain_args result ≡ args_of members (calls.Create call.now) }
 {
@@ -96,7 +102,8 @@ fn create_coll(call: &Create) -> Option<Coll>
     Some(Coll::Create(call.seg as u32, call.size as u32))
 }
 
-/// What a collective without values is asked for, where its group has those members.
+/// What a collective without values asks for, on a group with these members; None for every other call, and for a create whose id or
+/// size is over 32 bits.
 fn plain_coll(members: u32, call: &Call) -> Option<Coll>
     ensures { is_allreduce call.now ≡ false → option_map plain_args result ≡ args_of members call.now }
 {
@@ -108,8 +115,8 @@ fn plain_coll(members: u32, call: &Call) -> Option<Coll>
     }
 }
 
-/// The arguments of a collective, where its group has those members; one whose numbers are over 32 bits has none. Only an
-/// allreduce takes memory, for its values.
+/// The arguments of a collective on a group with these members; None where the id or the size of a create is over 32 bits. The
+/// elements were checked. Only an allreduce takes memory, for a copy of its values.
 pub fn args_of(alloc: Global, members: u32, call: &Call) -> Result<Option<Args>, NoMemory>
     requires { element_checks call.now ≡ Ok tt }
     ensures args { IfOk result (λ args. args ≡ args_of members call.now) }
@@ -130,7 +137,7 @@ pub fn args_of(alloc: Global, members: u32, call: &Call) -> Result<Option<Args>,
     }
 }
 
-/// Checks the segment that a collective makes, if it does. (GASPI: segment_create)
+/// Checks the segment that a create is to make, as `alloc` does. Every other collective passes. (GASPI: segment_create)
 fn check_segment(posts: &Posts, call: &Call) -> Result<(), Refusal>
     ensures { result ≡ segment_checks posts.now call.now }
 {
@@ -140,7 +147,8 @@ fn check_segment(posts: &Posts, call: &Call) -> Result<(), Refusal>
     }
 }
 
-/// Checks a list of ranks that is to be committed: it is the one that is fixed for its group, if one is. (own choice)
+/// Checks the ranks of a `commit` against the member list of its group: where one is fixed, it is the same; else `GroupMismatch`.
+/// `kept` is the list that is fixed. (own choice)
 pub fn check_fixed(fixed: Option<u32>, mask: u32) -> Result<(), Refusal>
     ensures { result ≡ fix_checks fixed mask }
 {
@@ -150,7 +158,7 @@ pub fn check_fixed(fixed: Option<u32>, mask: u32) -> Result<(), Refusal>
     }
 }
 
-/// Checks a collective by what other ranks have brought to its group: a commit by the list that is fixed, each other by the round.
+/// Checks a collective against those of other members: a `commit` by the member list that is fixed, each other by the round of `me`.
 fn check_agreement(group: &Group, me: RankId, coll: Coll) -> Result<(), Refusal>
     ensures { result ≡ agreement_checks group.now me coll }
 {
@@ -160,7 +168,8 @@ fn check_agreement(group: &Group, me: RankId, coll: Coll) -> Result<(), Refusal>
     }
 }
 
-/// Looks at a collective of which none is pending: whether it may join, with its arguments.
+/// The result of a collective where no collective of its rank is pending on the group: it may join, with `args`, or it is refused.
+/// `args` are the arguments of the call.
 fn fresh_result(
     posts: &Posts,
     group: &Group,
@@ -176,7 +185,8 @@ fn fresh_result(
     Ok(Ready::Join(args))
 }
 
-/// What a collective answers whose round is full. Only an allreduce takes memory, for its numbers. (GASPI: allreduce)
+/// The reply of a collective whose round is full: `List` of the reduction for an allreduce, which takes memory for it, and else
+/// `Done`. The contributions to the round of an allreduce have as many values, of the same type. (GASPI: allreduce)
 fn full_reply(alloc: Global, group: &Group, me: RankId, call: &Call) -> Result<Reply, NoMemory>
     requires full { is_round_full group.now me ≡ true }
     requires reducible { IsReducible group.now me call.now }
@@ -192,7 +202,8 @@ fn full_reply(alloc: Global, group: &Group, me: RankId, call: &Call) -> Result<R
     }
 }
 
-/// Looks at a collective that is pending for its caller: ready where its round is full.
+/// The answer to a collective that is pending for its caller: its reply where its round is full, else not ready. Only an allreduce
+/// takes memory; the contributions to its round have as many values, of the same type.
 fn resumed_answer(alloc: Global, group: &Group, me: RankId, call: &Call) -> Result<Ready, NoMemory>
     requires reducible { IsReducible group.now me call.now }
     ensures finds { IfOk result (λ ready. ready ≡ resumed_answer group.now me call.now) }
@@ -204,7 +215,7 @@ fn resumed_answer(alloc: Global, group: &Group, me: RankId, call: &Call) -> Resu
     Ok(Ready::Reply(full_reply(alloc, group, me, call)?))
 }
 
-/// What a look found, or its refusal, in one value.
+/// The answer that a result comes to: a refusal is a reply.
 pub fn collective_ready(finds: Result<Ready, Refusal>) -> Ready
     ensures { result ≡ collective_ready finds }
 {
@@ -214,9 +225,9 @@ pub fn collective_ready(finds: Result<Ready, Refusal>) -> Ready
     }
 }
 
-/// Looks at a collective of a rank on a group: it may join, with these arguments, or it is not ready, or it is refused or ready, with
-/// its reply. Only an allreduce takes memory, for its values and for the numbers of a full round. The cost goes by members and
-/// elements, never by rounds. (GASPI: collectives, timeouts)
+/// The answer to a collective: it may join, with its arguments; it is refused or done, with its reply; or it is not ready. Posts and
+/// group are those of a sound state. Only an allreduce takes memory, for its values and for the reduction of a full round. The cost
+/// goes by members and elements, never by rounds. (GASPI: collectives, timeouts)
 pub fn collective_look(
     alloc: Global,
     posts: &Posts,
@@ -246,7 +257,7 @@ pub fn collective_look(
     }
 }
 
-/// The collective that joins with those arguments.
+/// The collective that joins group `id` with these arguments. Only an allreduce takes memory, for a copy of its values.
 fn joining_call(alloc: Global, id: u64, args: &Args) -> Result<Call, NoMemory>
     ensures { IfOk result (λ call. call ≡ joining_call id args.now) }
 {
@@ -266,15 +277,19 @@ fn joining_call(alloc: Global, id: u64, args: &Args) -> Result<Call, NoMemory>
     })
 }
 
-/// A join that a caller makes: the group, and the arguments of its collective. (GASPI: collectives)
+/// The join of a caller: its group, and the arguments of its collective. (GASPI: collectives)
 #[derive(Debug, Drop)]
 pub struct Joining<'a> {
+    /// The caller that joins.
     pub caller: CallerId,
+    /// The group.
     pub group: GroupId,
+    /// The arguments of its collective.
     pub args: &'a Args,
 }
 
-/// Whether a collective of a caller may join a group with these arguments. (GASPI: collectives)
+/// Whether a join may come: its collective may join the group, with just these arguments. `group` is the one that `joining` names,
+/// and `posts` are those of the caller's rank, in a sound state. Nothing changes. An allreduce takes memory. (GASPI: collectives)
 pub fn may_join(
     alloc: Global,
     joining: &Joining<'_>,

@@ -1,5 +1,6 @@
-//! A collective joins its group, and completes its round: the steps by a join and by a collective with its reply, on the posts of its
-//! caller's rank, its memory and its group. (GASPI: collectives, groups, segments)
+//! The steps by a join and by a collective with its reply, on the posts of the caller's rank `me`, the memory of that rank, and the
+//! group with the number `id`. Nothing is checked here: the look at these very values was made before.
+//! (GASPI: collectives, groups, segments)
 
 ghost use Rattle.std.specs.Prelude.{◌≡◌, ◌+◌, ◌<◌, ◌≤◌, ◌^◌, OnOk, OnErr, Some, Ok, false, true};
 ghost use Rattle.gaspi_types.specs.Collectives.{contributions_of, round_of, with_joined, with_completed};
@@ -31,7 +32,7 @@ use gaspi_types::{
 use segment_store::next_generation;
 use std::alloc::Global;
 
-/// Puts a collective as the one that is pending on a group, or takes away the one that is there.
+/// Makes a collective pending on a group, or none. The rest of the posts stays; a number over 7 changes nothing.
 fn set_pending(posts: &mut Posts, id: u64, pending: Option<PendingCollective>)
     ensures { posts.new ≡ with_pending id pending posts.old }
 {
@@ -41,7 +42,7 @@ fn set_pending(posts: &mut Posts, id: u64, pending: Option<PendingCollective>)
     }
 }
 
-/// Marks a group as committed. (GASPI: group_commit)
+/// Makes the stage of a group committed. Where there is no such group nothing changes. (GASPI: group_commit)
 fn commit_group(posts: &mut Posts, id: u64)
     ensures { posts.new ≡ record posts.old { groups = with_committed posts.old.groups id } }
 {
@@ -52,8 +53,9 @@ fn commit_group(posts: &mut Posts, id: u64)
     posts.groups.set(id, committed);
 }
 
-/// What a collective tells its rank as it completes: a commit marks its group as committed, and a segment that was made is known of
-/// all members. (GASPI: group_commit, segment_create)
+/// Changes the posts of `me` as the kind of a collective asks at its completion: a `commit` makes the stage of its group committed,
+/// a create makes the new segment of each member known. What is pending and the count of events stay.
+/// (GASPI: group_commit, segment_create)
 fn complete_posts(posts: &mut Posts, group: &Group, me: RankId, id: u64, call: &Call)
     requires { CompletionIsBounded call.now }
     ensures { posts.new ≡ posts_at_completion group.now me id call.now posts.old }
@@ -65,8 +67,8 @@ fn complete_posts(posts: &mut Posts, group: &Group, me: RankId, id: u64, call: &
     }
 }
 
-/// What a collective with that reply leaves in its group and in the posts of its rank: a refusal or a timeout nothing but the
-/// count of events.
+/// Makes the effect of a collective with its reply, and counts the event. A refusal or a timeout changes the count alone. Otherwise
+/// the round of `me` is completed, and none is pending on the group.
 fn apply_completion(
     posts: &mut Posts,
     group: &mut Group,
@@ -89,10 +91,9 @@ fn apply_completion(
     posts.events += 1;
 }
 
-/// Completes a collective that was looked at, or records its refusal or its timeout: the step by the call with what the look found. It
-/// gives the reply with which the call was recorded. The look is one of this very call on these very posts and this group, and found
-/// no join. Where the rank has room for the event, that is the step by the call. `used` is the rank's used room, before and after. It takes
-/// no memory. (GASPI: collectives, timeouts)
+/// Records a collective with the answer of its look, and gives the reply with which it was recorded. The look was at this very call
+/// on these very posts and this group, and found no join. Where the rank has room for one event, this is the step by the call.
+/// `used` is the rank's used room, before and after. It takes no memory. (GASPI: collectives, timeouts)
 pub fn complete(
     invocation: &Invocation<'_>,
     id: u64,
@@ -125,7 +126,7 @@ pub fn complete(
     reply
 }
 
-/// The generation of the segment that a collective makes as it joins; 0 where it makes none. (GASPI: segment_create)
+/// The generation of the segment that a collective makes at its join; 0 where it makes none. (GASPI: segment_create)
 fn made_generation(posts: &Posts, coll: Coll) -> u32
     ensures { result ≡ made_generation posts.now coll }
 {
@@ -135,8 +136,8 @@ fn made_generation(posts: &Posts, coll: Coll) -> u32
     }
 }
 
-/// Adds a contribution to the round of a rank, and makes the segment that its collective makes. Without memory nothing changes.
-/// (GASPI: collectives, segment_create)
+/// Adds a contribution of `me` to its round, and makes the segment of a create. What is pending and the count of events stay. Where
+/// memory runs out nothing changes. (GASPI: collectives, segment_create)
 fn contribute(
     alloc: Global,
     limits: &Limits,
@@ -169,8 +170,8 @@ fn contribute(
     }
 }
 
-/// What a join leaves: its collective is pending for its caller, and the rank has contributed to its round; and one event more. All memory is
-/// taken first, and without it nothing changes.
+/// Makes the effect of a join: the rank has contributed to its round, the segment of a create is made, the collective is pending for
+/// its caller, and one event more is counted. All memory is taken first; where it runs out nothing changes.
 fn apply_join(
     alloc: Global,
     limits: &Limits,
@@ -210,9 +211,9 @@ fn apply_join(
     Ok(())
 }
 
-/// Joins: the step by the join of a collective of a rank to a group with these arguments, which it may join, and the rank has room for
-/// the event. The collective is then pending for its caller, and the rank has contributed to its round; a segment that it makes is there.
-/// `used` is the rank's used room, before and after. Without memory nothing changes. (GASPI: collectives, segment_create)
+/// Makes the step by a join. The caller has a section, its collective may join this group with these arguments, and its rank has
+/// room for one event. `used` is the rank's used room, before and after. Where memory runs out nothing changes.
+/// (GASPI: collectives, segment_create)
 pub fn join(
     alloc: Global,
     limits: &Limits,

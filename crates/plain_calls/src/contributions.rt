@@ -1,5 +1,6 @@
-//! The contributions of ranks to the rounds of a group, and what a round comes to. The members of a group alone are walked, never its
-//! rounds. (GASPI: collectives)
+//! The contributions to the rounds of a group, in the machine's own value `Group`: what they say of a round, and what a join, a
+//! completion and a create change by them. `me` is the rank whose round is meant: the first that the rank has not completed. The
+//! functions walk over members, never over rounds. (GASPI: collectives)
 
 ghost use Rattle.std.specs.Prelude.{◌≡◌, ℕ, ◌+◌, ◌<◌, ◌^◌, ◌++◌, ◌∷◌, [], length, true, is_some, IfOk, OnOk, OnErr};
 ghost use Rattle.std.specs.Option.{option_copied};
@@ -18,7 +19,7 @@ use gaspi_types::{
 use segment_store::set_known;
 use std::alloc::Global;
 
-/// The contribution of a rank to a round of a group, if it has contributed.
+/// The contribution of a rank to a round; None where the rank has not contributed.
 fn contribution_in(group: &Group, round: u32, rank: RankId) -> Option<&Contribution>
     ensures { option_copied result ≡ contribution_in group.now round rank }
 {
@@ -28,7 +29,7 @@ fn contribution_in(group: &Group, round: u32, rank: RankId) -> Option<&Contribut
     }
 }
 
-/// The round of a rank: the first that it has not completed.
+/// The number of a rank's round: the first that the rank has not completed; 0 for a rank that the group does not list.
 fn round_of(group: &Group, rank: RankId) -> u32
     ensures { result ≡ round_of group.now rank }
 {
@@ -38,14 +39,14 @@ fn round_of(group: &Group, rank: RankId) -> u32
     }
 }
 
-/// The members of a group: of one whose members are not fixed, none.
+/// The members of a group; none where the member list is not fixed.
 fn members_in(group: &Group) -> Members
     ensures { result ≡ members_in group.now }
 {
     members_of(group.members.unwrap_or(0))
 }
 
-/// Whether every one of these ranks has contributed to a round.
+/// Whether each of these ranks has contributed to a round.
 fn is_full(group: &Group, round: u32, members: &[RankId]) -> bool
     ensures { result ≡ is_full (contribution_in group.now round) members.now }
 {
@@ -54,14 +55,14 @@ fn is_full(group: &Group, round: u32, members: &[RankId]) -> bool
         .all(|member| contribution_in(group, round, *member).is_some())
 }
 
-/// Whether every member has contributed to the round of a rank. (GASPI: collectives)
+/// Whether the round of `me` is full: every member has contributed to it. (GASPI: collectives)
 pub fn is_round_full(group: &Group, me: RankId) -> bool
     ensures { result ≡ is_round_full group.now me }
 {
     is_full(group, round_of(group, me), members_in(group).ranks())
 }
 
-/// The collective with which the first of these ranks has joined a round that has joined it.
+/// The collective that the first contribution to a round has, in the order of these ranks; None where none has contributed.
 fn first_coll(group: &Group, round: u32, members: &[RankId]) -> Option<Coll>
     ensures { result ≡ coll_in (first_contribution (contribution_in group.now round) members.now) }
 {
@@ -74,7 +75,8 @@ fn first_coll(group: &Group, round: u32, members: &[RankId]) -> Option<Coll>
     }
 }
 
-/// Checks that a collective is the one with which members have joined the round of a rank, values aside. (GASPI: collectives)
+/// Checks a collective against the contributions to the round of `me`: it is theirs, values aside; else `CollectiveMismatch`.
+/// (GASPI: collectives)
 pub fn check_round(group: &Group, me: RankId, coll: Coll) -> Result<(), Refusal>
     ensures { result ≡ round_checks group.now me coll }
 {
@@ -82,7 +84,8 @@ pub fn check_round(group: &Group, me: RankId, coll: Coll) -> Result<(), Refusal>
     check_fits(first, coll)
 }
 
-/// The values of a rank's contribution to a round: of one that has not contributed, none.
+/// The values of a rank's contribution to a round; none where the rank has not contributed. Where all contributions are alike
+/// (`AreAlike`: the same type and count), each value is one of that type.
 fn values_in(group: &Group, round: u32, rank: RankId) -> &[i128]
     ensures values { result.now ≡ values_in (contribution_in group.now round rank) }
     ensures range { (num_type : NumType) (count : ℕ) → AreAlike (contribution_in group.now round) num_type count → AreInType num_type result.now }
@@ -93,7 +96,8 @@ fn values_in(group: &Group, round: u32, rank: RankId) -> &[i128]
     }
 }
 
-/// Reduces the contribution of a rank to a round onto a total.
+/// Reduces the values of a rank's contribution onto `total`, item by item. The rank has contributed, and its values are as many and
+/// of the same type.
 fn reduce_contribution(
     total: &mut [i128],
     op: Op,
@@ -111,7 +115,8 @@ fn reduce_contribution(
     reduce(op, num_type, total, values_in(group, round, rank));
 }
 
-/// Reduces the contributions of ranks to a round onto a total, one rank after another.
+/// Reduces the contributions of these ranks onto `total`, one after another, in their order. Each of them has contributed as many
+/// values, of the same type.
 fn reduce_onto(
     total: &mut [i128],
     op: Op,
@@ -135,7 +140,8 @@ fn reduce_onto(
     }
 }
 
-/// What the values of ranks' contributions to a round come to, one rank after another.
+/// The reduction of the values of these ranks in a round, in their order; no values where there is no rank. Each of them has
+/// contributed, and all contributions have as many values, of the same type.
 fn reduction_of(
     alloc: Global,
     op: Op,
@@ -159,7 +165,8 @@ fn reduction_of(
     }
 }
 
-/// What the values of all members come to in the full round of a rank, in the order of their ranks. (GASPI: allreduce)
+/// The reduction of the values of all members in the round of `me`, which is full, in the order of the ranks. All contributions to
+/// it have as many values, of the same type. (GASPI: allreduce)
 pub fn round_reduction(
     alloc: Global,
     group: &Group,
@@ -176,7 +183,7 @@ pub fn round_reduction(
     reduction_of(alloc, op, num_type, group, round, members.ranks())
 }
 
-/// The generation of the segment in a rank's contribution to a round: of one that has not contributed, 0.
+/// The generation of the new segment in a rank's contribution to a round; 0 where the rank has not contributed.
 fn generation_in(group: &Group, round: u32, rank: RankId) -> u32
     ensures { result ≡ generation_in (contribution_in group.now round rank) }
 {
@@ -186,7 +193,7 @@ fn generation_in(group: &Group, round: u32, rank: RankId) -> u32
     }
 }
 
-/// Makes a segment of each of these ranks known, in the generation of its contribution to a round.
+/// Makes segment `seg` of each of these ranks known in `posts`, in the generation that the rank contributed to the round.
 fn make_known(posts: &mut Posts, group: &Group, round: u32, members: &[RankId], seg: u64, size: u32)
     ensures { posts.new ≡ with_made_known seg size (made_by (contribution_in group.now round) members.now) posts.old }
 {
@@ -201,8 +208,8 @@ fn make_known(posts: &mut Posts, group: &Group, round: u32, members: &[RankId], 
     }
 }
 
-/// Makes the segments of all members known, in the generations of their contributions to the round of a rank.
-/// (GASPI: segment_create)
+/// Makes segment `seg` of every member known in `posts`, those of `me`, in the generations of their contributions to the round of
+/// `me`. (GASPI: segment_create)
 pub fn register_round(posts: &mut Posts, group: &Group, me: RankId, seg: u64, size: u32)
     ensures { posts.new ≡ with_made_known seg size (round_segments group.now me) posts.old }
 {
@@ -217,7 +224,7 @@ pub fn register_round(posts: &mut Posts, group: &Group, me: RankId, seg: u64, si
     );
 }
 
-/// The members of a group that a collective joins: the first commit fixes them.
+/// The member list of a group after a join: the one that is fixed, or else the list of a `commit`; None after another collective.
 fn fixed_by(members: Option<u32>, coll: Coll) -> Option<u32>
     ensures { result ≡ fixed_by members coll }
 {
@@ -230,7 +237,7 @@ fn fixed_by(members: Option<u32>, coll: Coll) -> Option<u32>
     }
 }
 
-/// Adds a contribution to those of a rank. Without memory nothing changes.
+/// Appends a contribution to those of a rank. Where memory runs out nothing changes.
 fn push_contribution(
     own: &mut RankContributions,
     contribution: Contribution,
@@ -241,8 +248,8 @@ fn push_contribution(
     own.contributions.push(contribution)
 }
 
-/// A rank joins: it contributes to its round, and the first commit fixes the members. Without memory nothing changes.
-/// (GASPI: collectives)
+/// Appends a contribution of `me` to the group, and fixes its member list by the first `commit`. What is pending is not set here.
+/// Where memory runs out nothing changes. (GASPI: collectives)
 #[tactic(auto, using(crate::proofs::PostedEntries::posts_lemmas))]
 pub fn join_round(group: &mut Group, me: RankId, contribution: Contribution) -> Result<(), NoMemory>
     ensures ok { OnOk result (group.new ≡ with_joined group.old me contribution) }
@@ -257,7 +264,7 @@ pub fn join_round(group: &mut Group, me: RankId, contribution: Contribution) -> 
     Ok(())
 }
 
-/// A rank has completed its round. (GASPI: collectives)
+/// Counts one round more that `me` has completed. The contributions stay. (GASPI: collectives)
 pub fn complete_round(group: &mut Group, me: RankId)
     requires { round_of group.old me + 1 < 2 ^ 32 }
     ensures { group.new ≡ with_completed group.old me }

@@ -1,4 +1,6 @@
-//! The calls on the groups of a rank: what they find, and what they leave. (GASPI: groups)
+//! The calls on the groups of one rank, and what is pending on a group. The functions with `_result` give the result of their call:
+//! its refusal, or its reply; `groups` has the handles of the caller's rank, and `pending` is what is pending on the group of the
+//! call; a clause on a result speaks of all posts that have these. The functions with `_effect` make its effect. (GASPI: groups)
 
 ghost use Rattle.std.specs.Prelude.{◌≡◌, ◌+◌, ◌<◌, ◌^◌};
 ghost use Rattle.std.specs.Option.{option_copied};
@@ -14,7 +16,7 @@ use gaspi_types::{
     Stage, with_member,
 };
 
-/// What is pending of a rank on a group.
+/// The collective of a rank that is pending on a group; None where none is.
 pub fn pending_on(
     pending: &Sequence<Option<PendingCollective>>,
     id: u64,
@@ -27,7 +29,7 @@ pub fn pending_on(
     }
 }
 
-/// Checks that no collective of the rank is pending on a group: this is what is pending on it.
+/// Checks that no collective of the rank is pending on a group: else `ActiveCollective` with its thread.
 fn check_idle(pending: Option<&PendingCollective>) -> Result<(), Refusal>
     ensures { result ≡ idle_check (option_copied pending.entry) }
 {
@@ -39,7 +41,7 @@ fn check_idle(pending: Option<&PendingCollective>) -> Result<(), Refusal>
     }
 }
 
-/// Looks at the making of a group: it answers the next number. (GASPI: group_create)
+/// The result of a `group_create`: the next id, or `GroupsFull`. (GASPI: group_create)
 pub fn group_create_result(groups: &Handles) -> Result<Option<Reply>, Refusal>
     ensures { (posts : Posts) → posts.groups ≡ groups.now → result ≡ group_create_result posts }
 {
@@ -50,7 +52,7 @@ pub fn group_create_result(groups: &Handles) -> Result<Option<Reply>, Refusal>
     Ok(Some(Reply::Id(made + 1)))
 }
 
-/// Makes a group, with no rank in it. (GASPI: group_create)
+/// Makes the group with the next id: building, with no rank. (GASPI: group_create)
 pub fn group_create_effect(posts: &mut Posts)
     requires { posts.old.groups.last_id + 1 < 2 ^ 32 }
     ensures { posts.new ≡ group_create_effect posts.old }
@@ -64,8 +66,8 @@ pub fn group_create_effect(posts: &mut Posts)
     posts.groups.last_id = id;
 }
 
-/// Looks at the adding of a rank to a group, in a world of so many ranks: these are the groups of the caller's rank, and what is
-/// pending on that group. (GASPI: group_add)
+/// The result of a `group_add` in a world of `ranks` ranks: done, or `BadRank`, `NoGroup`, `GroupStage` where the group is
+/// committed, `ActiveCollective`. (GASPI: group_add)
 pub fn group_add_result(
     ranks: u32,
     groups: &Handles,
@@ -83,7 +85,7 @@ pub fn group_add_result(
     Ok(Some(Reply::Done))
 }
 
-/// Adds a rank to a group. One that is there changes nothing. (GASPI: group_add)
+/// Adds a rank to a group. A rank that is in the group already changes nothing. (GASPI: group_add)
 pub fn group_add_effect(posts: &mut Posts, call: &GroupAdd)
     requires { call.now.rank < 16 }
     ensures { posts.new ≡ group_add_effect posts.old call.now }
@@ -96,8 +98,7 @@ pub fn group_add_effect(posts: &mut Posts, call: &GroupAdd)
     posts.groups.set(call.group, changed);
 }
 
-/// Looks at the dropping of a group, which is not group 0: these are the groups of the caller's rank, and what is pending on that
-/// group. (GASPI: group_delete)
+/// The result of a `group_delete`: done, or `NoGroup`, `GroupStage` for group 0, `ActiveCollective`. (GASPI: group_delete)
 pub fn group_delete_result(
     groups: &Handles,
     pending: Option<&PendingCollective>,
@@ -115,7 +116,7 @@ pub fn group_delete_result(
     Ok(Some(Reply::Done))
 }
 
-/// Drops a group. (GASPI: group_delete)
+/// Removes the handle of a group. The id is not given again. (GASPI: group_delete)
 pub fn group_delete_effect(posts: &mut Posts, call: &GroupDelete)
     ensures { posts.new ≡ group_delete_effect posts.old call.now }
 {

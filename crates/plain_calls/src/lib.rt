@@ -1,5 +1,11 @@
-//! What a call answers and what it leaves, in the posts of its caller's rank, in the memory that it works on and in the
-//! posts of a peer that it names. The machine is put together from it.
+//! Results and effects of calls, on the machine's own values: the posts of the caller's rank, the memory that the call works on, the
+//! posts of a peer, a group. `plain_machine` is put together from them. `rank_node`, which has stores in place of these values, uses
+//! the functions that take single tables.
+//!
+//! The files are named after the kinds of calls, but for `calls` and `collective_calls`, which choose, `recording` and
+//! `collective_steps`, which make steps, and `lanes`, `memories`, `threads`, `looks`, `replies` and `openings`, which serve the
+//! others. A clause with `IsBounded` or 2^32 requires that the numbers which a function raises still fit their types; in a sound
+//! state they do.
 #![tactic(auto)]
 
 mod atomic_calls;

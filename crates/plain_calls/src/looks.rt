@@ -1,4 +1,4 @@
-//! What a look at a call found. It is recorded as it was found, and nothing of it is looked for again.
+//! The evaluation of a call: all that its look found. A record uses it as it is, and nothing is looked for again.
 
 ghost use Rattle.std.specs.Prelude.{◌≡◌, None};
 ghost use Rattle.segment_store.specs.declared.kinds.EntryKinds.TheVariants as kinds;
@@ -11,17 +11,19 @@ use gaspi_model::same_reply;
 use gaspi_types::{Message, Ready, Reply};
 use segment_store::EntryKinds;
 
-/// What a look at a call found: what it answers, and, where it is done, the kinds of the entries that it appends, or the
-/// message that it sends.
+/// What a look at a call found.
 #[derive(Debug, Drop)]
 pub struct Evaluation {
+    /// The answer.
     pub ready: Ready,
+    /// What the entries ask for that the call appends: only where the call is a post that was accepted; else nothing.
     pub kinds: EntryKinds,
+    /// The message that the call puts into an inbox: only where the call is a send that is done.
     pub message: Option<Message>,
 }
 
 impl Evaluation {
-    /// What a look found that asks for no entry and brings no message.
+    /// The evaluation with an answer, but with no entry and no message.
     pub fn plain(ready: Ready) -> Evaluation
         ensures { result ≡ record { ready = ready; kinds = kinds.Nothing; message = None } }
     {
@@ -32,22 +34,22 @@ impl Evaluation {
         }
     }
 
-    /// Whether the call is recorded as a refusal or a timeout.
+    /// Whether the call is recorded with a refusal or a timeout. A call that is not ready or that may join counts as a timeout.
     pub fn is_refused_or_timeout(&self) -> bool
         ensures { result ≡ is_idle (recorded_reply self.now.ready) }
     {
         is_idle_ready(&self.ready)
     }
 
-    /// Whether the call is a collective that may join its group. (GASPI: collectives)
+    /// Whether the answer is that the call may join its group. (GASPI: collectives)
     pub fn is_join(&self) -> bool
         ensures { result ≡ is_joining self.now.ready }
     {
         matches!(&self.ready, Ready::Join(_))
     }
 
-    /// Whether a reply is the one with which the call may be recorded: a collective that has not joined has none.
-    /// (GASPI: timeouts, collectives)
+    /// Whether the call may be recorded with a reply: with that of its answer, or with a timeout where it is not ready. Where it may
+    /// join it is recorded with none, for it joins first. (GASPI: timeouts, collectives)
     pub fn may_be_recorded_with(&self, reply: &Reply) -> bool
         ensures { result ≡ is_reply_of self.now.ready reply.now }
     {

@@ -1,4 +1,5 @@
-//! The memory of a rank: the bytes and the notification slots of its segments. (GASPI: segments, notifications)
+//! Segments with their bytes and slots in the memory of a rank: single segments and slots, the slots of a new segment, and ranges of
+//! slots. (GASPI: segments, notifications)
 
 ghost use Rattle.std.specs.Prelude.{◌≡◌, ◌+◌, ◌<◌, ◌^◌, length, slice_set, position, IfSome, IfOk};
 ghost use Rattle.std.specs.Option.{option_copied};
@@ -11,28 +12,28 @@ use gaspi_types::{NoMemory, Segment, Sequence};
 use segment_store::{is_within, range_of, segment_in};
 use std::alloc::Global;
 
-/// The segment with a number.
+/// The segment under an id; None where there is none.
 pub fn segment_at(memory: &Memory, segment: u64) -> Option<&Segment>
     ensures { option_copied result ≡ segment_at memory.now segment }
 {
     segment_in(&memory.segments, segment)
 }
 
-/// The slots of a segment as it is made: all are zero. (GASPI: notifications)
+/// The slots of a new segment: `notes` of them, all zero. (GASPI: notifications)
 pub fn new_slots(alloc: Global, notes: u32) -> Result<Sequence<u32>, NoMemory>
     ensures { IfOk result (λ slots. slots ≡ new_slots notes) }
 {
     Ok(Sequence::from_vec(vec![in alloc; 0u32; notes as usize]?))
 }
 
-/// The bytes of a segment. Of one that is not there, none.
+/// The bytes of a segment; none where there is no such segment.
 pub fn bytes_of(memory: &Memory, segment: u64) -> &[u8]
     ensures { result.now ≡ bytes_of memory.now segment }
 {
     segment_store::bytes_of(&memory.segments, segment)
 }
 
-/// The notification slots of a segment. Of one that is not there, none.
+/// The slots of a segment; none where there is no such segment.
 pub fn slots_of(memory: &Memory, segment: u64) -> &[u32]
     ensures { result.now ≡ slots_of memory.now segment }
 {
@@ -42,7 +43,7 @@ pub fn slots_of(memory: &Memory, segment: u64) -> &[u32]
     }
 }
 
-/// Puts a segment with its slots at a number, or takes away the one that is there.
+/// Puts a segment with its slots under an id, or removes both. An id over 31 changes nothing.
 pub fn set_segment(
     memory: &mut Memory,
     segment: u64,
@@ -60,7 +61,7 @@ pub fn set_segment(
     }
 }
 
-/// Sets a notification slot of a segment to a value, where it is there.
+/// Sets a slot of a segment to a value. Where there is no such slot nothing changes.
 pub fn set_slot(memory: &mut Memory, segment: u64, note: u64, value: u32)
     ensures { memory.new ≡ with_slots memory.old segment (slice_set (slots_of memory.old segment) note value) }
 {
@@ -75,14 +76,14 @@ pub fn set_slot(memory: &mut Memory, segment: u64, note: u64, value: u32)
     }
 }
 
-/// Whether a range of slots has a slot, and lies within that many.
+/// Whether a range of slots has a slot and lies within `notes` slots.
 pub fn is_slot_range(begin: u64, num: u64, notes: u32) -> bool
     ensures { result ≡ is_slot_range begin num notes }
 {
     1 <= num && is_within(begin, num, u64::from(notes))
 }
 
-/// The place of the first slot that is set.
+/// The index of the first slot that is set; None where none is.
 fn first_set_place(slots: &[u32]) -> Option<usize>
     ensures place { result ≡ position is_set slots.now }
     ensures bound { IfSome result (λ place. place < length slots.now) }
@@ -90,7 +91,7 @@ fn first_set_place(slots: &[u32]) -> Option<usize>
     slots.iter().position(|value| *value != 0)
 }
 
-/// The least slot of a range that is set.
+/// The least slot of a range that is set; None where none is.
 pub fn first_set(slots: &[u32], begin: usize, num: usize) -> Option<u32>
     requires { begin + num < 2 ^ 32 }
     ensures { result ≡ first_set slots.now begin num }

@@ -1,4 +1,6 @@
-//! The calls of a rank on the bytes of its own segments: what they find, and what they leave. (own choice)
+//! The calls `store` and `load`, on bytes of the caller's own segments. The functions with `_result` give the result of their call:
+//! its refusal, or its reply; `own` is the table of these segments, and a clause speaks of all posts and memories that have it.
+//! `store_effect` makes the effect of a store; a load has none. (own choice)
 
 ghost use Rattle.std.specs.Prelude.{◌≡◌, IfOk};
 ghost use Rattle.gaspi_model.specs.MemoryCalls.{store_result, store_effect, load_result};
@@ -11,7 +13,7 @@ use gaspi_types::{Extents, Load, NoMemory, OwnSegments, Refusal, Reply, Sequence
 use segment_store::{bytes_of, check_own_range, range_of, store_bytes};
 use std::alloc::Global;
 
-/// Checks a store: this is the table of the caller's own segments.
+/// The result of a `store`: done, or the refusal of `check_own_range`.
 pub fn store_result(own: &Extents, call: &Store) -> Result<Option<Reply>, Refusal>
     ensures { (posts : Posts) → posts.segments.own ≡ own.now → result ≡ store_result posts call.now }
 {
@@ -19,7 +21,7 @@ pub fn store_result(own: &Extents, call: &Store) -> Result<Option<Reply>, Refusa
     Ok(Some(Reply::Done))
 }
 
-/// Writes the bytes of a store.
+/// Writes the bytes of a store. All other bytes stay.
 pub fn store_effect(memory: &mut Memory, call: &Store)
     ensures { memory.new ≡ store_effect memory.old call.now }
 {
@@ -31,7 +33,7 @@ pub fn store_effect(memory: &mut Memory, call: &Store)
     );
 }
 
-/// The bytes that a load reads.
+/// The bytes that a load reads, or the refusal of `check_own_range`.
 fn loaded<'a>(own: &Extents, segments: &'a OwnSegments, call: &Load) -> Result<&'a [u8], Refusal>
     ensures { (posts : Posts) (memory : Memory) → posts.segments.own ≡ own.now → memory.segments ≡ segments.now → Loads result (load_result posts memory call.now) }
 {
@@ -43,7 +45,8 @@ fn loaded<'a>(own: &Extents, segments: &'a OwnSegments, call: &Load) -> Result<&
     ))
 }
 
-/// Checks a load, and copies the bytes that it reads: these are the table of the caller's own segments, and their bytes.
+/// The result of a `load`: a copy of its bytes, or the refusal of `check_own_range`, which takes no memory. `own` and `segments` are
+/// the table and the bytes of the own segments.
 pub fn load_result(
     alloc: Global,
     own: &Extents,

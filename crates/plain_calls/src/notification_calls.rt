@@ -1,4 +1,7 @@
-//! The calls on notification slots: what they find, and what they leave. (GASPI: notifications)
+//! The calls `waitsome` and `reset`, on the slots of one own segment. The functions with `_result` give the result of their call:
+//! its refusal, its reply, or None where it is not ready; `own` is the table of the caller's own segments, `slots` has the slots of
+//! the segment that the call names, and `notes` is how many slots each segment has. A clause on a result speaks of all posts and
+//! memories that have these. (GASPI: notifications)
 
 ghost use Rattle.std.specs.Prelude.{◌≡◌};
 ghost use Rattle.gaspi_types.specs.declared.shapes.Limits.{Limits};
@@ -12,8 +15,8 @@ use gaspi_model::Memory;
 use gaspi_types::{Extents, Refusal, Reply, Reset, Waitsome};
 use segment_store::extent_in;
 
-/// Looks at a wait for a notification: ready where a slot of its range is set. So many slots has a segment, and these are the table of
-/// the caller's own segments and the slots of the one that the call names. (GASPI: notify_waitsome)
+/// The result of a `waitsome`: `NoSegment`, `BadNote`, the least set slot of its range, or not ready where none is set.
+/// (GASPI: notify_waitsome)
 pub fn waitsome_result(
     notes: u32,
     own: &Extents,
@@ -29,8 +32,7 @@ pub fn waitsome_result(
     Ok(first_set(slots, call.begin as usize, call.num as usize).map(Reply::Id))
 }
 
-/// Looks at a reset: it answers the slot's value. So many slots has a segment, and these are the table of the caller's own segments
-/// and the slots of the one that the call names. (GASPI: notify_reset)
+/// The result of a `reset`: the value of its slot, or `NoSegment`, or `BadNote`. (GASPI: notify_reset)
 pub fn reset_result(
     notes: u32,
     own: &Extents,
@@ -47,7 +49,7 @@ pub fn reset_result(
     Ok(Some(Reply::Value(u64::from(value))))
 }
 
-/// Clears a slot. (GASPI: notify_reset)
+/// Sets the slot of a reset to 0. All other slots stay. (GASPI: notify_reset)
 pub fn reset_effect(memory: &mut Memory, call: &Reset)
     ensures { memory.new ≡ reset_effect memory.old call.now }
 {

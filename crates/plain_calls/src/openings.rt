@@ -1,4 +1,4 @@
-//! The segments of a rank at the start, with their bytes. (GASPI: segments)
+//! The declared segments of a rank with their bytes, for its memory in the opening state. (GASPI: segments)
 
 ghost use Rattle.std.specs.Prelude.{◌≡◌, IfOk, map};
 ghost use Rattle.std.specs.Option.{option_map};
@@ -11,7 +11,7 @@ use gaspi_types::{NoMemory, OwnSegments, Segment, Sequence, Shape};
 use segment_store::new_segment;
 use std::alloc::Global;
 
-/// The segment of a rank with a number.
+/// The declared segment of a rank under an id, its bytes zero; None where the shape declares none.
 fn opening_segment_at(
     alloc: Global,
     shape: &Shape,
@@ -26,7 +26,7 @@ fn opening_segment_at(
     }
 }
 
-/// The segments of a rank, by their numbers.
+/// The declared segments of a rank: one item for each of the 32 ids.
 #[tactic(auto, using(gaspi_model::proofs::Ranges::map_range_more))]
 pub fn opening_segments(alloc: Global, shape: &Shape, rank: u32) -> Result<OwnSegments, NoMemory>
     ensures { IfOk result (λ segments. segments ≡ opening_segments shape.now rank) }

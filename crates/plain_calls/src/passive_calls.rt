@@ -1,4 +1,7 @@
-//! The calls of passive communication: what they find, and what they leave. (GASPI: passive communication)
+//! The calls `passive_send` and `passive_receive`. The functions with `_result` give the result of their call: its refusal, its
+//! reply, or None where it is not ready; `own` is the table of the caller's own segments, and a clause on a result speaks of all
+//! posts and memories that have it. The functions with `_effect` make its effect. The rest makes a message, and reads the first one
+//! of an inbox. (GASPI: passive communication)
 
 ghost use Rattle.std.specs.Prelude.{◌≡◌, ◌≤◌, ◌<◌, ◌^◌, IfOk, OnOk, OnErr, IsOk, IfSome, None};
 ghost use Rattle.gaspi_types.specs.Inboxes.{has_room};
@@ -16,8 +19,8 @@ use gaspi_types::{
 use segment_store::{bytes_of, check_message_range, range_of, store_bytes};
 use std::alloc::Global;
 
-/// Looks at a send, in a world of so many ranks: ready where the inbox of the rank that it names has room, as is said. This is the
-/// table of the caller's own segments. (GASPI: passive_send)
+/// The result of a send in a world of `ranks` ranks: `BadRank`, or the refusal of `check_message_range`, or done where the inbox of
+/// the rank that it names has room, else not ready. (GASPI: passive_send)
 pub fn send_result(
     ranks: u32,
     own: &Extents,
@@ -37,7 +40,7 @@ pub fn send_result(
     }
 }
 
-/// The message of a send by a rank: the bytes of its range in the own segments, copied.
+/// The message of a send by `me`: a copy of the bytes of its range in the own segments.
 pub fn message_of(
     alloc: Global,
     me: RankId,
@@ -57,7 +60,8 @@ pub fn message_of(
     })
 }
 
-/// Puts a message into the inbox, as the last one. Without memory nothing changes but that the message is dropped.
+/// Puts a message into the inbox, as the last one; None changes nothing. Where memory runs out the message is lost and the inbox
+/// stays.
 pub fn send_effect(memory: &mut Memory, message: Option<Message>) -> Result<(), NoMemory>
     ensures ok { OnOk result (memory.new ≡ send_effect message memory.old) }
     ensures err { OnErr result (memory.new ≡ memory.old) }
@@ -68,7 +72,7 @@ pub fn send_effect(memory: &mut Memory, message: Option<Message>) -> Result<(), 
     Ok(())
 }
 
-/// The sender and the size of the first message of an inbox; None where there is no message.
+/// The sender and the size of the first message of an inbox; None where there is no message. No message is over 4,096 bytes.
 pub fn front_of(inbox: &Messages) -> Option<(u32, u32)>
     requires { AreShort inbox.now }
     ensures { result ≡ front_of inbox.now }
@@ -79,8 +83,9 @@ pub fn front_of(inbox: &Messages) -> Option<(u32, u32)>
     }
 }
 
-/// Looks at a receive: ready where a message is there; the first one has to be short enough. These are the table of the caller's own
-/// segments, and the sender and the size of the first message of its inbox. (GASPI: passive_receive)
+/// The result of a receive: the refusal of `check_message_range`, or not ready where there is no message, or `PassiveSize` where the
+/// first one is too long, else its sender. `front` has the sender and the size of the first message of the caller's inbox.
+/// (GASPI: passive_receive)
 pub fn receive_result(
     own: &Extents,
     front: Option<(u32, u32)>,
@@ -98,7 +103,8 @@ pub fn receive_result(
     Ok(Some(Reply::Id(sender)))
 }
 
-/// Takes the first message, and puts its bytes where the receive says. (GASPI: passive_receive)
+/// Removes the first message, and stores its bytes from the offset of the receive on. Where there is no message nothing changes.
+/// (GASPI: passive_receive)
 pub fn receive_effect(memory: &mut Memory, call: &PassiveReceive)
     ensures { memory.new ≡ receive_effect memory.old call.now }
 {

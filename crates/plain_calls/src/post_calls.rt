@@ -1,4 +1,5 @@
-//! The calls that post entries to a lane: what they find. (GASPI: one-sided communication)
+//! The calls that post: their result at a look, with the kinds of the entries that they append. `posting` has the effect.
+//! (GASPI: one-sided communication)
 
 ghost use Rattle.std.specs.Prelude.{◌≡◌, ◌≤◌, length, false, IfOk, IsOk};
 ghost use Rattle.gaspi_types.specs.Posts.{is_list_post};
@@ -11,7 +12,8 @@ use gaspi_types::{Call, Kind, Limits, NoMemory, Posting, Queue, RankId, Refusal}
 use segment_store::{EntryKinds, call_kinds};
 use std::alloc::Global;
 
-/// Checks that a queue is not broken and has room for entries.
+/// Checks that a queue is not broken (`QueueBroken`), and that its open count with the entries of the call is not over the depth
+/// (`QueueFull`).
 fn check_depth(limits: &Limits, q: &Queue, kinds: &[Kind]) -> Result<(), Refusal>
     requires { length kinds.now ≤ 257 }
     ensures { Grants result (post_result limits.now q.now kinds.now) }
@@ -29,8 +31,8 @@ fn check_depth(limits: &Limits, q: &Queue, kinds: &[Kind]) -> Result<(), Refusal
     Ok(())
 }
 
-/// Looks at a call that posts: its rank, its queue, what it asks for, and the queue's room. It finds the entries to append,
-/// or its refusal. Only the post of a list takes memory.
+/// The kinds of the entries that a call appends, or its refusal: `BadRank`, `BadQueue`, those of `call_kinds`, those of
+/// `check_depth`, in this order. `to` is what the row of the call says of its post. Only the post of a list takes memory.
 pub fn posting_result(
     alloc: Global,
     limits: &Limits,

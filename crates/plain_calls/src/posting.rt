@@ -1,4 +1,5 @@
-//! What a post leaves: its entries at the end of a lane. (GASPI: one-sided communication)
+//! The effect of a post on the posts of its origin: entries at the end of a lane, the open count, and the number of the next entry.
+//! The post was accepted at its look, so nothing is checked here. (GASPI: one-sided communication)
 
 ghost use Rattle.std.specs.Prelude.{◌≡◌, ◌+◌, ◌<◌, ◌^◌, length, slice_get, Some, Ok, OnOk, OnErr};
 ghost use Rattle.gaspi_model.specs.Posting.{with_post};
@@ -11,7 +12,7 @@ use gaspi_model::Posts;
 use gaspi_types::{Entry, Kind, NoMemory, Queue, Sequence};
 use std::alloc::Global;
 
-/// Adds entries to a lane of a queue. Without memory nothing changes.
+/// Appends entries to the lane to `target`, and adds their number to the queue's open count. Where memory runs out nothing changes.
 #[tactic(auto, using(crate::proofs::PostedEntries::posts_lemmas))]
 fn append_entries(q: &mut Queue, target: u64, entries: Sequence<Entry>) -> Result<(), NoMemory>
     requires { q.old.open_count + length entries < 2 ^ 32 }
@@ -27,7 +28,8 @@ fn append_entries(q: &mut Queue, target: u64, entries: Sequence<Entry>) -> Resul
     Ok(())
 }
 
-/// Makes a post that is accepted. Without memory nothing changes.
+/// Appends entries of `kinds`, with the next numbers of their origin, to the lane of `queue` and `target`, and raises the open count
+/// of the queue by their number. The count of events stays. Where memory runs out nothing changes.
 #[tactic(auto, using(crate::proofs::PostedEntries::posts_lemmas))]
 pub fn post(
     alloc: Global,

@@ -1,5 +1,6 @@
-//! The calls on a queue and on the state vector: what they find, and what they leave. (GASPI: one-sided communication, state
-//! vector)
+//! The calls on queues, and `state`. The functions with `_result` give the result of their call: its refusal, its reply, or None
+//! where it is not ready. `closed` and `purged` make the effects of `wait` and `purge`. `purged_queue` and `owed_at` say what a
+//! purge releases. The others are their helpers. (GASPI: one-sided communication, state vector)
 
 ghost use Rattle.std.specs.Prelude.{◌≡◌, ◌≤◌, ◌<◌, ◌^◌, length, map};
 ghost use Rattle.std.specs.List.{list_any};
@@ -13,15 +14,14 @@ use crate::lanes::{has_awaited, lane_owed};
 use gaspi_model::Posts;
 use gaspi_types::{Call, Entry, Purge, Qsize, Queue, Refusal, Reply, Sequence, Wait, mask_of};
 
-/// Whether a wait waits for an entry of a queue.
+/// Whether a queue has an awaited entry, in any lane.
 fn has_awaited_entry(q: &Queue) -> bool
     ensures { result ≡ list_any has_awaited q.now.lanes }
 {
     q.lanes.as_slice().iter().any(has_awaited)
 }
 
-/// Looks at a wait: ready where no entry of its queue is posted, and no read and no notification of a read stands in it.
-/// (GASPI: wait)
+/// The result of a `wait`: `BadQueue`, or `QueueBroken`, or done where the queue has no awaited entry, else not ready. (GASPI: wait)
 pub fn wait_result(posts: &Posts, call: &Wait) -> Result<Option<Reply>, Refusal>
     ensures { result ≡ wait_result posts.now call.now }
 {
@@ -41,7 +41,7 @@ pub fn wait_result(posts: &Posts, call: &Wait) -> Result<Option<Reply>, Refusal>
     }
 }
 
-/// Looks at a purge: its queue is there, broken or not. (GASPI: queue_purge)
+/// The result of a `purge`: done where the queue is there, broken or not; else `BadQueue`. (GASPI: queue_purge)
 pub fn purge_result(posts: &Posts, call: &Purge) -> Result<Option<Reply>, Refusal>
     ensures { result ≡ purge_result posts.now call.now }
 {
@@ -52,7 +52,7 @@ pub fn purge_result(posts: &Posts, call: &Purge) -> Result<Option<Reply>, Refusa
     Ok(Some(Reply::Done))
 }
 
-/// Looks at the size of a queue: its open count. (GASPI: queue_size)
+/// The result of a `qsize`: the open count of its queue, or `BadQueue`. (GASPI: queue_size)
 pub fn qsize_result(posts: &Posts, call: &Qsize) -> Result<Option<Reply>, Refusal>
     ensures { result ≡ qsize_result posts.now call.now }
 {
@@ -63,7 +63,7 @@ pub fn qsize_result(posts: &Posts, call: &Qsize) -> Result<Option<Reply>, Refusa
     Ok(Some(Reply::Value(u64::from(q.open_count))))
 }
 
-/// Looks at the state vector: these ranks are corrupt. (GASPI: state_vec_get)
+/// The result of `state`: the mask of the corrupt ranks. `corrupt` is the state vector of the caller's rank. (GASPI: state_vec_get)
 pub fn state_result(corrupt: &[bool]) -> Result<Option<Reply>, Refusal>
     requires { length corrupt.now ≤ 32 }
     ensures { (posts : Posts) → posts.corrupt ≡ corrupt.now → result ≡ state_result posts }
@@ -71,7 +71,7 @@ pub fn state_result(corrupt: &[bool]) -> Result<Option<Reply>, Refusal>
     Ok(Some(Reply::Mask(mask_of(corrupt))))
 }
 
-/// Clears the open count of a queue. (GASPI: wait)
+/// Makes the open count of a queue 0. The entries stay. Where there is no such queue nothing changes. (GASPI: wait)
 pub fn closed(posts: &mut Posts, queue: u64)
     ensures { posts.new ≡ closed posts.old queue }
 {
@@ -81,7 +81,7 @@ pub fn closed(posts: &mut Posts, queue: u64)
     }
 }
 
-/// Drops the entries of lanes.
+/// Drops all entries of these lanes.
 fn empty_lanes(lanes: &mut Sequence<Sequence<Entry>>)
     ensures { lanes.new ≡ map without_entries lanes.old }
 {
@@ -90,7 +90,7 @@ fn empty_lanes(lanes: &mut Sequence<Sequence<Entry>>)
     }
 }
 
-/// Drops the entries of a queue, clears its open count and mends it.
+/// Drops all entries of a queue, and makes its open count 0 and the queue unbroken.
 fn empty_queue(q: &mut Queue)
     ensures { q.new ≡ emptied q.old }
 {
@@ -99,7 +99,8 @@ fn empty_queue(q: &mut Queue)
     empty_lanes(&mut q.lanes);
 }
 
-/// Drops the entries of a rank's queue, clears its open count and mends it. Its corrupt ranks stay so. (GASPI: queue_purge)
+/// Drops all entries of a queue, and makes its open count 0 and the queue unbroken. The state vector stays. Where there is no such
+/// queue nothing changes. (GASPI: queue_purge)
 pub fn purged(posts: &mut Posts, queue: u64)
     ensures { posts.new ≡ purged posts.old queue }
 {
@@ -109,7 +110,7 @@ pub fn purged(posts: &mut Posts, queue: u64)
     }
 }
 
-/// The queue that a call purges.
+/// The queue that a call purges; None for every call but a `purge`.
 pub fn purged_queue(call: &Call) -> Option<u64>
     ensures { result ≡ purged_queue call.now }
 {
@@ -119,7 +120,7 @@ pub fn purged_queue(call: &Call) -> Option<u64>
     }
 }
 
-/// How many events the entries of a queue owe.
+/// How many events a rank owes for the entries of a queue. The sum fits 32 bits.
 fn queue_owed(q: &Queue) -> u32
     requires { queue_owed q.now < 2 ^ 32 }
     ensures { result ≡ queue_owed q.now }
@@ -131,7 +132,7 @@ fn queue_owed(q: &Queue) -> u32
     owed
 }
 
-/// How many events the entries of a queue owe, if it is there.
+/// How many events a rank owes for the entries of the queue with a number; 0 where there is no such queue.
 pub fn owed_at(queues: &Sequence<Queue>, queue: u64) -> u32
     requires { owed_at queues.now queue < 2 ^ 32 }
     ensures { result ≡ owed_at queues.now queue }

@@ -1,4 +1,5 @@
-//! The evaluation of a call recorded, on the posts of its caller's rank and the memory that it works on.
+//! Records calls that are no collectives, with the evaluation of their look: the effect, one event more, and the used room that the
+//! event adds (its charge) and gives back (its release).
 
 ghost use Rattle.std.specs.Prelude.{◌≡◌, ◌+◌, ◌<◌, ◌≤◌, ◌^◌, length, IfOk, OnOk, OnErr, IsOk, false, true};
 ghost use Rattle.gaspi_types.specs.Replies.{is_idle};
@@ -22,8 +23,8 @@ use gaspi_model::{Memory, Posts, ThreadState};
 use gaspi_types::{Call, Invocation, Limits, NoMemory, Ready, Reply};
 use std::alloc::Global;
 
-/// What an event takes of its rank's room: nothing for the end of a caller that has not ended, itself and the two
-/// transfers of each entry for a post that is done, and else itself.
+/// The used room that the event of a call adds: 0 for the end of an active caller, 1 and 2 for each entry for a post that is done,
+/// and else 1. `state` is that of the caller, `ready` the answer of the look.
 pub fn charge(state: ThreadState, invocation: &Invocation<'_>, ready: &Ready) -> u32
     ensures value { result ≡ charge state invocation.now.call.now (recorded_reply ready.now) }
     ensures bound { result ≤ 515 }
@@ -38,7 +39,8 @@ pub fn charge(state: ThreadState, invocation: &Invocation<'_>, ready: &Ready) ->
     }
 }
 
-/// The used room that a call gives back as its evaluation is recorded: a purge gives back what its queue's entries owe.
+/// The used room that a call gives back as its evaluation is recorded: for a purge that is done what is owed for its queue's
+/// entries, and else 0.
 fn released(posts: &Posts, call: &Call, evaluation: &Evaluation) -> u32
     requires { released posts.now call.now (recorded_reply evaluation.now.ready) < 2 ^ 32 }
     ensures { result ≡ released posts.now call.now (recorded_reply evaluation.now.ready) }
@@ -52,7 +54,8 @@ fn released(posts: &Posts, call: &Call, evaluation: &Evaluation) -> u32
     }
 }
 
-/// Records what a look found: what the call leaves, and one event more. It gives the reply. Without memory nothing changes.
+/// Makes the effect of a call with its evaluation, counts one event more, and gives the reply. A refusal or a timeout changes the
+/// count alone. Where memory runs out nothing changes.
 fn record_evaluation(
     alloc: Global,
     limits: &Limits,
@@ -92,17 +95,18 @@ fn record_evaluation(
     Ok(recorded_reply(ready))
 }
 
-/// A recorded call: the reply with which it was recorded, and the used room of its rank then.
+/// What `record` gives.
 #[derive(Debug, Drop)]
 pub struct Recorded {
+    /// The reply with which the call was recorded.
     pub reply: Reply,
+    /// The used room of the caller's rank after that.
     pub used: u32,
 }
 
-/// Records the evaluation of a call: the step by the call with what the look found. The evaluation is one of this very call on
-/// these very posts and this memory, and the rank has room for its event, so nothing is looked for or tested again. `used` is the rank's
-/// used room with the event's charge. Only a post, a segment that is made and a message take memory, and without it nothing
-/// changes.
+/// Makes the step by a call with its evaluation. That is the evaluation of this very call on these very posts and this memory, and
+/// the rank has room for the event; so nothing is checked again. `used` is the rank's used room with the charge of the event added.
+/// A post, an alloc and a send take memory; where it runs out nothing changes.
 pub fn record(
     alloc: Global,
     limits: &Limits,

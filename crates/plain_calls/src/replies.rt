@@ -1,4 +1,5 @@
-//! What a look at a call answers, and what a reply says of its call.
+//! From a result to an answer, from an answer to the reply that is recorded, and whether that is a refusal or a timeout (*idle* in
+//! contracts).
 
 ghost use Rattle.std.specs.Prelude.{◌≡◌};
 ghost use Rattle.gaspi_types.specs.Replies.{is_idle};
@@ -6,7 +7,7 @@ ghost use Rattle.gaspi_model.specs.Calls.{answer_of_result, recorded_reply};
 
 use gaspi_types::{Ready, Refusal, Reply};
 
-/// What a look at a call finds, in one value.
+/// The answer that a result comes to: a refusal is a reply, and None is that the call is not ready.
 pub fn answer_of_result(finds: Result<Option<Reply>, Refusal>) -> Ready
     ensures { result ≡ answer_of_result finds }
 {
@@ -17,7 +18,8 @@ pub fn answer_of_result(finds: Result<Option<Reply>, Refusal>) -> Ready
     }
 }
 
-/// The one reply with which a call may be recorded. (GASPI: timeouts)
+/// The one reply with which a call may be recorded: that of its answer, else a timeout, where it is not ready or may join.
+/// (GASPI: timeouts)
 pub fn recorded_reply(ready: Ready) -> Reply
     ensures { result ≡ recorded_reply ready }
 {
@@ -27,14 +29,14 @@ pub fn recorded_reply(ready: Ready) -> Reply
     }
 }
 
-/// Whether a reply says that the call did nothing.
+/// Whether a reply is a refusal or a timeout.
 pub fn is_refused_or_timeout(reply: &Reply) -> bool
     ensures { result ≡ is_idle reply.now }
 {
     matches!(reply, Reply::Timeout | Reply::Refused(_))
 }
 
-/// Whether a call that was looked at is recorded as a refusal or a timeout.
+/// Whether a call with this answer is recorded with a refusal or a timeout.
 pub fn is_idle_ready(ready: &Ready) -> bool
     ensures { result ≡ is_idle (recorded_reply ready.now) }
 {

@@ -1,4 +1,7 @@
-//! The calls of segments: what they find, and what they leave. (GASPI: segments)
+//! The calls `alloc`, `register` and `delete`. The functions with `_result` give the result of their call: its refusal, or done;
+//! `own` is the table of the caller's own segments, and a clause speaks of all posts that have it. The functions with `_effect` make
+//! its effect. `make_segment` and `insert_segment` are the halves of an alloc: the first takes all memory, the second takes none.
+//! (GASPI: segments)
 
 ghost use Rattle.std.specs.Prelude.{◌≡◌, ◌+◌, ◌<◌, ◌≤◌, ◌^◌, length, OnOk, OnErr, IfOk, IfSome};
 ghost use Rattle.std.specs.List.{list_any};
@@ -23,7 +26,7 @@ use segment_store::{
 };
 use std::alloc::Global;
 
-/// Checks a segment that is to be made: this is the table of the caller's own segments. (GASPI: segment_alloc)
+/// The result of an `alloc`: done, or the refusal of `check_alloc`. (GASPI: segment_alloc)
 pub fn alloc_result(own: &Extents, call: &Alloc) -> Result<Option<Reply>, Refusal>
     ensures { (posts : Posts) → posts.segments.own ≡ own.now → result ≡ alloc_result posts call.now }
 {
@@ -31,14 +34,17 @@ pub fn alloc_result(own: &Extents, call: &Alloc) -> Result<Option<Reply>, Refusa
     Ok(Some(Reply::Done))
 }
 
-/// A segment as it is made, with its slots, that stands in no table yet.
+/// A segment with its slots that was allocated and is in no table yet.
 #[derive(Debug, Drop)]
 pub struct MadeSegment {
+    /// The segment, all bytes zero.
     segment: Segment,
+    /// Its slots, all zero.
     slots: Sequence<u32>,
 }
 
-/// Takes the memory of an own segment of the next generation of its number. (GASPI: segment_alloc)
+/// Allocates the segment of an `alloc`: the next generation of its id, all bytes and slots zero. It is in no table yet.
+/// (GASPI: segment_alloc)
 pub fn make_segment(
     alloc: Global,
     limits: &Limits,
@@ -55,7 +61,8 @@ pub fn make_segment(
     })
 }
 
-/// Puts an own segment that was made into its tables. (GASPI: segment_alloc)
+/// Puts a made segment and its slots into memory, and its extent into the table of segments, where the next generation of its id
+/// becomes one more. It takes no memory. (GASPI: segment_alloc)
 pub fn insert_segment(posts: &mut Posts, memory: &mut Memory, call: &Alloc, made: MadeSegment)
     requires { AllocIsBounded posts.old call.now }
     ensures posts { posts.new ≡ with_own posts.old call.now.seg call.now.size }
@@ -66,7 +73,8 @@ pub fn insert_segment(posts: &mut Posts, memory: &mut Memory, call: &Alloc, made
     add_own(&mut posts.segments, call.seg, call.size as u32);
 }
 
-/// Makes an own segment of the next generation of its number. Without memory nothing changes. (GASPI: segment_alloc)
+/// Makes an own segment, in the next generation of its id, all bytes and slots zero. Where memory runs out nothing changes.
+/// (GASPI: segment_alloc)
 pub fn alloc_effect(
     alloc: Global,
     limits: &Limits,
@@ -85,8 +93,7 @@ pub fn alloc_effect(
     Ok(())
 }
 
-/// Checks a segment that is to be made known to a rank, in a world of so many ranks: this is the table of the caller's own segments.
-/// (GASPI: segment_register)
+/// The result of a `register` in a world of `ranks` ranks: done, `BadRank` or `NoSegment`. (GASPI: segment_register)
 pub fn register_result(ranks: u32, own: &Extents, call: &Register) -> Result<Option<Reply>, Refusal>
     ensures { (limits : Limits) (posts : Posts) → limits.ranks ≡ ranks → posts.segments.own ≡ own.now → result ≡ register_result limits posts call.now }
 {
@@ -97,15 +104,18 @@ pub fn register_result(ranks: u32, own: &Extents, call: &Register) -> Result<Opt
     Ok(Some(Reply::Done))
 }
 
-/// What a peer is told: a segment of an owner, as it is now.
+/// What a rank gets by a `register`, to know a segment of another rank.
 #[derive(Clone, Copy, Debug, PartialEq, Eq)]
 pub struct Registration {
+    /// The rank whose segment it is.
     pub owner: RankId,
+    /// The id of the segment.
     pub seg: u64,
+    /// Its generation and size; None where the owner has no such segment.
     pub extent: Option<Extent>,
 }
 
-/// What a peer is told of a segment that is made known to it. (GASPI: segment_register)
+/// The registration of an own segment of `me`, with its present extent. (GASPI: segment_register)
 pub fn registration_of(me: RankId, own: &Extents, call: &Register) -> Registration
     ensures { result ≡ record { owner = me; seg = call.now.seg; extent = extent_in own.now call.now.seg } }
 {
@@ -116,7 +126,7 @@ pub fn registration_of(me: RankId, own: &Extents, call: &Register) -> Registrati
     }
 }
 
-/// Makes a segment of an owner known to a rank.
+/// Makes the segment of a registration known in the posts of the rank that gets the registration.
 pub fn set_known_extent(posts: &mut Posts, registration: Registration)
     ensures { posts.new ≡ with_known registration.owner registration.seg registration.extent posts.old }
 {
@@ -128,14 +138,14 @@ pub fn set_known_extent(posts: &mut Posts, registration: Registration)
     );
 }
 
-/// Whether an entry of a queue has to read an own segment yet.
+/// Whether a queue has an entry that uses an own segment.
 fn queue_uses(q: &Queue, seg: u64) -> bool
     ensures { result ≡ list_any (has_user seg) q.now.lanes }
 {
     q.lanes.as_slice().iter().any(|lane| has_user(seg, lane))
 }
 
-/// The least queue with an entry that has to read an own segment yet.
+/// The least queue with an entry that uses an own segment; None where no queue has one.
 fn user_of(queues: &Sequence<Queue>, seg: u64) -> Option<usize>
     ensures queue { result ≡ user_of queues.now seg }
     ensures bound { IfSome result (λ queue. queue < length queues.now) }
@@ -143,7 +153,8 @@ fn user_of(queues: &Sequence<Queue>, seg: u64) -> Option<usize>
     queues.as_slice().iter().position(|q| queue_uses(q, seg))
 }
 
-/// Checks that no entry of the rank's own uses a segment. (GASPI: segment_delete)
+/// The result of a `delete`: `NoSegment`, `SegmentBusy` with the least queue that has an entry that uses the segment, or done.
+/// (GASPI: segment_delete)
 pub fn delete_result(posts: &Posts, call: &Delete) -> Result<Option<Reply>, Refusal>
     requires { length posts.now.queues ≤ 8 }
     ensures { result ≡ delete_result posts.now call.now }
@@ -157,7 +168,8 @@ pub fn delete_result(posts: &Posts, call: &Delete) -> Result<Option<Reply>, Refu
     }
 }
 
-/// Drops an own segment. (GASPI: segment_delete)
+/// Removes an own segment from the table of segments, and its bytes and slots from memory. What other ranks know of the segment
+/// stays. (GASPI: segment_delete)
 pub fn delete_effect(posts: &mut Posts, memory: &mut Memory, call: &Delete)
     ensures posts { posts.new ≡ without_own posts.old call.now.seg }
     ensures memory { memory.new ≡ delete_effect memory.old call.now }

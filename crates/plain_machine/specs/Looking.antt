@@ -1,4 +1,4 @@
--- A look at a call in the whole state.
+-- The evaluation of a call in the whole state. `c` is the caller, and `look` the evaluation.
 use Rattle.std.specs.Prelude.{◌≡◌, ℕ, ◌+◌, ◌≤◌, List, true, false, Option, Some, slice_get, None, IsOk, if◌then◌else◌}
 use Rattle.gaspi_types.specs.CallRows.{row_of}
 use Rattle.gaspi_types.specs.declared.calls.Call.{Call}
@@ -22,36 +22,36 @@ use Rattle.plain_calls.specs.declared.looks.Evaluation.{Evaluation}
 use Rattle.plain_machine.specs.NonemptyLanes.{call_lane}
 use Rattle.plain_machine.specs.declared.nonempty_lanes.LaneId.{LaneId}
 
--- This is what a look at this call of this caller finds in this state: a collective meets its group, and any other call works on a
--- memory.
+-- This is the evaluation of this call of this caller in this state: of a collective on its group, of any other call on the memory that it
+-- works on.
 pub record IsEvaluationIn (look : Evaluation) (s : State) (c : CallerId) (call : Call) : Type 0 where
   pub finds : (posts : Posts) → slice_get s.posts c.rank ≡ Some posts → (row_of call).group ≡ None → IsEvaluation look s.limits c.rank posts (call_memory s c.rank posts call) c.thread call
   pub meets : (posts : Posts) (id : ℕ) → slice_get s.posts c.rank ≡ Some posts → (row_of call).group ≡ Some id → look.ready ≡ collective_answer posts (group_in s id) c.rank c.thread id call
   pub message : HasMessage look (call_message s c.rank call)
 
--- the same on the posts of its rank and the memory that it works on; and its caller has a section
+-- the same on the posts of the caller's rank and the memory that the call works on; and the caller has a section
 pub record IsEvaluationOn (look : Evaluation) (limits : Limits) (posts : Posts) (memory : Memory) (c : CallerId) (call : Call) : Type 0 where
   pub there : is_there (thread_at posts c.thread) ≡ true
   pub finds : IsEvaluation look limits c.rank posts memory c.thread call
 
--- the lane to which a call posts whose look is recorded
+-- the lane to which a call posts; none where it is recorded with a refusal or a timeout
 abbrev pub look_lane : ℕ → Call → Evaluation → Option LaneId
 look_lane rank call look = if is_idle (recorded_reply look.ready) then None else call_lane rank call
 
--- the queue that a call purges whose look is recorded
+-- the queue that a call purges; none where it is recorded with a refusal or a timeout
 abbrev pub look_purge : Call → Evaluation → Option ℕ
 look_purge call look = if is_idle (recorded_reply look.ready) then None else purged_queue call
 
--- whether a collective of a caller may join a group with these arguments in a state
+-- a collective of a caller may join a group with these arguments in this state
 abbrev pub MayJoin : State → CallerId → ℕ → Args → Type 0
 MayJoin s c id args =
     (posts : Posts) → slice_get s.posts c.rank ≡ Some posts → is_join_of (collective_answer posts (group_in s id) c.rank c.thread id (joining_call id args)) args ≡ true
 
--- so much the event that records what a look found takes of its rank's room
+-- `amount` is the charge of the event of a call with this answer
 abbrev pub IsCharge : ℕ → List Posts → CallerId → Call → Ready → Type 0
 IsCharge amount all c call ready = (posts : Posts) → slice_get all c.rank ≡ Some posts → amount ≡ charge (thread_at posts c.thread) call (recorded_reply ready)
 
--- the rank of a caller has room for the event that records what a look found
+-- the rank of a caller has room for the event of a call with this answer
 abbrev pub HasEventRoom : Limits → List Posts → CallerId → Call → Ready → Type 0
 HasEventRoom limits all c call ready =
     (posts : Posts) → slice_get all c.rank ≡ Some posts → posts.events + owed posts + charge (thread_at posts c.thread) call (recorded_reply ready) ≤ limits.events
@@ -60,22 +60,22 @@ HasEventRoom limits all c call ready =
 abbrev pub HasJoinRoom : Limits → List Posts → ℕ → Type 0
 HasJoinRoom limits all rank = (posts : Posts) → slice_get all rank ≡ Some posts → posts.events + owed posts + 1 ≤ limits.events
 
--- This is what a look at this call of this caller finds in this state, its caller has a section, and its rank has room for the event that
--- records it, which takes so much of it.
+-- This is the evaluation of this call of this caller in this state, the caller has a section, and the rank has room for the event, whose
+-- charge is `amount`.
 pub record IsEvaluationWithRoom (look : Evaluation) (s : State) (c : CallerId) (call : Call) (amount : ℕ) : Type 0 where
   pub declared : is_declared s c.rank c.thread ≡ true
   pub finds : IsEvaluationIn look s c call
   pub charge : IsCharge amount s.posts c call look.ready
   pub room : HasEventRoom s.limits s.posts c call look.ready
 
--- It may be recorded: it is what a look at this call of this caller finds in this state, it is no join, and its event is a step.
+-- An evaluation may be recorded: it is that of this call of this caller in this state, it is no join, and the event is a step.
 pub record MayRecord (look : Evaluation) (s : State) (c : CallerId) (call : Call) : Type 0 where
   pub declared : is_declared s c.rank c.thread ≡ true
   pub finds : IsEvaluationIn look s c call
   pub unjoined : is_joining look.ready ≡ false
   pub steps : IsOk (step s (Called c call (recorded_reply look.ready)))
 
--- A collective of a caller may join with these arguments: a look at it finds that in this state, and the join is a step.
+-- A collective of a caller may join with these arguments: that is its answer in this state, and the join is a step.
 pub record MayJoinWith (args : Args) (s : State) (c : CallerId) (call : Call) : Type 0 where
   pub declared : is_declared s c.rank c.thread ≡ true
   pub joins : answer_in s c.rank c.thread call ≡ Some (Join args)

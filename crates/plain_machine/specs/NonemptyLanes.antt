@@ -1,4 +1,4 @@
--- The lanes that have an entry, by origin, queue and target, and the transfers that may come next in a lane.
+-- The nonempty lanes, by origin, queue and target, and the enabled transfers of a lane.
 use Rattle.std.specs.Prelude.{◌≡◌, ℕ, ◌+◌, Bool, true, false, not, ◌&&◌, ◌||◌, ◌==◌, nat_lt, List, [], ◌∷◌, length, Option, None, Some, if◌then◌else◌, slice_get, is_none}
 use Rattle.std.specs.List.{flat_map, enumerate_from}
 use Rattle.gaspi_types.specs.CallRows.{row_of}
@@ -20,7 +20,7 @@ use Rattle.plain_machine.specs.declared.listing.LaneCounts.{LaneCounts}
 use Rattle.plain_machine.specs.declared.listing.TransferSearch.{TransferSearch}
 use Rattle.plain_machine.specs.declared.listing.TransferSearch.TheVariants.{Found, Left}
 
--- a lane by its numbers
+-- the name of a lane
 abbrev pub lane_id : ℕ → ℕ → ℕ → LaneId
 lane_id origin queue target = record { origin = origin; queue = queue; target = target }
 
@@ -35,11 +35,11 @@ queue_nonempty_lanes origin (queue, q) = flat_map (lane_if_nonempty origin queue
 abbrev pub rank_nonempty_lanes : ℕ × Posts → List LaneId
 rank_nonempty_lanes (origin, posts) = flat_map (queue_nonempty_lanes origin) (enumerate_from 0 posts.queues)
 
--- the lanes that have an entry, in the order of origin, queue and target
+-- the nonempty lanes, in the order of origin, queue and target
 abbrev pub nonempty_lanes : List Posts → List LaneId
 nonempty_lanes posts = flat_map rank_nonempty_lanes (enumerate_from 0 posts)
 
--- those of a rank: of one that is not there, none
+-- those of a rank; none where there is no such rank
 abbrev pub nonempty_lanes_of : List Posts → ℕ → List LaneId
 nonempty_lanes_of posts rank = of_rank (slice_get posts rank)
   where
@@ -47,13 +47,13 @@ nonempty_lanes_of posts rank = of_rank (slice_get posts rank)
     of_rank None = []
     of_rank (Some p) = rank_nonempty_lanes (rank, p)
 
--- that order
+-- a lane comes before another in that order
 abbrev pub is_before : LaneId → LaneId → Bool
 is_before a b =
     nat_lt a.origin b.origin
     || ((a.origin == b.origin) && (nat_lt a.queue b.queue || ((a.queue == b.queue) && nat_lt a.target b.target)))
 
--- the queue of a lane, if it is there
+-- the queue of a lane; none where there is none
 abbrev pub lane_queue : List Posts → LaneId → Option Queue
 lane_queue posts id = of_rank (slice_get posts id.origin)
   where
@@ -85,15 +85,15 @@ unbroken_entries posts id = of_queue (lane_queue posts id)
     of_queue None = []
     of_queue (Some q) = if is_none q.broken then queue_entries q id.target else []
 
--- the transfers that may come next among the entries of a lane
+-- the enabled transfers of the entries of a lane whose queue is not broken
 abbrev pub entries_transfers : Limits → LaneId → List Entry → List Transfer
 entries_transfers limits id entries = lane_transfers id.origin id.queue limits (id.target, entries)
 
--- the transfers that may come next in a lane
+-- the enabled transfers of a lane
 abbrev pub unbroken_transfers : Limits → List Posts → LaneId → List Transfer
 unbroken_transfers limits posts id = entries_transfers limits id (unbroken_entries posts id)
 
--- the lane of a target and a queue, where both are in their ranges
+-- the lane to a target by a queue; none where one is over its range
 abbrev pub post_lane : ℕ → ℕ → ℕ → Option LaneId
 post_lane rank target queue = if nat_lt target 16 && nat_lt queue 8 then Some (lane_id rank queue target) else None
 
@@ -102,6 +102,7 @@ abbrev pub posting_lane : ℕ → Option Posting → Option LaneId
 posting_lane rank None = None
 posting_lane rank (Some posting) = post_lane rank posting.rank posting.queue
 
+-- the lane to which a call posts; none where it posts nothing
 abbrev pub call_lane : ℕ → Call → Option LaneId
 call_lane rank call = posting_lane rank (row_of call).posting
 
@@ -118,10 +119,11 @@ abbrev pub event_purge : Event → Option ℕ
 event_purge (Called c call reply) = if is_idle reply then None else purged_queue call
 event_purge transfer = None
 
--- a lane that is none of an origin's queue
+-- a lane is of another origin or another queue
 abbrev pub is_elsewhere : ℕ → ℕ → LaneId → Bool
 is_elsewhere origin queue id = not (id.origin == origin) || not (id.queue == queue)
 
+-- an event is a put
 abbrev pub is_put : Event → Bool
 is_put (Put origin queue target number outcome) = true
 is_put other = false
@@ -131,13 +133,13 @@ abbrev pub is_over : Option ℕ → ℕ → Bool
 is_over None n = false
 is_over (Some least) n = nat_lt least n
 
--- what a summary says of a lane: how many entries have taken their bytes, and the least number of a write and of a read
+-- the summary of a lane is right: how many entries are carried, and the least number of a write and of a read
 pub record AreLaneCounts (lane : List Entry) (summary : LaneCounts) : Type 0 where
   pub carried : summary.carried ≡ carried_count lane
   pub writes : (n : ℕ) → has_earlier_write lane n ≡ is_over summary.first_write n
   pub reads : (n : ℕ) → has_earlier_read lane n ≡ is_over summary.first_read n
 
--- an item of a list that is sought by its place: itself, or how far the place is over the list's end
+-- what a search in a list has found at an index (`place`): the item, or how far the index is past the list's end
 abbrev pub IsSearchOf : TransferSearch → List Transfer → ℕ → Type 0
 IsSearchOf (Found transfer) list place = slice_get list place ≡ Some transfer
 IsSearchOf (Left rest) list place = place ≡ length list + rest

@@ -1,4 +1,4 @@
--- How many transfers may come next, of each rank and of all, where that is kept.
+-- The transfer counts: of each rank and of all, where they are stored.
 use Rattle.std.specs.Prelude.{◌≡◌, ℕ, ◌≤◌, List, [], length, Option, None, Some, slice_get, slice_set}
 use Rattle.gaspi_types.specs.Tables.{item_at}
 use Rattle.gaspi_types.specs.declared.events.Transfer.{Transfer}
@@ -7,7 +7,7 @@ use Rattle.gaspi_model.specs.Transfers.{rank_transfers, transfers}
 use Rattle.gaspi_model.specs.declared.states.Posts.{Posts}
 use Rattle.plain_machine.specs.declared.rank_counts.TransferCounts.{TransferCounts}
 
--- the transfers of a rank that may come next: of one that is not there, none
+-- the enabled transfers of a rank; none where there is no such rank
 abbrev pub transfers_of : Limits → List Posts → ℕ → List Transfer
 transfers_of limits posts rank = of_rank (slice_get posts rank)
   where
@@ -15,16 +15,16 @@ transfers_of limits posts rank = of_rank (slice_get posts rank)
     of_rank None = []
     of_rank (Some p) = rank_transfers limits (rank, p)
 
--- each count that is kept is that of its rank
+-- each stored count of a rank is right
 abbrev pub AreRankCounts : Limits → List Posts → List (Option ℕ) → Type 0
 AreRankCounts limits posts counts = (rank count : ℕ) → item_at counts rank ≡ Some count → count ≡ length (transfers_of limits posts rank)
 
--- a count that is kept is that of all
+-- a stored count of all is right
 abbrev pub IsCountOfAll : Limits → List Posts → Option ℕ → Type 0
 IsCountOfAll limits posts None = Unit {0}
 IsCountOfAll limits posts (Some count) = count ≡ length (transfers limits posts)
 
--- what is kept of each rank, and of all
+-- all stored counts are right
 pub record AreCounts (limits : Limits) (posts : List Posts) (counts : TransferCounts) : Type 0 where
   pub by_rank : AreRankCounts limits posts counts.by_rank
   pub all : IsCountOfAll limits posts counts.all
@@ -33,6 +33,6 @@ pub record AreCounts (limits : Limits) (posts : List Posts) (counts : TransferCo
 abbrev pub without_count : TransferCounts → ℕ → TransferCounts
 without_count counts rank = record { by_rank = slice_set counts.by_rank rank None; all = None }
 
--- no rank has more of them than it can have events
+-- no rank has more enabled transfers than it may record events
 abbrev pub HaveFewTransfers : Limits → List Posts → Type 0
 HaveFewTransfers limits posts = (rank : ℕ) → length (transfers_of limits posts rank) ≤ 65536

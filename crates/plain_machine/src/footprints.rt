@@ -1,4 +1,5 @@
-//! What an event reaches beside its owner's posts, and the memory that it works on. (own choice)
+//! Finds what an event reaches beside its owner's posts: its footprint, the memory that it works on, the own memory, and the group.
+//! Where it reaches none, an empty one is lent in its place (`none`), so that one function serves all events. (own choice)
 
 ghost use Rattle.std.specs.Prelude.{◌≡◌, ◌≤◌, slice_get};
 ghost use Rattle.gaspi_model.specs.Parts.{empty_memory, memory_or_none, empty_group};
@@ -8,7 +9,7 @@ use gaspi_model::Memory;
 use gaspi_types::{Footprint, Group, Invocation, Limits, RankId, Sequence};
 use std::alloc::Global;
 
-/// What a call reaches.
+/// The footprint of a call of a caller.
 pub fn call_footprint(limits: &Limits, invocation: &Invocation<'_>) -> Footprint
     requires { limits.now.ranks ≤ 16 }
     ensures { result ≡ call_footprint limits.now invocation.now.caller.rank invocation.now.call.now }
@@ -28,7 +29,7 @@ pub fn empty_memory(alloc: Global) -> Memory
     }
 }
 
-/// A group without members and parts, for a number that no group has. It takes no memory.
+/// A group with no member list and no contributions, for a number over 7. It takes no memory.
 pub fn empty_group(alloc: Global) -> Group
     ensures { result ≡ empty_group }
 {
@@ -38,7 +39,7 @@ pub fn empty_group(alloc: Global) -> Group
     }
 }
 
-/// The group with a number, to be read; where there is none, one without members.
+/// The group with a number; `none` for a number over 7.
 pub fn group_in<'a>(groups: &'a Sequence<Group>, none: &'a Group, id: u64) -> &'a Group
     requires { none.now ≡ empty_group }
     ensures { result.now ≡ group_at groups.now id }
@@ -52,7 +53,7 @@ pub fn group_in<'a>(groups: &'a Sequence<Group>, none: &'a Group, id: u64) -> &'
     }
 }
 
-/// The memory of a rank, if it is there.
+/// The memory of a rank; `none` where there is no such rank.
 fn memory_of<'a>(memories: &'a Sequence<Memory>, none: &'a Memory, rank: RankId) -> &'a Memory
     requires { none.now ≡ empty_memory }
     ensures { result.now ≡ memory_or_none (slice_get memories.now rank) }
@@ -63,7 +64,7 @@ fn memory_of<'a>(memories: &'a Sequence<Memory>, none: &'a Memory, rank: RankId)
     }
 }
 
-/// The memory that an event of a rank works on, to be read; where it works on none, one with no segment.
+/// The memory that an event of `me` with this footprint works on; `none` where it works on no memory.
 pub fn accessed_memory<'a>(
     memories: &'a Sequence<Memory>,
     none: &'a Memory,
@@ -82,7 +83,7 @@ pub fn accessed_memory<'a>(
     }
 }
 
-/// The own memory of a rank, to be read by an event that reaches it; where none does, one with no segment.
+/// The own memory of `me`, where an event with this footprint reaches it; else `none`.
 pub fn own_memory<'a>(
     memories: &'a Sequence<Memory>,
     none: &'a Memory,

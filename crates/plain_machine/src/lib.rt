@@ -1,4 +1,5 @@
-//! The reference machine of the runtime: one state, and each event a step of it.
+//! The GASPI machine as one state in memory, driven by one thread: the commands `step`, `check` and `why` run on it. *Plain* is said
+//! of that one state, in contrast to the nodes of `rank_node`.
 #![tactic(auto)]
 
 mod footprints;

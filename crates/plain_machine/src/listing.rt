@@ -1,6 +1,7 @@
-//! The transfers that may come next, by origin, queue, target and number. (GASPI: one-sided communication)
+//! The enabled transfers of lanes, in the order of the lanes and of their entries: how many, the one at an index, and all.
 //!
-//! Only the lanes that have an entry are walked, and in each of them each entry is judged by a summary of its lane.
+//! Only nonempty lanes are walked, and in each of them each entry is judged by a summary of its lane. A transfer is sought by its
+//! index in such a list; `place` is that index, and no place of an event.
 
 ghost use Rattle.std.specs.Prelude.{◌≡◌, ℕ, ◌≤◌, ◌<◌, ◌^◌, ◌++◌, ◌||◌, ◌&&◌, nat_lt, List, length, slice_get, OnOk, IfOk};
 ghost use Rattle.std.specs.List.{flat_map};
@@ -16,23 +17,27 @@ use gaspi_types::{Entry, Kind, Limits, NoMemory, Sequence, Transfer};
 use plain_calls::{is_carried, is_posted, is_read, is_write};
 use std::alloc::Global;
 
-/// What decides which entries of a lane may move: how many of them have taken their bytes, and the least number of a
-/// write and of a read among them.
+/// The summary of a lane, by which its enabled transfers are judged.
 #[derive(Clone, Copy, Debug, PartialEq, Eq)]
 pub struct LaneCounts {
+    /// How many entries are carried.
     pub carried: usize,
+    /// The least number of a write, if there is one.
     pub first_write: Option<u32>,
+    /// The least number of a read, if there is one.
     pub first_read: Option<u32>,
 }
 
-/// A transfer that was sought by its place, or how far the place is over the end of the list.
+/// What the search for the transfer at an index of a list has found.
 #[derive(Clone, Copy, Debug, PartialEq, Eq)]
 pub enum TransferSearch {
+    /// The transfer at that index.
     Found(Transfer),
+    /// The index is this far past the end of the list.
     Left(usize),
 }
 
-/// The lesser of a number, if there is one, and another one, if that counts.
+/// The lesser of `least`, if there is one, and `other`, if that `counts`.
 fn lesser(least: Option<u32>, counts: bool, other: u32) -> Option<u32>
     ensures { (n : ℕ) → is_over result n ≡ (is_over least n || (counts && nat_lt other n)) }
 {
@@ -66,7 +71,7 @@ fn summary_of(entries: &[Entry]) -> LaneCounts
     }
 }
 
-/// Whether a number is over another, if there is one.
+/// Whether `number` is over `least`; false where there is no least number.
 fn is_over(least: Option<u32>, number: u32) -> bool
     ensures { result ≡ is_over least number }
 {
@@ -76,7 +81,8 @@ fn is_over(least: Option<u32>, number: u32) -> bool
     }
 }
 
-/// Whether an entry may be put, by the summary of its lane. (GASPI: notification order)
+/// Whether the put of an entry may come, by the summary of its lane. Whether the queue is broken is not asked here.
+/// (GASPI: notification order)
 fn may_put(summary: LaneCounts, entry: &Entry) -> bool
     ensures { (lane : List Entry) → AreLaneCounts lane summary → result ≡ may_put lane entry.now }
 {
@@ -88,7 +94,7 @@ fn may_put(summary: LaneCounts, entry: &Entry) -> bool
         }
 }
 
-/// The transfer of an entry that may come next, by the summary of its lane.
+/// The enabled transfer of an entry, by the summary of its lane; None where it has none. The queue of the lane is not broken.
 fn transfer_of(limits: &Limits, id: &LaneId, summary: LaneCounts, entry: &Entry) -> Option<Transfer>
     ensures { (lane : List Entry) → AreLaneCounts lane summary → option_to_list result ≡ transfer_of id.now.origin id.now.queue id.now.target limits.now lane entry.now }
 {
@@ -106,7 +112,7 @@ fn transfer_of(limits: &Limits, id: &LaneId, summary: LaneCounts, entry: &Entry)
     }
 }
 
-/// How many entries of a lane may move.
+/// How many of these entries of a lane have an enabled transfer. The queue of the lane is not broken.
 fn entries_count(limits: &Limits, id: &LaneId, entries: &[Entry]) -> usize
     ensures { result ≡ length (entries_transfers limits.now id.now entries.now) }
 {
@@ -120,7 +126,7 @@ fn entries_count(limits: &Limits, id: &LaneId, entries: &[Entry]) -> usize
     count
 }
 
-/// Seeks the transfer at a place among those of a lane.
+/// The enabled transfer at an index among those of the entries of a lane.
 fn entries_transfer(limits: &Limits, id: &LaneId, entries: &[Entry], place: usize) -> TransferSearch
     ensures { IsSearchOf result (entries_transfers limits.now id.now entries.now) place }
 {
@@ -137,7 +143,7 @@ fn entries_transfer(limits: &Limits, id: &LaneId, entries: &[Entry], place: usiz
     TransferSearch::Left(left)
 }
 
-/// Adds the transfers of a lane.
+/// Appends the enabled transfers of the entries of a lane to `found`. Where memory runs out, some may have been appended.
 fn push_transfers(
     found: &mut Sequence<Transfer>,
     limits: &Limits,
@@ -155,7 +161,7 @@ fn push_transfers(
     Ok(())
 }
 
-/// How many transfers may come next in lanes.
+/// How many transfers of these lanes are enabled.
 pub fn lanes_count(limits: &Limits, posts: &Sequence<Posts>, lanes: &[LaneId]) -> usize
     requires { length (flat_map (unbroken_transfers limits.now posts.now) lanes.now) < 2 ^ 32 }
     ensures { result ≡ length (flat_map (unbroken_transfers limits.now posts.now) lanes.now) }
@@ -167,7 +173,7 @@ pub fn lanes_count(limits: &Limits, posts: &Sequence<Posts>, lanes: &[LaneId]) -
     count
 }
 
-/// Seeks the transfer at a place among those that may come next in lanes.
+/// The enabled transfer at an index among those of these lanes.
 pub fn lanes_transfer(
     limits: &Limits,
     posts: &Sequence<Posts>,
@@ -186,7 +192,7 @@ pub fn lanes_transfer(
     TransferSearch::Left(left)
 }
 
-/// All transfers that may come next in lanes.
+/// All enabled transfers of these lanes.
 pub fn transfers(
     alloc: Global,
     limits: &Limits,

@@ -1,4 +1,9 @@
-//! A look at a call in the whole state, and its record: the step by the call with what the look found.
+//! Calls and joins on the whole state: looks, with the room that their event needs, and the steps by a call or a join. `plain_calls`
+//! has each on single posts, memories and groups; here these are found in the state by footprint and rank. A parameter `look` is an
+//! evaluation. The suffix `_in` is for the whole state, and `_plain` for a call that is no collective, as in the clause `plain`. The
+//! clause `whole` says that ranks and memories are a sound state with the used room of each rank (`IsStateOf`), and the clause
+//! `found` that the evaluation is of this very call in this very state, whose rank has room for the event. After a step the stored
+//! used room is right (clause `used`), and so is the list of nonempty lanes (clause `named`).
 
 ghost use Rattle.std.specs.Prelude.{◌≡◌, ◌≢◌, ◌+◌, ◌<◌, ◌≤◌, ◌||◌, List, nat_le, length, map, slice_get, IfOk, IsOk, Ok, Err, true, false, Some, None};
 ghost use Rattle.gaspi_types.specs.CallRows.{row_of};
@@ -57,8 +62,7 @@ fn is_pending_at(posts: &Posts, thread: ThreadId, id: u64) -> bool
     }
 }
 
-/// Looks at a call of a caller that is no collective. Only a load, the post of a list and a send take memory; of sends only one
-/// that is done.
+/// The evaluation of a call that is no collective. Only a load, the post of a list and a send that is done take memory.
 fn look_plain(
     ranks: &RankTables,
     memories: &Sequence<Memory>,
@@ -87,7 +91,7 @@ fn look_plain(
     )
 }
 
-/// Looks at a collective of a caller. Only an allreduce takes memory.
+/// The answer to a collective of a caller on group `id`. Only an allreduce takes memory.
 fn look_collective(
     ranks: &RankTables,
     alloc: Global,
@@ -112,7 +116,7 @@ fn look_collective(
     )
 }
 
-/// Looks at a call of a caller. Only a load, the post of a list, a send and an allreduce take memory; of sends only one that is done.
+/// The evaluation of a call of a caller. Only a load, the post of a list, an allreduce and a send that is done take memory.
 pub fn look_in(
     ranks: &RankTables,
     memories: &Sequence<Memory>,
@@ -134,7 +138,7 @@ pub fn look_in(
     }
 }
 
-/// Whether a collective is pending for a caller on the group that its call names.
+/// Whether a collective of a caller is pending on the group that its call names; false for a call that is no collective.
 pub fn is_pending_in(ranks: &RankTables, invocation: &Invocation<'_>) -> bool
     ensures { (memories : List Memory) → result ≡ is_pending (state_in ranks.now memories) invocation.now.caller.rank invocation.now.caller.thread invocation.now.call.now }
 {
@@ -145,8 +149,11 @@ pub fn is_pending_in(ranks: &RankTables, invocation: &Invocation<'_>) -> bool
     }
 }
 
-/// Records a look at a call, on the posts of its rank and the memory that it works on. This and the calls up to `record_with_lanes`
-/// are put into their callers, so that what was found is not moved from hand to hand.
+/// Makes the step by a call with its evaluation, on the posts of its rank and the memory that it works on, and gives the reply.
+/// `charge` is that of the event. Where memory runs out nothing changes.
+///
+/// This function and those up to `record_with_lanes` are put into their callers, so that the evaluation is not copied from one to
+/// the next.
 #[inline(always)]
 fn record_on(
     ranks: &mut RankTables,
@@ -186,7 +193,8 @@ fn record_on(
     Ok(recorded.reply)
 }
 
-/// Records a look at a call that is no collective.
+/// Makes the step by a call that is no collective, with its evaluation, and gives the reply. A `register` changes the posts of its
+/// peer too. Where memory runs out nothing changes.
 #[inline(always)]
 fn record_plain(
     ranks: &mut RankTables,
@@ -241,7 +249,8 @@ fn record_plain(
     }
 }
 
-/// Completes a collective that was looked at, or records its refusal or its timeout. It takes no memory.
+/// Makes the step by a collective on group `id` with the answer of its look, and gives the reply. The answer is no join. It takes no
+/// memory.
 fn record_collective(
     ranks: &mut RankTables,
     alloc: Global,
@@ -282,7 +291,8 @@ fn record_collective(
     )
 }
 
-/// Records a look at a call that purges nothing, and names the lane to which it posts.
+/// The same as `record_plain` for a call that purges nothing, and adds the lane to which it posts to the nonempty lanes. Where
+/// memory runs out nothing changes.
 #[inline(always)]
 fn record_posting(
     ranks: &mut RankTables,
@@ -317,9 +327,9 @@ fn record_posting(
     Ok(reply)
 }
 
-/// Records a look at a call, and names the lane to which it posts; the lanes of a queue that it purges are named no more. It
-/// gives the reply with which the call was recorded. The look is one of this very call in this very state, and found no join, and
-/// the rank has room for its event, so nothing is looked for or tested again.
+/// Makes the step by any call with its evaluation, and gives the reply. The nonempty lanes get the lane to which the call posts, and
+/// lose those of the queue that it purges. The evaluation is of this very call in this very state, and is no join; its rank has room
+/// for the event. So nothing is checked again. Where memory runs out nothing changes.
 #[inline(always)]
 pub fn record_with_lanes(
     ranks: &mut RankTables,
@@ -351,7 +361,7 @@ pub fn record_with_lanes(
     Ok(reply)
 }
 
-/// What the event that records what a look found takes of its rank's room.
+/// The used room that the event of a call with this answer adds.
 pub fn event_charge(ranks: &RankTables, invocation: &Invocation<'_>, ready: &Ready) -> u32
     requires { invocation.now.caller.rank < length ranks.now.posts }
     ensures charge { IsCharge result ranks.now.posts invocation.now.caller invocation.now.call.now ready.now }
@@ -362,7 +372,7 @@ pub fn event_charge(ranks: &RankTables, invocation: &Invocation<'_>, ready: &Rea
     charge(state, invocation, ready)
 }
 
-/// Whether a rank has room for an event that takes so much of it.
+/// Whether a rank has room for an event with this charge.
 fn has_room(ranks: &RankTables, rank: RankId, charge: u32) -> bool
     requires whole { (memories : List Memory) × IsStateOf ranks.now memories }
     requires there { rank < length ranks.now.posts }
@@ -373,8 +383,8 @@ fn has_room(ranks: &RankTables, rank: RankId, charge: u32) -> bool
     taken + charge <= ranks.limits.events
 }
 
-/// Steps by a call with its reply: its caller has a section, the reply is the one that may be recorded, and its rank has
-/// room.
+/// Makes the step by a call with its reply. Where it is no step, its cause is given: `Caller` without a section, `Reply` where the
+/// look finds another one, or `Limit` without room. Then, and where memory runs out, nothing changes.
 pub fn step_called(
     ranks: &mut RankTables,
     memories: &mut Sequence<Memory>,
@@ -409,7 +419,7 @@ pub fn step_called(
     }
 }
 
-/// Whether a collective of a caller may join a group with these arguments.
+/// Whether a join may come: its collective may join the group, with just these arguments.
 fn may_join_in(ranks: &RankTables, alloc: Global, joining: &Joining<'_>) -> Result<bool, NoMemory>
     requires whole { (memories : List Memory) × IsStateOf ranks.now memories }
     requires there { joining.now.caller.rank < length ranks.now.posts }
@@ -426,8 +436,8 @@ fn may_join_in(ranks: &RankTables, alloc: Global, joining: &Joining<'_>) -> Resu
     )
 }
 
-/// Joins: the step by the join of a collective of a caller to a group with these arguments, which it may join, and its rank has
-/// room for the event.
+/// Makes the step by a join. The caller has a section, its collective may join this group with these arguments, and its rank has
+/// room for one event. Where memory runs out nothing changes.
 fn join_in(
     ranks: &mut RankTables,
     memories: &mut Sequence<Memory>,
@@ -454,7 +464,8 @@ fn join_in(
     )
 }
 
-/// Steps by a join: its caller has a section, its collective may join with these arguments, and its rank has room.
+/// Makes the step by a join. Where it is no step, its cause is given: `Caller` without a section, `Join` where its collective may
+/// not join with these arguments, or `Limit` without room. Then, and where memory runs out, nothing changes.
 pub fn step_joined(
     ranks: &mut RankTables,
     memories: &mut Sequence<Memory>,
@@ -484,7 +495,8 @@ pub fn step_joined(
     }
 }
 
-/// Joins where a look at a collective found that it may, with these arguments, and the join is a step. It gives the event.
+/// Makes the step by the join that a look at this call in this very state has found, with `args`, and gives the event. The join is a
+/// step. Where memory runs out nothing changes.
 pub fn join_found(
     ranks: &mut RankTables,
     memories: &mut Sequence<Memory>,

@@ -1,4 +1,5 @@
-//! The machine: a state that is sound, its steps, and what it answers.
+//! The machine: its opening state, its steps, and questions on its state. Each function of the crate that others call is here; the
+//! work is done in the other files, on the fields of `Machine`.
 
 ghost use Rattle.std.specs.Prelude.{◌≡◌, ◌≢◌, ℕ, ◌+◌, ◌<◌, ◌↔◌, IfOk, IsOk, IsTrue, Some, Err, true, false, not, length, slice_get};
 ghost use Rattle.gaspi_types.specs.CallRows.{need_of};
@@ -39,17 +40,19 @@ use segment_store::{is_within, word_at};
 use std::alloc::Global;
 use std::marker::Model;
 
-/// Transfers that may come next.
+/// A list of enabled transfers.
 pub type Transfers = Sequence<Transfer>;
 
-/// The machine. Contracts see it as its state.
+/// The machine. Contracts see it as its state, which is sound.
 #[derive(Debug, Drop)]
 pub struct Machine {
+    /// Limits, posts, used room and groups.
     ranks: RankTables,
+    /// The memory of each rank.
     memories: Sequence<Memory>,
-    /// The lanes that have an entry, by origin, queue and target.
+    /// The nonempty lanes, by origin, queue and target.
     standing: Vec<LaneId>,
-    /// How many transfers may come next, where they were counted since they last changed.
+    /// The transfer counts, where they were stored since they last changed.
     counts: TransferCounts,
 }
 
@@ -67,7 +70,7 @@ impl Model for Machine {
 }
 
 impl Machine {
-    /// The machine at the start: the shape's segments and callers, all else zero or empty. (GASPI: segments)
+    /// The machine in the opening state of a shape: its segments and callers, all else zero or empty. (GASPI: segments)
     pub fn start(alloc: Global, shape: &Shape) -> Result<Machine, NoMemory>
         ensures { IfOk result (λ machine. machine ≡ opening shape.now) }
     {
@@ -86,9 +89,8 @@ impl Machine {
         })
     }
 
-    /// Steps by an event. At Ok the step's state stands; an illegal event is no step, for that cause, and changed
-    /// nothing; without memory nothing changed. Loads, posts, sends, allreduces, joins, takes and segments that are made alone may
-    /// want memory.
+    /// Makes the step by an event. Where the event is no step, its cause is given and nothing changes; where memory runs out,
+    /// nothing changes. Only loads, posts, sends, allreduces, allocs, joins and takes may take memory.
     pub fn step(&mut self, alloc: Global, event: &Event) -> Result<(), StepFault>
         ensures step { Steps result self.old self.new (step self.old event.now) }
         ensures ample { takes_memory event.now ≡ false → result ≢ Err StepFault.NoMemory }
@@ -104,10 +106,9 @@ impl Machine {
         )
     }
 
-    /// Looks at a call of a caller: its refusal or its reply, or that it is a collective which may join its group, or that it is not
-    /// ready; and what it asks to be appended. Only a load takes memory, for the bytes that it reads, the post of a list, for its
-    /// entries, an allreduce, for its numbers, and a send that is done, for its message: a look at one that is refused or not ready
-    /// takes none.
+    /// The evaluation of a call by a caller that has a section: a refusal or a reply, that it may join, or that it is not ready; and
+    /// what the record needs beside. Only a load, the post of a list, an allreduce (clause `ample`) and a send that is done (clause
+    /// `idle`) take memory. Nothing changes.
     pub fn look(&self, alloc: Global, invocation: &Invocation<'_>) -> Result<Evaluation, NoMemory>
         requires { is_declared self.now invocation.now.caller.rank invocation.now.caller.thread ≡ true }
         ensures look { IfOk result (λ look. IsEvaluationIn look self.now invocation.now.caller invocation.now.call.now) }
@@ -119,10 +120,9 @@ impl Machine {
         Ok(look)
     }
 
-    /// Records a look at a call: the step by the call with what the look found. It gives the reply with which the call was
-    /// recorded. The look is one of this very call in this very state, and found no join, and the event is a step, since its rank has
-    /// room for it: nothing is looked for or tested again. Posts, messages and segments that are made alone may want memory, and
-    /// without it nothing changed.
+    /// Makes the step by a call with its evaluation, and gives the reply. The evaluation is of this very call in this very state,
+    /// and is no join; the event is a step, since its rank has room for it. So nothing is checked again. Only a post, an alloc and a
+    /// send take memory; where it runs out nothing changes.
     pub fn record(
         &mut self,
         alloc: Global,
@@ -151,9 +151,9 @@ impl Machine {
         )
     }
 
-    /// Joins: the step by the join of a collective of a caller to its group, where a look at it in this very state found that it may,
-    /// with these arguments, and the event is a step. It gives the event. The collective is then pending for its caller. Without
-    /// memory nothing changed. (GASPI: collectives)
+    /// Makes the step by the join of a collective, and gives the event. The look at this call in this very state has found that it
+    /// may join with `args`, and the event is a step. The collective is pending for its caller then. Where memory runs out nothing
+    /// changes. (GASPI: collectives)
     pub fn join(
         &mut self,
         alloc: Global,
@@ -170,8 +170,8 @@ impl Machine {
         join_found(&mut self.ranks, &mut self.memories, alloc, invocation, args)
     }
 
-    /// What a look at a call answers: its refusal or its reply, or that it is a collective which may join its group, with its
-    /// arguments, or that it is not ready. Only a load, the post of a list, an allreduce and a send that is done take memory.
+    /// As `look`, for a caller that has a section, but with the answer alone; it takes memory as `look` does (clauses `ample` and
+    /// `idle`). For tests.
     pub fn answer(&self, alloc: Global, caller: CallerId, call: &Call) -> Result<Ready, NoMemory>
         requires { is_declared self.now caller.rank caller.thread ≡ true }
         ensures answer { IfOk result (λ ready. answer_in self.now caller.rank caller.thread call.now ≡ Some ready) }
@@ -183,15 +183,15 @@ impl Machine {
         Ok(look.ready)
     }
 
-    /// The transfers that may come next, by origin, queue, target and number.
+    /// The enabled transfers, by origin, queue, target and number. For tests: `transfer_at` gives each without a list.
     pub fn transfers(&self, alloc: Global) -> Result<Transfers, NoMemory>
         ensures { IfOk result (λ found. found ≡ transfers self.now.limits self.now.posts) }
     {
         transfers(alloc, &self.ranks.limits, &self.ranks.posts, &self.standing)
     }
 
-    /// How many transfers may come next. Those of a rank are counted where they may have changed since they were counted last;
-    /// the state stays. It takes no memory.
+    /// How many transfers are enabled. Those of a rank are counted where they may have changed since the last count, and the count
+    /// is stored; the state does not change. It takes no memory.
     pub fn transfer_count(&mut self) -> usize
         ensures count { result ≡ length (transfers self.old.limits self.old.posts) }
         ensures same { self.new ≡ self.old }
@@ -204,7 +204,8 @@ impl Machine {
         )
     }
 
-    /// The transfer at a place of those that may come next, by origin, queue, target and number. It takes no memory.
+    /// The enabled transfer at an index of their list, by origin, queue, target and number; None where the index is past its end.
+    /// Here `place` is that index, and no place of an event. It takes no memory.
     pub fn transfer_at(&self, place: usize) -> Option<Transfer>
         ensures { result ≡ slice_get (transfers self.now.limits self.now.posts) place }
     {
@@ -217,9 +218,8 @@ impl Machine {
         )
     }
 
-    /// Makes a transfer that may come next: the step by its take or put, with the machine's outcome. It gives the event. Its
-    /// entry is found once. A transfer that may not come is none, for that cause, and changed nothing; without memory nothing
-    /// changed. Only a take wants memory.
+    /// Makes the step by an enabled transfer, with the machine's outcome, and gives the event. Another transfer is no step: its
+    /// cause is given and nothing changes. Only a take takes memory; where it runs out nothing changes.
     pub fn make(&mut self, alloc: Global, transfer: &Transfer) -> Result<Event, StepFault>
         ensures event { IfOk result (λ event. event ≡ transfer_event self.old transfer.now) }
         ensures step { Steps (made_of result) self.old self.new (step self.old (transfer_event self.old transfer.now)) }
@@ -236,7 +236,7 @@ impl Machine {
         )
     }
 
-    /// How many events of a rank have room yet, none for what it owes.
+    /// The room of a rank: how many events it may record beside those that it owes. The rank is in the world.
     pub fn room(&self, rank: RankId) -> u64
         requires { rank < length self.now.posts }
         ensures { result + used_room self.now rank ≡ self.now.limits.events }
@@ -244,14 +244,14 @@ impl Machine {
         u64::from(self.ranks.limits.events) - u64::from(*self.ranks.used.at(rank.index()))
     }
 
-    /// Whether a rank is there.
+    /// Whether a rank is in the world. For tests.
     pub fn has_rank(&self, rank: RankId) -> bool
         ensures { IsTrue result ↔ (rank < length self.now.posts) }
     {
         rank.index() < self.ranks.posts.len()
     }
 
-    /// How much room a call of a caller needs in its rank's count of events: a collective that has not joined needs its join besides.
+    /// As `need`, for a call that has its row.
     fn needed(&self, invocation: &Invocation<'_>) -> u64
         requires { is_declared self.now invocation.now.caller.rank invocation.now.caller.thread ≡ true }
         ensures { result ≡ need_of invocation.now.call.now (is_pending self.now invocation.now.caller.rank invocation.now.caller.thread invocation.now.call.now) (not (is_active self.now invocation.now.caller.rank invocation.now.caller.thread)) }
@@ -261,7 +261,8 @@ impl Machine {
         row.need(pending, !self.is_active(invocation.caller))
     }
 
-    /// How much room a call of a caller needs in its rank's count of events: a collective that has not joined needs its join besides.
+    /// The room that a call of a caller, who has a section, must find at its look. A collective that is not pending for its caller
+    /// needs an event more, for its join.
     pub fn need(&self, caller: CallerId, call: &Call) -> u64
         requires { is_declared self.now caller.rank caller.thread ≡ true }
         ensures { result ≡ need_of call.now (is_pending self.now caller.rank caller.thread call.now) (not (is_active self.now caller.rank caller.thread)) }
@@ -269,7 +270,7 @@ impl Machine {
         self.needed(&Invocation::new(caller, call))
     }
 
-    /// Whether the rank of a caller has no room for the events that its call needs. (own choice)
+    /// Whether a caller's rank has less room than its call needs. The caller has a section. (own choice)
     pub fn lacks_room(&self, invocation: &Invocation<'_>) -> bool
         requires { is_declared self.now invocation.now.caller.rank invocation.now.caller.thread ≡ true }
         ensures { result ≡ lacks_room_in self.now invocation.now.caller invocation.now.call.now }
@@ -277,8 +278,8 @@ impl Machine {
         self.room(invocation.caller.rank) < self.needed(invocation)
     }
 
-    /// The word at an offset of a segment of a rank, the lowest of its eight bytes first; none where no eight bytes stand there. It need
-    /// not be aligned. (GASPI: segments)
+    /// The number in the eight bytes at an offset of a segment of a rank, the lowest first; None where there are no such eight
+    /// bytes. The offset need not be divisible by 8. (GASPI: segments)
     pub fn word(&self, rank: RankId, seg: u64, offset: u64) -> Option<u64>
         ensures { result ≡ word_in self.now rank seg offset }
     {
@@ -291,7 +292,7 @@ impl Machine {
         }
     }
 
-    /// The limits of the world. The state is sound. (own choice)
+    /// The limits of the world. A second clause says that the state is sound. (own choice)
     pub fn limits(&self) -> Limits
         ensures value { result ≡ self.now.limits }
         ensures sound { IsSound self.now }
@@ -306,7 +307,7 @@ impl Machine {
         has_section(&self.ranks, &caller)
     }
 
-    /// Whether a caller has a section and has not ended.
+    /// Whether a caller is active: it has a section and has not ended.
     pub fn is_active(&self, caller: CallerId) -> bool
         ensures { result ≡ is_active self.now caller.rank caller.thread }
     {

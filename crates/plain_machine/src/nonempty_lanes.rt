@@ -1,4 +1,5 @@
-//! The lanes that have an entry, by their names. (GASPI: one-sided communication)
+//! Lanes by their names, and the list of the nonempty lanes, by origin, queue and target: `standing` is that list, as the machine
+//! stores it. A call *names* a lane where it adds it to the list. (GASPI: one-sided communication)
 
 ghost use Rattle.std.specs.Prelude.{◌≡◌, ◌≢◌, ◌<◌, ◌≤◌, List, [], length, true, false, vec_len, vec_capacity};
 ghost use Rattle.std.specs.List.{filter, insert, remove, prefix_len};
@@ -12,11 +13,14 @@ use gaspi_model::Posts;
 use gaspi_types::{Call, Entry, Invocation, Queue, QueueId, RankId, Sequence};
 use plain_calls::{Evaluation, purged_queue};
 
-/// The name of a lane: its origin, its queue and its target.
+/// The name of a lane.
 #[derive(Clone, Copy, Debug, PartialEq, Eq)]
 pub struct LaneId {
+    /// The rank that posted its entries.
     pub origin: RankId,
+    /// The queue.
     pub queue: QueueId,
+    /// The other rank of its entries.
     pub target: RankId,
 }
 
@@ -33,7 +37,7 @@ fn is_before(a: &LaneId, b: &LaneId) -> bool
     a.target.number() < b.target.number()
 }
 
-/// How many of the lanes stand before a lane, found by halves.
+/// How many of these lanes, which are in that order, come before a lane: the index at which it is, or goes; found by halves.
 fn place_among(lanes: &[LaneId], id: &LaneId) -> usize
     requires { IsPartitionedBy (λ x. is_before x id.now) lanes.now }
     ensures place { result ≡ prefix_len (λ x. is_before x id.now) lanes.now }
@@ -42,7 +46,7 @@ fn place_among(lanes: &[LaneId], id: &LaneId) -> usize
     lanes.partition_point(|named| is_before(named, id))
 }
 
-/// The lanes of a rank among all that have an entry, found by halves.
+/// The nonempty lanes of a rank, among those of all ranks; found by halves.
 pub fn lanes_of_rank(lanes: &[LaneId], rank: RankId) -> &[LaneId]
     ensures { (posts : List Posts) → lanes.now ≡ nonempty_lanes posts → result.now ≡ nonempty_lanes_of posts rank }
 {
@@ -53,7 +57,7 @@ pub fn lanes_of_rank(lanes: &[LaneId], rank: RankId) -> &[LaneId]
     own
 }
 
-/// The queue of a lane, if it is there.
+/// The queue of a lane; None where there is none.
 fn lane_queue<'a>(posts: &'a Sequence<Posts>, id: &LaneId) -> Option<&'a Queue>
     ensures { option_copied result ≡ lane_queue posts.now id.now }
 {
@@ -61,7 +65,7 @@ fn lane_queue<'a>(posts: &'a Sequence<Posts>, id: &LaneId) -> Option<&'a Queue>
     posts.queues.get(id.queue.index())
 }
 
-/// The entries of a queue's lane to a target: of one that is not there, none.
+/// The entries of a queue's lane to a target; none where there is no such lane.
 fn queue_entries(q: &Queue, target: RankId) -> &[Entry]
     ensures { result.now ≡ queue_entries q.now target }
 {
@@ -82,7 +86,7 @@ pub fn has_entry(posts: &Sequence<Posts>, id: &LaneId) -> bool
     }
 }
 
-/// The entries of a lane whose queue is not broken: of another, none.
+/// The entries of a lane of an unbroken queue, in any phase; none where the queue is broken. It does not ask the open count.
 pub fn open_entries<'a>(posts: &'a Sequence<Posts>, id: &LaneId) -> &'a [Entry]
     ensures { result.now ≡ unbroken_entries posts.now id.now }
 {
@@ -92,7 +96,7 @@ pub fn open_entries<'a>(posts: &'a Sequence<Posts>, id: &LaneId) -> &'a [Entry]
     }
 }
 
-/// The lane of a target and a queue, where both are in their ranges.
+/// The lane from `rank` to a target by a queue; None where one is over its range.
 fn post_lane(rank: RankId, target: u64, queue: u64) -> Option<LaneId>
     ensures { result ≡ post_lane rank target queue }
 {
@@ -106,7 +110,7 @@ fn post_lane(rank: RankId, target: u64, queue: u64) -> Option<LaneId>
     })
 }
 
-/// The lane to which a call posts whose look is recorded.
+/// The lane to which a call posts; None where it posts nothing, and where it is recorded with a refusal or a timeout.
 pub fn look_lane(invocation: &Invocation<'_>, look: &Evaluation) -> Option<LaneId>
     ensures { result ≡ look_lane invocation.now.caller.rank invocation.now.call.now look.now }
 {
@@ -119,7 +123,7 @@ pub fn look_lane(invocation: &Invocation<'_>, look: &Evaluation) -> Option<LaneI
     }
 }
 
-/// The queue that a call purges whose look is recorded.
+/// The queue that a call purges; None where it purges none, and where it is recorded with a refusal or a timeout.
 pub fn look_purge(call: &Call, look: &Evaluation) -> Option<u64>
     ensures { result ≡ look_purge call.now look.now }
 {
@@ -129,7 +133,7 @@ pub fn look_purge(call: &Call, look: &Evaluation) -> Option<u64>
     purged_queue(call)
 }
 
-/// Names a lane at its place. There is room for it.
+/// Adds a lane to the nonempty lanes, at its index in their order. The list has capacity for it.
 pub fn insert_lane(standing: &mut Vec<LaneId>, id: LaneId)
     requires parted { IsPartitionedBy (λ x. is_before x id) standing.old.items }
     requires room { vec_len standing.old < vec_capacity standing.old }
@@ -139,7 +143,8 @@ pub fn insert_lane(standing: &mut Vec<LaneId>, id: LaneId)
     let _named = standing.insert(place, id);
 }
 
-/// Takes the name of a lane out, where it stands at its place.
+/// Removes what is at the index of a lane in the nonempty lanes: the lane itself, where it is among them. The list has an item
+/// there.
 pub fn remove_lane(standing: &mut Vec<LaneId>, id: &LaneId)
     requires parted { IsPartitionedBy (λ x. is_before x id.now) standing.old.items }
     requires there { prefix_len (λ x. is_before x id.now) standing.old.items < length standing.old.items }
@@ -149,7 +154,7 @@ pub fn remove_lane(standing: &mut Vec<LaneId>, id: &LaneId)
     let _named = standing.remove(place);
 }
 
-/// Takes the names of all lanes of an origin's queue out. No entry is looked at.
+/// Removes all lanes of an origin's queue from the nonempty lanes. No entry is looked at.
 pub fn remove_queue_lanes(standing: &mut Vec<LaneId>, origin: RankId, queue: u64)
     ensures { standing.new.items ≡ filter (is_elsewhere origin queue) standing.old.items }
 {

@@ -1,4 +1,5 @@
-//! The state at the start: the shape's segments and callers, all else zero or empty. (GASPI: segments)
+//! The parts of the opening state: the shape's segments and callers, all else zero or empty; and the used room of each rank. The
+//! functions `all_` give one item for each rank or group, the functions `opening_` one item or a table of it. (GASPI: segments)
 
 ghost use Rattle.std.specs.Prelude.{◌≡◌, ◌+◌, ◌<◌, ◌≤◌, IfOk, replicate, map, count_by, [], None};
 ghost use Rattle.std.specs.Option.{option_map};
@@ -15,7 +16,7 @@ use gaspi_types::{
 use plain_calls::{is_running, new_slots, opening_segments};
 use std::alloc::Global;
 
-/// The room that a rank has taken at the start: the ends of its threads.
+/// The used room of a rank in the opening state: one event for the end of each active thread.
 #[tactic(auto, using(gaspi_model::proofs::Ranges::map_range_more))]
 fn opening_used(shape: &Shape, rank: u32) -> u32
     ensures { result ≡ count_by is_running (map (opening_thread shape.now rank) (range_with_len 0 4)) }
@@ -55,7 +56,7 @@ fn opening_queues(alloc: Global, queues: u32, ranks: u32) -> Result<Sequence<Que
     Ok(rows)
 }
 
-/// No collective is pending on any group.
+/// The pending collectives of a rank: none on any group.
 fn opening_pending(alloc: Global) -> Result<Sequence<Option<PendingCollective>>, NoMemory>
     ensures { IfOk result (λ pending. pending ≡ replicate 8 None) }
 {
@@ -83,7 +84,7 @@ fn opening_posts(alloc: Global, shape: &Shape, rank: u32) -> Result<Posts, NoMem
     })
 }
 
-/// The slots of the segment of a rank with a number.
+/// The slots of the declared segment of a rank under an id, all zero; None where the shape declares none.
 fn opening_slots_at(
     alloc: Global,
     shape: &Shape,
@@ -98,7 +99,7 @@ fn opening_slots_at(
     }
 }
 
-/// The slots of each segment of a rank.
+/// The slots of the declared segments of a rank: one item for each of the 32 ids.
 #[tactic(auto, using(gaspi_model::proofs::Ranges::map_range_more))]
 fn opening_slots(
     alloc: Global,
@@ -149,7 +150,7 @@ pub fn all_memories(alloc: Global, shape: &Shape) -> Result<Sequence<Memory>, No
     Ok(memories)
 }
 
-/// The room that each rank has taken.
+/// The used room of each rank.
 #[tactic(auto, using(gaspi_model::proofs::Ranges::map_range_more))]
 pub fn all_used(alloc: Global, shape: &Shape) -> Result<Sequence<u32>, NoMemory>
     ensures { IfOk result (λ taken. taken ≡ map (λ rank. count_by is_running (map (opening_thread shape.now rank) (range_with_len 0 4))) (range_with_len 0 shape.now.limits.ranks)) }
@@ -161,7 +162,7 @@ pub fn all_used(alloc: Global, shape: &Shape) -> Result<Sequence<u32>, NoMemory>
     Ok(taken)
 }
 
-/// The part of each rank in a group, to which none has contributed.
+/// For each rank its contributions to a group: none.
 fn opening_parts(alloc: Global, ranks: u32) -> Result<Sequence<RankContributions>, NoMemory>
     ensures { IfOk result (λ parts. parts ≡ replicate ranks opening_part) }
 {
@@ -175,7 +176,7 @@ fn opening_parts(alloc: Global, ranks: u32) -> Result<Sequence<RankContributions
     Ok(parts)
 }
 
-/// A group.
+/// A group: the member list of group 0 has every rank, that of another is not fixed.
 fn opening_group(alloc: Global, ranks: u32, group: u32) -> Result<Group, NoMemory>
     requires { ranks ≤ 16 }
     ensures { IfOk result (λ x. x ≡ opening_group ranks group) }
@@ -191,7 +192,7 @@ fn opening_group(alloc: Global, ranks: u32, group: u32) -> Result<Group, NoMemor
     })
 }
 
-/// Each group.
+/// The eight groups.
 #[tactic(auto, using(gaspi_model::proofs::Ranges::map_range_more))]
 pub fn all_groups(alloc: Global, shape: &Shape) -> Result<Sequence<Group>, NoMemory>
     ensures { IfOk result (λ groups. groups ≡ map (opening_group shape.now.limits.ranks) (range_with_len 0 8)) }

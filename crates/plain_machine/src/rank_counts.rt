@@ -1,7 +1,9 @@
-//! How many transfers of each rank may come next, and the one at a place of all.
+//! The transfer counts: how many transfers of each rank are enabled, and of all; and the enabled transfer at an index of their list
+//! (`place` is such an index, and no place of an event).
 //!
-//! An event changes the transfers of its own rank alone. So a rank is counted anew after its own events, and a sought transfer
-//! is looked for in the lanes of one rank.
+//! An event changes the transfers of its owner alone. So counts are stored, a rank is counted again only after its own events, and a
+//! sought transfer is looked for in the lanes of one rank. To *forget* a count is to store none. `lanes` are the nonempty lanes
+//! (clause `named`), and the stored counts are right, before (clause `counts`) and after (clause `kept`).
 
 ghost use Rattle.std.specs.Prelude.{◌≡◌, ◌≤◌, None, Option, ℕ, length, replicate, slice_get, slice_set, if◌then◌else◌, IfOk};
 ghost use Rattle.gaspi_types.specs.Tables.{item_at};
@@ -17,17 +19,19 @@ use gaspi_model::Posts;
 use gaspi_types::{Call, Event, Limits, NoMemory, RankId, Sequence, Transfer};
 use std::alloc::Global;
 
-/// Of each rank, how many of its transfers may come next, where they were counted since they last changed.
+/// For each rank the count of its enabled transfers, or none where they may have changed since they were counted.
 type RankCounts = Sequence<Option<usize>>;
 
-/// How many transfers may come next: of each rank, and of all.
+/// The stored counts.
 #[derive(Debug, Drop)]
 pub struct TransferCounts {
+    /// Of each rank.
     by_rank: RankCounts,
+    /// Of all ranks; None where a rank's count was forgotten since.
     all: Option<usize>,
 }
 
-/// The counts of ranks at the start: none.
+/// No count of any rank, for the opening state.
 fn opening_rank_counts(alloc: Global, ranks: u32) -> Result<RankCounts, NoMemory>
     ensures { IfOk result (λ counts. counts ≡ replicate ranks None) }
 {
@@ -38,7 +42,7 @@ fn opening_rank_counts(alloc: Global, ranks: u32) -> Result<RankCounts, NoMemory
     Ok(counts)
 }
 
-/// The counts at the start: none.
+/// No count, for the opening state.
 pub fn opening_counts(alloc: Global, ranks: u32) -> Result<TransferCounts, NoMemory>
     ensures { IfOk result (λ counts. counts ≡ record { by_rank = replicate ranks None; all = None }) }
 {
@@ -48,7 +52,7 @@ pub fn opening_counts(alloc: Global, ranks: u32) -> Result<TransferCounts, NoMem
     })
 }
 
-/// The count of a rank, where it is kept.
+/// The stored count of a rank, if there is one.
 fn kept_count(counts: &RankCounts, rank: RankId) -> Option<usize>
     ensures { result ≡ item_at counts.now rank }
 {
@@ -58,7 +62,7 @@ fn kept_count(counts: &RankCounts, rank: RankId) -> Option<usize>
     }
 }
 
-/// Keeps a count of a rank, or none.
+/// Stores a count of a rank, or none. Where there is no such rank nothing changes.
 fn set_count(counts: &mut RankCounts, rank: RankId, count: Option<usize>)
     ensures { counts.new ≡ slice_set counts.old rank count }
 {
@@ -68,7 +72,7 @@ fn set_count(counts: &mut RankCounts, rank: RankId, count: Option<usize>)
     }
 }
 
-/// The count of a rank is kept no more, nor that of all.
+/// Forgets the count of a rank, and that of all.
 pub fn forget_count(counts: &mut TransferCounts, rank: RankId)
     ensures { counts.new ≡ without_count counts.old rank }
 {
@@ -76,7 +80,7 @@ pub fn forget_count(counts: &mut TransferCounts, rank: RankId)
     counts.all = None;
 }
 
-/// The rank that records an event.
+/// The owner of an event.
 fn owner(event: &Event) -> RankId
     ensures { result ≡ owner_of event.now }
 {
@@ -86,14 +90,14 @@ fn owner(event: &Event) -> RankId
     }
 }
 
-/// The count of the rank that records an event is kept no more.
+/// Forgets the counts that an event may change: that of its owner, and that of all.
 pub fn forget_owner(counts: &mut TransferCounts, event: &Event)
     ensures { counts.new ≡ without_count counts.old (owner_of event.now) }
 {
     forget_count(counts, owner(event));
 }
 
-/// The counts that are kept where a call of a rank is recorded: all, where the call posts nothing and purges nothing.
+/// Forgets the counts that the record of a call may change: those of a post and of a purge; any other call changes none.
 pub fn forget_moved(counts: &mut TransferCounts, rank: RankId, call: &Call)
     ensures { counts.new ≡ (if is_still call.now then counts.old else without_count counts.old rank) }
 {
@@ -112,7 +116,7 @@ pub fn forget_moved(counts: &mut TransferCounts, rank: RankId, call: &Call)
     }
 }
 
-/// How many transfers of a rank may come next. They are counted where no count of them is kept, and then one is.
+/// How many transfers of a rank are enabled. They are counted where no count is stored, and then it is stored.
 fn rank_count(
     limits: &Limits,
     posts: &Sequence<Posts>,
@@ -134,7 +138,7 @@ fn rank_count(
     count
 }
 
-/// How many transfers may come next: the sum of all ranks' counts.
+/// How many transfers are enabled: the sum over all ranks. The counts of ranks are stored.
 fn counts_sum(
     limits: &Limits,
     posts: &Sequence<Posts>,
@@ -155,7 +159,7 @@ fn counts_sum(
     count
 }
 
-/// How many transfers may come next. They are summed up where no count of all is kept, and then one is.
+/// How many transfers are enabled. They are summed up where no count of all is stored, and then it is stored.
 pub fn transfer_count(
     limits: &Limits,
     posts: &Sequence<Posts>,
@@ -177,7 +181,7 @@ pub fn transfer_count(
     count
 }
 
-/// Seeks the transfer at a place among those of a rank. Where its count is kept and the place is past them, no lane is walked.
+/// The enabled transfer at an index among those of a rank. Where its count is stored and the index is past it, no lane is walked.
 fn rank_transfer(
     limits: &Limits,
     posts: &Sequence<Posts>,
@@ -196,7 +200,7 @@ fn rank_transfer(
     }
 }
 
-/// The transfer at a place among all that may come next.
+/// The enabled transfer at an index among all; None where the index is past the end.
 pub fn transfer_at(
     limits: &Limits,
     posts: &Sequence<Posts>,

@@ -1,13 +1,17 @@
-//! The ranks of the machine, apart from their memories, and its groups.
+//! The ranks of the machine, apart from their memories, and its groups: they are lent together, so that a memory can be lent beside.
 
 use gaspi_model::Posts;
 use gaspi_types::{Group, Limits, Sequence};
 
-/// The limits, for each rank its posts and the room that it has taken, and the groups.
+/// The state without memories, and the used room of each rank.
 #[derive(Debug, Drop)]
 pub struct RankTables {
+    /// The limits of the world.
     pub limits: Limits,
+    /// The posts of each rank.
     pub posts: Sequence<Posts>,
+    /// The used room of each rank, stored.
     pub used: Sequence<u32>,
+    /// The eight groups.
     pub groups: Sequence<Group>,
 }

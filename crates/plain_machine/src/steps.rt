@@ -1,4 +1,6 @@
-//! The step of the machine, on the ranks, their memories and the lanes that have an entry.
+//! Makes the step by any event on the whole state, in place: the ranks, their memories and the nonempty lanes (`standing`). Calls
+//! and joins go to `looking`; takes and puts are here. A *given* outcome is that of the event; without one the machine's outcome is
+//! used. After each function the stored used room is right (clause `used`), and so is the list of nonempty lanes (clause `named`).
 
 ghost use Rattle.std.specs.Prelude.{◌≡◌, ◌≢◌, ◌<◌, ℕ, List, length, map, IfOk, Err, true, false};
 ghost use Rattle.gaspi_types.specs.declared.events.Event.TheVariants.{Take, Put};
@@ -21,7 +23,7 @@ use gaspi_types::{Event, Footprint, Invocation, Outcome, RankId, Sequence, Trans
 use plain_calls::Joining;
 use std::alloc::Global;
 
-/// A take that failed spares its rank the event of the entry's put.
+/// Gives back one event of a rank's used room where its take failed: the put will not come.
 fn release(rooms: &mut Sequence<u32>, rank: usize, outcome: Outcome)
     ensures { rooms.new ≡ released_by_take rooms.old rank outcome }
 {
@@ -31,8 +33,8 @@ fn release(rooms: &mut Sequence<u32>, rank: usize, outcome: Outcome)
     }
 }
 
-/// Steps by a take, with the outcome that is given, or else the machine's: a write takes its bytes from its origin's memory,
-/// a read from its target's. It gives the outcome.
+/// Makes the step by a take, with the given outcome or else the machine's, and gives the outcome. Where the take is no step, its
+/// cause is given and nothing changes; where memory runs out, nothing changes.
 fn step_take(
     ranks: &mut RankTables,
     memories: &Sequence<Memory>,
@@ -73,8 +75,9 @@ fn step_take(
     }
 }
 
-/// Puts an entry that was found into the memory that it reaches, with the outcome that is given, or else the machine's. It
-/// gives the outcome, and takes no memory.
+/// Makes the put of an entry that was found, on the memory that its footprint has, with the given outcome or else the machine's, and
+/// gives the outcome. Where the put may not come, its cause is given and nothing changes. The posts do not change. It takes no
+/// memory.
 fn put_at(
     memories: &mut Sequence<Memory>,
     alloc: Global,
@@ -102,8 +105,8 @@ fn put_at(
     }
 }
 
-/// Steps by a put, on the memory of its target, with the outcome that is given, or else the machine's. It gives the outcome,
-/// and takes no memory.
+/// Makes the step by a put, with the given outcome or else the machine's, and gives the outcome. Where the put is no step, its cause
+/// is given and nothing changes. The nonempty lanes are not changed here. It takes no memory.
 fn step_put(
     ranks: &mut RankTables,
     memories: &mut Sequence<Memory>,
@@ -141,8 +144,7 @@ fn step_put(
     }
 }
 
-/// Steps by a put, with the outcome that is given, or else the machine's. Where it empties its lane, that is named no more.
-/// It gives the outcome, and takes no memory.
+/// As `step_put`, and removes the lane from the nonempty lanes where the entry that left it was its last.
 fn step_leaving(
     ranks: &mut RankTables,
     memories: &mut Sequence<Memory>,
@@ -166,8 +168,7 @@ fn step_leaving(
     Ok(outcome)
 }
 
-/// Steps by an event, and names the lanes that have an entry then: at Ok the step's state stands; an illegal event is
-/// none, for that cause, and changed nothing; without memory nothing changed.
+/// Makes the step by an event. Where it is no step, its cause is given and nothing changes; where memory runs out, nothing changes.
 pub fn step(
     ranks: &mut RankTables,
     memories: &mut Sequence<Memory>,
@@ -217,7 +218,8 @@ pub fn step(
     }
 }
 
-/// Makes a transfer, with the machine's outcome, as a step by its take or put. It gives the event.
+/// Makes the step by a transfer, with the machine's outcome, and gives the event. Where it is no step, its cause is given and
+/// nothing changes; where memory runs out, nothing changes.
 pub fn make(
     ranks: &mut RankTables,
     memories: &mut Sequence<Memory>,

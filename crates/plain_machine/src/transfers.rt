@@ -1,4 +1,7 @@
-//! Takes and puts: what a transfer may do, and what it leaves. (GASPI: one-sided communication, notification order)
+//! The take and the put of one entry: to find the entry, to judge its transfer with the memory that it works on, and to change the
+//! posts of its origin. `steps` makes whole steps from these. A position is the index of an entry in its lane; so is `place` here. A
+//! *given* outcome is that of an event to be judged; without one the machine's outcome is used.
+//! (GASPI: one-sided communication, notification order)
 
 ghost use Rattle.std.specs.Prelude.{◌≡◌, ◌≢◌, ◌+◌, ◌<◌, ◌^◌, IfOk, Err};
 ghost use Rattle.std.specs.Option.{unwrap_or};
@@ -17,16 +20,20 @@ use plain_calls::{bytes_of, may_put, may_take, position_of, segment_at, set_slot
 use segment_store::{is_generation, range_of, store_bytes};
 use std::alloc::Global;
 
-/// Where an entry stands: its queue, its lane, its place there and itself.
+/// An entry that was found in the posts of its origin.
 #[derive(Drop)]
 pub struct LaneEntry<'a> {
+    /// Its queue.
     pub queue: &'a Queue,
+    /// Its lane.
     pub lane: &'a Sequence<Entry>,
+    /// Its position in the lane.
     pub position: usize,
+    /// The entry itself.
     pub entry: &'a Entry,
 }
 
-/// Finds an entry by its number. Where it is not there, that is why.
+/// The entry of a lane with a number. Where there is none, `why` is given back as the cause.
 pub fn find_entry<'a>(
     posts: &'a Posts,
     id: &LaneId,
@@ -47,7 +54,7 @@ pub fn find_entry<'a>(
     })
 }
 
-/// Whether outcomes are the same.
+/// Whether two outcomes are the same.
 fn same_outcome(a: Outcome, b: Outcome) -> bool
     ensures { result ≡ same_outcome a b }
 {
@@ -57,7 +64,7 @@ fn same_outcome(a: Outcome, b: Outcome) -> bool
     )
 }
 
-/// How a transfer ends that works on a segment of that generation: it fails where that is gone. (GASPI: state vector)
+/// The outcome of a transfer that needs a segment of this generation: failed where the segment is gone. (GASPI: state vector)
 fn outcome_at(memory: &Memory, segment: u32, generation: u32) -> Outcome
     ensures { result ≡ outcome_at memory.now segment generation }
 {
@@ -68,7 +75,8 @@ fn outcome_at(memory: &Memory, segment: u32, generation: u32) -> Outcome
     }
 }
 
-/// How a take ends: that of a read fails where the target's segment of its generation is gone. (GASPI: state vector)
+/// The outcome of the take of an entry of this kind from this memory: a read fails where the target's segment of its generation is
+/// gone. (GASPI: state vector)
 fn take_outcome(memory: &Memory, kind: &Kind) -> Outcome
     ensures { result ≡ take_outcome memory.now kind.now }
 {
@@ -78,8 +86,8 @@ fn take_outcome(memory: &Memory, kind: &Kind) -> Outcome
     }
 }
 
-/// How a put ends: that of a write or a notification fails where the target's segment of its generation is gone.
-/// (GASPI: state vector)
+/// The outcome of the put of an entry of this kind into this memory: a write or a notification fails where the target's segment of
+/// its generation is gone. (GASPI: state vector)
 fn put_outcome(memory: &Memory, kind: &Kind) -> Outcome
     ensures { result ≡ put_outcome memory.now kind.now }
 {
@@ -92,7 +100,7 @@ fn put_outcome(memory: &Memory, kind: &Kind) -> Outcome
     }
 }
 
-/// The bytes that an entry takes.
+/// A copy of the bytes that the take of an entry of this kind copies; none for a notification.
 fn source_bytes(alloc: Global, memory: &Memory, kind: &Kind) -> Result<Bytes, NoMemory>
     ensures { IfOk result (λ bytes. bytes ≡ source_bytes memory.now kind.now) }
 {
@@ -108,7 +116,7 @@ fn source_bytes(alloc: Global, memory: &Memory, kind: &Kind) -> Result<Bytes, No
     }
 }
 
-/// Gives an entry of a lane a phase.
+/// Gives an entry of a lane a phase. Where there is no such entry nothing changes.
 fn set_lane_phase(lane: &mut Sequence<Entry>, place: usize, phase: Phase)
     ensures { lane.new ≡ lane_phase lane.old place phase }
 {
@@ -127,7 +135,7 @@ fn set_queue_phase(q: &mut Queue, target: RankId, place: usize, phase: Phase)
     }
 }
 
-/// Gives an entry a phase.
+/// Gives an entry of a rank a phase. The count of events stays.
 fn set_phase(posts: &mut Posts, id: &LaneId, place: usize, phase: Phase)
     ensures { posts.new ≡ posts_phase posts.old id.now.queue id.now.target place phase }
 {
@@ -137,7 +145,7 @@ fn set_phase(posts: &mut Posts, id: &LaneId, place: usize, phase: Phase)
     }
 }
 
-/// An entry of a queue that failed stays in its place, and breaks the queue.
+/// Makes an entry of a queue failed, which stays in its place, and breaks the queue.
 fn fail_queue_entry(q: &mut Queue, target: RankId, place: usize)
     ensures { q.new ≡ queue_failed target place q.old }
 {
@@ -145,7 +153,7 @@ fn fail_queue_entry(q: &mut Queue, target: RankId, place: usize)
     q.broken = Some(target);
 }
 
-/// An entry that failed also marks its target as corrupt. (GASPI: state vector)
+/// Makes an entry failed, breaks its queue, and makes its target corrupt. The count of events stays. (GASPI: state vector)
 fn fail_entry(posts: &mut Posts, id: &LaneId, place: usize)
     ensures { posts.new ≡ posts_failed posts.old id.now.queue id.now.target place }
 {
@@ -159,7 +167,7 @@ fn fail_entry(posts: &mut Posts, id: &LaneId, place: usize)
     }
 }
 
-/// Takes an entry out of a queue.
+/// Removes an entry from a lane of a queue.
 fn remove_queue_entry(q: &mut Queue, target: RankId, place: usize)
     ensures { q.new ≡ queue_without target place q.old }
 {
@@ -172,7 +180,7 @@ fn remove_queue_entry(q: &mut Queue, target: RankId, place: usize)
     }
 }
 
-/// Takes an entry out of its lane.
+/// Removes an entry from its lane. The count of events stays.
 fn remove_entry(posts: &mut Posts, id: &LaneId, place: usize)
     ensures { posts.new ≡ posts_without posts.old id.now.queue id.now.target place }
 {
@@ -182,15 +190,17 @@ fn remove_entry(posts: &mut Posts, id: &LaneId, place: usize)
     }
 }
 
-/// What the take of an entry gives: its bytes, or that it failed.
+/// What the take of an entry gives.
 #[derive(Debug, Drop)]
 pub enum TakeResult {
+    /// The bytes that the entry takes.
     Bytes(Bytes),
+    /// The take has failed.
     Failed,
 }
 
 impl TakeResult {
-    /// How the take ends.
+    /// The outcome of the take.
     pub fn outcome(&self) -> Outcome
         ensures { result ≡ take_result_outcome self.now }
     {
@@ -201,9 +211,9 @@ impl TakeResult {
     }
 }
 
-/// Takes the bytes of an entry that was found: it is posted, its queue is not broken, and fewer entries of its lane than a
-/// queue holds have taken their bytes. The outcome is the one that is given, which has to be the machine's, or else the
-/// machine's.
+/// What the take of an entry that was found gives; the posts do not change. The take is enabled (the entry is posted, its queue is
+/// not broken, and fewer than the depth entries of its lane are carried), and a given outcome is the machine's; else the cause is
+/// `Take`.
 pub fn take_bytes(
     alloc: Global,
     limits: &Limits,
@@ -231,7 +241,7 @@ pub fn take_bytes(
     }
 }
 
-/// Gives the entry at a place the bytes that it takes, or marks it as failed, and counts the event.
+/// Makes the entry at a position carried with its bytes, or failed, and counts the event.
 pub fn set_take(posts: &mut Posts, id: &LaneId, place: usize, taken: TakeResult)
     requires { posts.old.events + 1 < 2 ^ 32 }
     ensures { posts.new ≡ posts_after_take_result posts.old id.now.queue id.now.target place taken }
@@ -243,7 +253,7 @@ pub fn set_take(posts: &mut Posts, id: &LaneId, place: usize, taken: TakeResult)
     posts.events += 1;
 }
 
-/// The bytes that an entry has taken.
+/// The bytes of a carried entry; none of an entry of another phase.
 fn carried_bytes(phase: &Phase) -> &[u8]
     ensures { result.now ≡ carried_bytes phase.now }
 {
@@ -253,7 +263,7 @@ fn carried_bytes(phase: &Phase) -> &[u8]
     }
 }
 
-/// Stores the bytes of an entry, or sets its slot: exactly the stated range, or the one slot, is changed.
+/// Stores the bytes of a carried entry in its range, or sets its slot. The rest of the memory stays.
 fn memory_put(memory: &mut Memory, entry: &Entry)
     ensures { memory.new ≡ memory_put memory.old entry.now }
 {
@@ -270,9 +280,9 @@ fn memory_put(memory: &mut Memory, entry: &Entry)
     }
 }
 
-/// Puts an entry that was found, into the memory: it has taken its bytes, its queue is not broken, and, for a notification,
-/// no earlier write, or no earlier read, stands in its lane. The outcome is the one that is given, which has to be the machine's, or else the
-/// machine's. It takes no memory.
+/// Makes the put of an entry that was found, on the memory alone, and gives the outcome. The put is enabled (the entry is carried,
+/// its queue is not broken, and a notification has no earlier write in the lane, the notification of a read no earlier read), and a
+/// given outcome is the machine's; else the cause is `Put`, and nothing changes. It takes no memory.
 pub fn put_bytes(
     memory: &mut Memory,
     at: &LaneEntry<'_>,
@@ -293,7 +303,7 @@ pub fn put_bytes(
     Ok(outcome)
 }
 
-/// Takes the entry at a place out of its lane, or marks it as failed, and counts the event.
+/// Removes the entry at a position from its lane, or makes it failed, and counts the event.
 pub fn set_put(posts: &mut Posts, id: &LaneId, place: usize, outcome: Outcome)
     requires { posts.old.events + 1 < 2 ^ 32 }
     ensures { posts.new ≡ posts_after_put posts.old id.now.queue id.now.target place outcome }

@@ -1,4 +1,4 @@
--- What the calls that post are found to bring, before a queue is asked. (GASPI: one-sided communication)
+-- The entries of a call that posts, or its first refusal, before a queue is asked. (GASPI: one-sided communication)
 use Rattle.std.specs.Prelude.{◌≡◌, ℕ, Bool, true, false, nat_lt, List, Option, None, Some, Result, Ok, Err}
 use Rattle.gaspi_types.specs.CallRows.{row_of}
 use Rattle.gaspi_types.specs.Checks.{◌>>=◌, check}
@@ -20,19 +20,19 @@ lane_checks limits (Some to) = do
   ranked ← check (nat_lt to.rank limits.ranks) BadRank
   check (nat_lt to.queue limits.queues) BadQueue
 
--- the entries of a call that posts, or its first refusal: its rank, its queue, and what it asks of the table of its caller
+-- the entries of a call that posts, or its first refusal: by its rank, by its queue, and by the table of segments of its caller's rank
 abbrev pub build_result : Limits → ℕ → SegmentTable → Call → Result (List Kind) Refusal
 build_result limits me table call = do
   there ← lane_checks limits (row_of call).posting
   call_kinds limits.notes me table call
 
--- What is built is what is found: entries of just these kinds, or that refusal. `NoMemory` may come in place of either.
+-- What is built is what the machine finds: entries of just these kinds, or that refusal. `NoMemory` may come in place of either.
 abbrev pub Builds : Result (List Kind) BuildStop → Result (List Kind) Refusal → Type 0
 Builds (Ok entries) found = found ≡ Ok entries
 Builds (Err (Refused refusal)) found = found ≡ Err refusal
 Builds (Err NoMemory) found = Unit {0}
 
--- whether memory was wanting
+-- whether memory ran out
 abbrev pub is_out_of_memory : Result (List Kind) BuildStop → Bool
 is_out_of_memory (Ok entries) = false
 is_out_of_memory (Err (Refused refusal)) = false

@@ -1,6 +1,7 @@
--- The least number from one on that passes a test.
+-- The least number from a given one on that passes a test.
 use Rattle.std.specs.Prelude.{◌≡◌, ℕ, ◌<◌, ◌≤◌, Bool, true, false, Option, None, Some}
 
+-- `n` is the least number from `from` on that passes
 pub record IsLeastFrom (test : ℕ → Bool) (from n : ℕ) : Type 0 where
   pub low : from ≤ n
   pub passes : test n ≡ true

@@ -1,4 +1,4 @@
--- The lanes that a worker may move: those that have an entry, of queues that are not broken; and their order. (own choice)
+-- The movable lanes: those that have an entry, of queues that are not broken; and their cyclic order. (own choice)
 use Rattle.std.specs.Prelude.{◌≡◌, ◌⊎◌, ℕ, ◌<◌, ◌&&◌, Bool, true, false, List, Option, None, Some, is_none, slice_get}
 use Rattle.std.specs.Option.{is_some}
 use Rattle.gaspi_types.specs.Masks.{is_member}
@@ -18,6 +18,7 @@ abbrev pub is_movable_to : Option Queue → ℕ → Bool
 is_movable_to None target = false
 is_movable_to (Some q) target = is_none q.broken && is_nonempty_lane (slice_get q.lanes target)
 
+-- whether a lane is movable, by its queue and its target
 abbrev pub is_movable_lane : List Queue → ℕ → ℕ → Bool
 is_movable_lane queues queue target = is_movable_to (slice_get queues queue) target
 
@@ -29,6 +30,7 @@ abbrev pub is_movable_in : Option Queue → Bool
 is_movable_in None = false
 is_movable_in (Some q) = is_movable q
 
+-- whether a queue is there and movable
 abbrev pub is_movable_queue : List Queue → ℕ → Bool
 is_movable_queue queues queue = is_movable_in (slice_get queues queue)
 
@@ -36,7 +38,7 @@ is_movable_queue queues queue = is_movable_in (slice_get queues queue)
 abbrev pub IsBefore : ℕ × ℕ → ℕ × ℕ → Type 0
 IsBefore a b = (a.0 < b.0) ⊎ ((a.0 ≡ b.0) × (a.1 < b.1))
 
--- going on from a lane to the next one, and from the last of all to the first where that is not behind it, one passes a lane
+-- `other` is between the lanes `after` and `next` in the cyclic order: after the last lane comes the first one
 abbrev pub IsPassed : ℕ × ℕ → ℕ × ℕ → ℕ × ℕ → Type 0
 IsPassed after next other = (IsBefore after other × IsBefore other next) ⊎ ((IsBefore after next → ⊥) × (IsBefore after other ⊎ IsBefore other next))
 
@@ -45,16 +47,17 @@ pub record IsNextLane (queues : List Queue) (after next : ℕ × ℕ) : Type 0 w
   pub movable : is_movable_lane queues next.0 next.1 ≡ true
   pub first : (other : ℕ × ℕ) → IsPassed after next other → is_movable_lane queues other.0 other.1 ≡ false
 
--- Queues that stand with their depths.
+-- Queues with their depths.
 
 abbrev pub is_movable_state : Option QueueState → Bool
 is_movable_state None = false
 is_movable_state (Some q) = is_movable q.queue
 
--- a set of queues is that of the movable ones
+-- a set has just the movable queues
 abbrev pub AreMovable : ℕ → List QueueState → Type 0
 AreMovable movable queues = (queue : ℕ) → queue < 32 → is_member movable queue ≡ is_movable_state (slice_get queues queue)
 
+-- the invariant of `Lanes`: each queue has its depth and its lanes, and `movable` has just the movable queues
 pub record AreMarked (depth ranks : ℕ) (queues : List QueueState) (movable : ℕ) : Type 0 where
   pub lanes : IsLanes depth ranks queues
   pub marks : AreMovable movable queues

@@ -1,4 +1,4 @@
--- Which lanes of a queue are nonempty: have an entry. (own choice)
+-- The nonempty lanes of a queue: those that have an entry. (own choice)
 use Rattle.std.specs.Prelude.{◌≡◌, ℕ, ◌<◌, Bool, true, false, List, [], ◌∷◌, Option, None, Some, slice_get}
 use Rattle.std.specs.List.{position}
 use Rattle.gaspi_types.specs.Masks.{is_member}
@@ -20,6 +20,6 @@ abbrev pub is_nonempty_at : Option LaneValue → Bool
 is_nonempty_at None = false
 is_nonempty_at (Some lane) = is_nonempty lane.entries
 
--- a set of targets is that of the nonempty lanes
+-- a set has just the targets of the nonempty lanes
 abbrev pub IsNonempty : ℕ → List LaneValue → Type 0
 IsNonempty nonempty lanes = (target : ℕ) → target < 32 → is_member nonempty target ≡ is_nonempty_at (slice_get lanes target)

@@ -1,4 +1,4 @@
--- What is counted of the entries of a queue. (GASPI: one-sided communication, segments)
+-- The counts over the entries of a queue. (GASPI: one-sided communication, segments)
 use Rattle.std.specs.Prelude.{◌≡◌, ℕ, ◌+◌, ◌-◌, ◌<◌, ◌≤◌, List, length, replicate, slice_index, sum_by, cond, Bool, Option, None, Some}
 use Rattle.gaspi_types.specs.Lanes.{entry_owed, is_user}
 use Rattle.gaspi_types.specs.Tables.{changed_at}
@@ -20,6 +20,7 @@ total f lanes = sum_by (λ (lane : List Entry). sum_by f lane) lanes
 abbrev pub no_counts : QueueCounts
 no_counts = record { awaited = 0; owed = 0; users = replicate 32 0 }
 
+-- the users with one entry more, or one less, that uses a segment
 abbrev pub with_user : Option ℕ → List ℕ → List ℕ
 with_user None users = users
 with_user (Some segment) users = changed_at users segment (λ (n : ℕ). n + 1)
@@ -28,7 +29,7 @@ abbrev pub without_user : Option ℕ → List ℕ → List ℕ
 without_user None users = users
 without_user (Some segment) users = changed_at users segment (λ (n : ℕ). n - 1)
 
--- with one entry more, or one less
+-- the counts with one entry more, and with one less
 abbrev pub with_entry : QueueCounts → Kind → PhaseKind → QueueCounts
 with_entry t kind progress = record {
   awaited = t.awaited + one_if (is_awaited kind progress);
@@ -49,7 +50,7 @@ pub record AreBounded (t : QueueCounts) : Type 0 where
   pub owed : t.owed ≤ 65535
   pub users : (segment : ℕ) → slice_index t.users segment ≤ 65535
 
--- the counts are those of entries, of which the sum of each number is given
+-- the counts are right: `sum_of` adds up a number over all entries
 pub record AreQueueCounts (t : QueueCounts) (sum_of : (Entry → ℕ) → ℕ) : Type 0 where
   pub awaited : t.awaited ≡ sum_of (counted is_awaited_entry)
   pub owed : t.owed ≡ sum_of entry_owed

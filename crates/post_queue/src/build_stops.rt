@@ -5,12 +5,12 @@ ghost use Rattle.post_queue.specs.declared.build_stops.BuildStop.TheVariants.{Re
 
 use gaspi_types::{NoMemory, Refusal};
 
-/// Why the entries of a call are not built: the call is refused, or an allocation was.
+/// Why the entries of a call are not built: a refusal, or out of memory.
 #[derive(Clone, Copy, Debug, PartialEq, Eq)]
 pub enum BuildStop {
-    /// The call is refused, for that cause.
+    /// The call is refused, with that.
     Refused(Refusal),
-    /// Out of memory.
+    /// Out of memory. Nothing was posted.
     NoMemory,
 }
 

@@ -1,4 +1,5 @@
-//! Drafts of entries: kinds with room for their bytes. (GASPI: one-sided communication)
+//! Drafts: entries before their post, with capacity for their bytes. A draft takes the memory of its entry, so that neither the post
+//! nor the take of it takes any. (GASPI: one-sided communication)
 
 ghost use Rattle.std.specs.Prelude.{◌≡◌, length, IfOk, IsOk};
 ghost use Rattle.post_queue.specs.Payloads.{payload_size};
@@ -7,7 +8,7 @@ use gaspi_types::{Bytes, Kind, NoMemory, Sequence};
 use std::alloc::Global;
 use std::marker::Model;
 
-/// How many bytes an entry of that kind carries.
+/// How many bytes an entry of this kind carries.
 pub fn carried_size(kind: &Kind) -> u32
     ensures { result ≡ payload_size kind.now }
 {
@@ -18,10 +19,12 @@ pub fn carried_size(kind: &Kind) -> u32
     }
 }
 
-/// An entry that is to be posted: its kind, with room for the bytes that it will carry. Contracts see the kind alone.
+/// An entry before its post: its kind, with capacity for the bytes that it will carry. Contracts see the kind alone.
 #[derive(Debug, Drop)]
 pub struct Draft {
+    /// What the entry asks for.
     kind: Kind,
+    /// As many zeros as the entry will carry bytes.
     room: Bytes,
 }
 
@@ -38,7 +41,7 @@ impl Model for Draft {
 }
 
 impl Draft {
-    /// An entry of that kind. Its room is taken here; a kind that carries no bytes takes no memory.
+    /// The draft of an entry of this kind. Its memory is taken here; a kind that carries no bytes takes none.
     pub fn new(alloc: Global, kind: Kind) -> Result<Draft, NoMemory>
         ensures kind { IfOk result (λ draft. draft ≡ kind) }
         ensures bare { payload_size kind ≡ 0 → IsOk result }
@@ -63,7 +66,7 @@ impl Draft {
         &self.kind
     }
 
-    /// Its kind, and the room for its bytes, which is as long as they are.
+    /// Its kind, and its list for the bytes, which is as long as they are.
     pub fn into_parts(self) -> (Kind, Bytes)
         ensures kind { result.0 ≡ self }
         ensures room { length result.1 ≡ payload_size self }

@@ -1,4 +1,5 @@
-//! Entries that wait for their bytes. (GASPI: one-sided communication)
+//! Posted entries, and how an entry changes its phase: a posted one becomes carried or failed, and a carried one failed. None takes
+//! memory: a posted entry has a list for its bytes, an empty one for notifications. (GASPI: one-sided communication)
 
 ghost use Rattle.std.specs.Prelude.{◌≡◌, length};
 ghost use Rattle.gaspi_types.specs.declared.entries.Phase.TheVariants.{Posted, Carried, Failed};
@@ -8,11 +9,14 @@ use crate::Draft;
 use gaspi_types::{Bytes, Entry, Kind, Phase};
 use std::marker::Model;
 
-/// An entry that is posted, with room for the bytes that it will carry. Contracts see the entry.
+/// A posted entry, with a list for the bytes that it will carry. Contracts see the entry.
 #[derive(Debug, Drop)]
 pub struct PostedEntry {
+    /// Its number among all entries of its origin.
     number: u32,
+    /// What it asks for.
     kind: Kind,
+    /// As many zeros as it will carry bytes.
     room: Bytes,
 }
 
@@ -30,7 +34,7 @@ impl Model for PostedEntry {
 }
 
 impl PostedEntry {
-    /// The entry of a draft, with its number.
+    /// The posted entry of a draft, with its number.
     pub(crate) fn new(number: u32, draft: Draft) -> PostedEntry
         ensures { result ≡ record { number = number; kind = draft; phase = Posted } }
     {
@@ -52,7 +56,7 @@ impl PostedEntry {
         &self.kind
     }
 
-    /// The entry with its bytes, which are written into its room.
+    /// The entry as a carried one, with these bytes. It takes no memory.
     pub(crate) fn carried(self, bytes: &[u8]) -> Entry
         requires { length bytes.now ≡ payload_size self.kind }
         ensures { result ≡ record { number = self.number; kind = self.kind; phase = Carried bytes.now } }
@@ -70,7 +74,7 @@ impl PostedEntry {
         }
     }
 
-    /// The entry without its room, failed.
+    /// The entry as a failed one. The list for its bytes is dropped.
     pub(crate) fn failed(self) -> Entry
         ensures { result ≡ record { number = self.number; kind = self.kind; phase = Failed } }
     {
@@ -87,7 +91,7 @@ impl PostedEntry {
     }
 }
 
-/// An entry fails in its place.
+/// Makes an entry failed, whatever its phase. For the put of a carried entry.
 pub(crate) fn fail(entry: &mut Entry)
     ensures { entry.new ≡ record { number = entry.old.number; kind = entry.old.kind; phase = Failed } }
 {

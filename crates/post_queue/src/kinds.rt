@@ -1,20 +1,23 @@
-//! What depends on what an entry asks for and how far it has come: what keeps a wait, which own segment is used, for how many
-//! events room is kept. (GASPI: one-sided communication, segments)
+//! What follows from the kind and the phase of an entry: whether it is awaited, which own segment it uses, and how many events are
+//! owed for it. (GASPI: one-sided communication, segments)
 
 ghost use Rattle.std.specs.Prelude.{◌≡◌};
 ghost use Rattle.post_queue.specs.Kinds.{one_if, is_awaited, used_segment, events_owed};
 
 use gaspi_types::Kind;
 
-/// How far an entry has come, without its bytes.
+/// The phase of an entry, without its bytes.
 #[derive(Clone, Copy, Debug, PartialEq, Eq)]
 pub enum PhaseKind {
+    /// It is posted.
     Posted,
+    /// It has taken its bytes.
     Carried,
+    /// It has failed.
     Failed,
 }
 
-/// 1 for an entry that a wait waits for, else 0.
+/// 1 for an awaited entry, else 0.
 pub fn awaited_count(kind: &Kind, progress: PhaseKind) -> u32
     ensures { result ≡ one_if (is_awaited kind.now progress) }
 {
@@ -28,7 +31,7 @@ pub fn awaited_count(kind: &Kind, progress: PhaseKind) -> u32
     }
 }
 
-/// The own segment that an entry has to read or write yet.
+/// The own segment that an entry uses: it has still to read from it or to write to it.
 pub fn used_segment(kind: &Kind, progress: PhaseKind) -> Option<u32>
     ensures { result ≡ used_segment kind.now progress }
 {
@@ -49,7 +52,7 @@ pub fn used_segment(kind: &Kind, progress: PhaseKind) -> Option<u32>
     }
 }
 
-/// The events for which room is kept.
+/// How many events are owed for an entry in this phase.
 pub fn events_owed(progress: PhaseKind) -> u32
     ensures { result ≡ events_owed progress }
 {

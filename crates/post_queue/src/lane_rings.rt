@@ -1,4 +1,6 @@
-//! One lane as two rings. (GASPI: one-sided communication)
+//! One lane as two rings of the same capacity, the depth of its queue. A ring is a list of fixed capacity, where items are appended
+//! at the end and removed at the front. A function that changes an entry requires that none of the lane has failed (clause `whole`),
+//! and gives the kind of that entry. (GASPI: one-sided communication)
 
 ghost use Rattle.std.specs.Prelude.{◌≡◌, ◌+◌, ◌*◌, ◌<◌, ◌≤◌, [], ◌∷◌, ◌++◌, length, drop, slice_get, Some, count_by, option_copied, IfOk, IfSome, IsSome, IsSomeAnd};
 ghost use Rattle.gaspi_types.specs.Lanes.{is_posted, is_failed, carried_count};
@@ -16,7 +18,7 @@ use gaspi_types::{Entry, Kind, NoMemory};
 use std::alloc::Global;
 use std::marker::Model;
 
-/// Adds an item to a ring that has room for it.
+/// Appends an item to a ring that has room for it. It takes no memory.
 fn append<T: Drop>(ring: &mut HeapCircularBuffer<T>, item: T)
     requires { length ring.old.items < ring.old.capacity }
     ensures { ring.new ≡ buffer (ring.old.items ++ item ∷ []) ring.old.capacity }
@@ -27,11 +29,12 @@ fn append<T: Drop>(ring: &mut HeapCircularBuffer<T>, item: T)
     }
 }
 
-/// A lane: the entries that have taken their bytes, or failed, and then those that are posted. Each ring holds as many as a
-/// queue is deep.
+/// A lane: the carried and failed entries, and then the posted ones.
 #[derive(Drop)]
 pub struct LaneRings {
+    /// The entries that are carried, or have failed.
     carried: HeapCircularBuffer<Entry>,
+    /// The entries that are posted.
     posted: HeapCircularBuffer<PostedEntry>,
 }
 
@@ -46,7 +49,7 @@ impl Model for LaneRings {
 }
 
 impl LaneRings {
-    /// The empty lane, with all the memory that it will need.
+    /// The empty lane. All memory of its rings is taken here; that of the entries' bytes comes with each draft.
     pub fn new(alloc: Global, depth: usize) -> Result<LaneRings, NoMemory>
         ensures { IfOk result (λ lane. lane ≡ record { depth = depth; entries = [] }) }
     {
@@ -56,14 +59,14 @@ impl LaneRings {
         })
     }
 
-    /// Whether it has an entry.
+    /// Whether the lane has an entry.
     pub fn is_nonempty(&self) -> bool
         ensures { result ≡ is_nonempty self.now.entries }
     {
         !self.carried.is_empty() || !self.posted.is_empty()
     }
 
-    /// Posts an entry.
+    /// Appends a posted entry of a draft, with this number. Fewer are posted than the depth. It takes no memory.
     pub fn post(&mut self, number: u32, draft: Draft)
         requires { count_by is_posted self.old.entries < self.old.depth }
         ensures lane { self.new ≡ record { depth = self.old.depth; entries = self.old.entries ++ record { number = number; kind = draft; phase = Posted } ∷ [] } }
@@ -72,7 +75,7 @@ impl LaneRings {
         append(&mut self.posted, PostedEntry::new(number, draft));
     }
 
-    /// How many entries have taken their bytes, where none failed.
+    /// How many entries are carried. No entry of the lane has failed.
     pub fn carried_count(&self) -> usize
         requires { count_by is_failed self.now.entries ≡ 0 }
         ensures { result ≡ carried_count self.now.entries }
@@ -81,7 +84,7 @@ impl LaneRings {
         self.carried.len()
     }
 
-    /// The first entry that is posted.
+    /// The first posted entry; None where none is posted.
     pub fn front_posted(&self) -> Option<&PostedEntry>
         ensures { option_copied result ≡ first_posted self.now.entries }
     {
@@ -89,7 +92,7 @@ impl LaneRings {
         self.posted.front()
     }
 
-    /// The first entry that has taken its bytes, where none failed. It is the head of the lane.
+    /// The first carried entry, which is the head of the lane; None where none is carried. No entry of the lane has failed.
     pub fn front_carried(&self) -> Option<&Entry>
         requires { count_by is_failed self.now.entries ≡ 0 }
         ensures first { option_copied result ≡ first_carried self.now.entries }
@@ -99,7 +102,7 @@ impl LaneRings {
         self.carried.front()
     }
 
-    /// The first posted entry takes its bytes.
+    /// Makes the first posted entry carried, with its bytes, and gives its kind. It takes no memory.
     pub fn carry(&mut self, bytes: &[u8]) -> Kind
         requires whole { count_by is_failed self.old.entries ≡ 0 }
         requires room { carried_count self.old.entries < self.old.depth }
@@ -114,7 +117,7 @@ impl LaneRings {
         kind
     }
 
-    /// The first posted entry fails, and stays in its place.
+    /// Makes the first posted entry failed, which keeps its position, and gives its kind. It takes no memory.
     pub fn fail_posted(&mut self) -> Kind
         requires whole { count_by is_failed self.old.entries ≡ 0 }
         requires room { carried_count self.old.entries < self.old.depth }
@@ -129,7 +132,7 @@ impl LaneRings {
         kind
     }
 
-    /// The first entry that has taken its bytes, which is the head of the lane, fails and stays in its place.
+    /// Makes the first carried entry, which is the head of the lane, failed, and gives its kind. It keeps its position.
     pub fn fail_carried(&mut self) -> Kind
         requires whole { count_by is_failed self.old.entries ≡ 0 }
         requires there { IsSome (first_carried self.old.entries) }
@@ -145,7 +148,7 @@ impl LaneRings {
         kind
     }
 
-    /// The head of the lane goes.
+    /// Removes the first carried entry, which is the head of the lane, and gives its kind.
     pub fn remove(&mut self) -> Kind
         requires whole { count_by is_failed self.old.entries ≡ 0 }
         requires there { IsSome (first_carried self.old.entries) }
@@ -159,7 +162,7 @@ impl LaneRings {
         entry.kind
     }
 
-    /// All entries go.
+    /// Drops all entries, and keeps the memory of the rings.
     pub fn clear(&mut self)
         ensures { self.new ≡ record { depth = self.old.depth; entries = [] } }
     {

@@ -1,4 +1,5 @@
-//! The queues of one origin. (GASPI: one-sided communication)
+//! The queues of one origin: what other crates see of this one. The functions find the queue, call its own function, and keep the
+//! set of movable queues. (GASPI: one-sided communication)
 
 ghost use Rattle.std.specs.Prelude.{◌≡◌, ◌≢◌, ℕ, ◌+◌, ◌<◌, ◌≤◌, ◌^◌, true, false, length, map, replicate, slice_get, sum_by, position, None, Some, Ok, option_copied, IfOk, IfSome, IfNone, OnOk, OnErr, IsSome, IsSomeAnd};
 ghost use Rattle.std.specs.List.{list_any};
@@ -21,7 +22,7 @@ use gaspi_types::{Entry, NoMemory, QueueId, RankId, Refusal, Sequence};
 use std::alloc::Global;
 use std::marker::Model;
 
-/// So many empty queues.
+/// `queues` empty queues, each with a lane to each rank.
 fn empty_queues(
     alloc: Global,
     queues: u32,
@@ -39,7 +40,7 @@ fn empty_queues(
     Ok(rings)
 }
 
-/// The place of the first queue with an entry that uses an own segment.
+/// The index of the first queue with an entry that uses an own segment; None where no queue has one.
 fn user_place(queues: &[QueueRings], segment: u64) -> Option<usize>
     requires { segment < 32 }
     ensures place { result ≡ position (λ (q : QueueState). list_any (has_user segment) q.queue.lanes) queues.now }
@@ -48,7 +49,7 @@ fn user_place(queues: &[QueueRings], segment: u64) -> Option<usize>
     queues.iter().position(|q| q.has_user(segment))
 }
 
-/// The set of movable queues, where the queue at a place was changed.
+/// The set of movable queues, after the queue at an index was changed.
 fn movable_after(movable: u32, queues: &Sequence<QueueRings>, place: usize) -> u32
     requires place { place < length queues.now }
     requires few { length queues.now ≤ 8 }
@@ -59,18 +60,22 @@ fn movable_after(movable: u32, queues: &Sequence<QueueRings>, place: usize) -> u
     set_number(movable, place as u32, member)
 }
 
-/// The queues of one origin. Contracts see the machine's queues, with how deep each is, to how many ranks each has a lane,
-/// and the number of the next entry.
+/// The queues of one origin. Contracts see the machine's queues, with their depth, the number of ranks to which each has a lane, and
+/// the number of the next entry.
 ///
-/// Numbers of queues and segments are those that a caller wrote, so any number may come. A target is a rank of the world.
-/// In a lane entries take their bytes and are put in the order in which they were posted.
+/// Numbers of queues and segments are those that a caller wrote, so any number may come. A target is a rank of the world. The takes
+/// of a lane come in the order of its entries, and so do its puts.
 #[derive(Drop)]
 pub struct Lanes {
+    /// The most that the open count of a queue may be.
     depth: u32,
+    /// To how many ranks each queue has a lane.
     ranks: u32,
+    /// The number of the next entry.
     next: u32,
+    /// The queues, by their numbers.
     queues: Sequence<QueueRings>,
-    /// Which queues are not broken and have an entry.
+    /// The set of movable queues: those that are not broken and have an entry.
     movable: u32,
 }
 
@@ -87,8 +92,8 @@ impl Model for Lanes {
 }
 
 impl Lanes {
-    /// So many empty queues, each with a lane to each rank and of that depth. All memory for their entries is taken here,
-    /// but for that of the entries' bytes, which a draft brings. (GASPI: queue_create)
+    /// `queues` empty queues of this depth, each with a lane to each rank. All memory of their rings is taken here; that of the
+    /// entries' bytes comes with each draft. (GASPI: queue_create)
     pub fn new(alloc: Global, queues: u32, ranks: u32, depth: u32) -> Result<Lanes, NoMemory>
         requires queues { queues ≤ 8 }
         requires ranks { ranks ≤ 16 }
@@ -118,8 +123,8 @@ impl Lanes {
         self.next
     }
 
-    /// What `post` would answer for so many entries, changing nothing: `BadQueue` where there is no such queue, `QueueBroken`
-    /// where it is broken, `QueueFull` where its open count and the entries are over its depth. (GASPI: write, read, notify)
+    /// Checks that `need` entries may be posted to a queue: there is such a queue (`BadQueue`), it is not broken (`QueueBroken`),
+    /// and its open count stays within the depth (`QueueFull`). (GASPI: write, read, notify)
     pub fn check_post(&self, queue: u64, need: u32) -> Result<(), Refusal>
         ensures { result ≡ post_checks self.now queue need }
     {
@@ -127,8 +132,7 @@ impl Lanes {
         rings.check_depth(need)
     }
 
-    /// Posts entries to the end of a lane, numbered on from the next number. `BadQueue` where there is no such queue,
-    /// `QueueBroken` where it is broken, `QueueFull` where its open count and the entries are over its depth. It takes no
+    /// Posts entries to the end of a lane, with the next numbers. Where `check_post` refuses them, nothing changes. It takes no
     /// memory. (GASPI: write, read, notify)
     pub fn post(&mut self, queue: u64, target: RankId, entries: Entries) -> Result<(), Refusal>
         requires target { target < self.old.ranks }
@@ -146,9 +150,8 @@ impl Lanes {
         Ok(())
     }
 
-    /// The entry of a lane that may take its bytes next, with its number and kind: the first posted one. None exactly where
-    /// there is no such queue or lane, the queue is broken, no entry of the lane is posted, or as many are carried as the
-    /// queue is deep.
+    /// The first posted entry of a lane, where its take may come, with number and kind. None exactly where there is no such queue or
+    /// lane, the queue is broken, no entry of the lane is posted, or as many are carried as the depth says.
     pub fn front_posted(&self, queue: u64, target: RankId) -> Option<&PostedEntry>
         ensures { option_copied result ≡ front_posted_of self.now queue target }
     {
@@ -156,8 +159,8 @@ impl Lanes {
         rings.front_posted(target)
     }
 
-    /// The entry of a lane that may be put next: the first carried one, which is the head of the lane. None exactly where
-    /// there is no such queue or lane, the queue is broken, or no entry of the lane is carried.
+    /// The first carried entry of a lane, where its put may come: it is the head of the lane. None exactly where there is no such
+    /// queue or lane, the queue is broken, or no entry of the lane is carried.
     pub fn front_carried(&self, queue: u64, target: RankId) -> Option<&Entry>
         ensures answer { option_copied result ≡ front_carried_of self.now queue target }
         ensures head { IfSome result (λ e. head_of self.now queue target ≡ Some e.now) }
@@ -166,8 +169,8 @@ impl Lanes {
         rings.front_carried(target)
     }
 
-    /// The least target to which a queue has a lane with an entry. None exactly where there is no such queue, or no lane of
-    /// it has an entry. No lane is walked over. (GASPI: one-sided communication)
+    /// The least target to which a queue has a nonempty lane. None exactly where there is no such queue, or it has no entry. No lane
+    /// is walked over. (GASPI: one-sided communication)
     pub fn nonempty_lane(&self, queue: u64) -> Option<RankId>
         ensures { result ≡ nonempty_of self.now queue }
     {
@@ -175,7 +178,7 @@ impl Lanes {
         rings.nonempty_lane()
     }
 
-    /// The least target from a number on to which a queue that is not broken has a nonempty lane.
+    /// The least target from `from` on to which a queue has a movable lane; None where there is none.
     fn lane_from(&self, queue: QueueId, from: u32) -> Option<RankId>
         requires { from < 32 }
         ensures { AnswersLeast (is_movable_lane self.now.queues queue) from result }
@@ -184,7 +187,7 @@ impl Lanes {
         rings.movable_lane_from(from)
     }
 
-    /// The least queue from a number on that is not broken and has a nonempty lane.
+    /// The least movable queue from `from` on; None where there is none.
     fn queue_from(&self, from: u32) -> Option<QueueId>
         requires { from < 32 }
         ensures { AnswersLeast (is_movable_queue self.now.queues) from result }
@@ -194,9 +197,9 @@ impl Lanes {
         Some(QueueId::of(queue))
     }
 
-    /// The next nonempty lane of a queue that is not broken, in cyclic order by queue and target, after a lane: who asks again
-    /// and again after the lane that was answered comes to every such lane. None exactly where there is none; then one word is
-    /// read. No lane and no queue is walked over. (own choice)
+    /// The next movable lane after the lane `after`, in cyclic order by queue and target. Calls that go on from the lane of the last
+    /// answer reach every movable lane. None exactly where no lane is movable; then one word is read. No lane and no queue is walked
+    /// over. (own choice)
     pub fn next_lane(&self, after: (QueueId, RankId)) -> Option<(QueueId, RankId)>
         ensures none { IfNone result ((queue target : ℕ) → is_movable_lane self.now.queues queue target ≡ false) }
         ensures next { IfSome result (IsNextLane self.now.queues after) }
@@ -211,7 +214,7 @@ impl Lanes {
         Some((next, head))
     }
 
-    /// The entry of `front_posted` takes its bytes, and stays in its place. It takes no memory.
+    /// Makes the entry of `front_posted` carried, with its bytes. It keeps its position. It takes no memory.
     pub fn mark_carried(&mut self, queue: u64, target: RankId, bytes: &[u8])
         requires { IsSomeAnd (front_posted_of self.old queue target) (λ (e : Entry). length bytes.now ≡ payload_size e.kind) }
         ensures { self.new ≡ with_queue self.old queue (carried_in target bytes.now) }
@@ -221,7 +224,7 @@ impl Lanes {
         self.movable = movable_after(self.movable, &self.queues, place);
     }
 
-    /// The entry of `front_carried` goes.
+    /// Removes the entry of `front_carried`. The open count of its queue stays.
     pub fn remove(&mut self, queue: u64, target: RankId)
         requires { IsSome (front_carried_of self.old queue target) }
         ensures { self.new ≡ with_queue self.old queue (put_done_in target) }
@@ -231,7 +234,8 @@ impl Lanes {
         self.movable = movable_after(self.movable, &self.queues, place);
     }
 
-    /// The entry of `front_posted` fails in its place, and the queue is broken with its target. (GASPI: state vector)
+    /// Makes the entry of `front_posted` failed, which keeps its position, and breaks the queue with its target. The state vector is
+    /// not changed here. (GASPI: state vector)
     pub fn fail_posted(&mut self, queue: u64, target: RankId)
         requires { IsSome (front_posted_of self.old queue target) }
         ensures { self.new ≡ with_queue self.old queue (posted_failed_in target) }
@@ -241,7 +245,8 @@ impl Lanes {
         self.movable = movable_after(self.movable, &self.queues, place);
     }
 
-    /// The entry of `front_carried` fails in its place, and the queue is broken with its target. (GASPI: state vector)
+    /// Makes the entry of `front_carried` failed, which keeps its position, and breaks the queue with its target. The state vector
+    /// is not changed here. (GASPI: state vector)
     pub fn fail_carried(&mut self, queue: u64, target: RankId)
         requires { IsSome (front_carried_of self.old queue target) }
         ensures { self.new ≡ with_queue self.old queue (head_failed_in target) }
@@ -251,7 +256,8 @@ impl Lanes {
         self.movable = movable_after(self.movable, &self.queues, place);
     }
 
-    /// The least queue with an entry that uses an own segment. None for a number over 31. (GASPI: segments)
+    /// The least queue with an entry that uses an own segment; None where no queue has one, and for a number over 31.
+    /// (GASPI: segments)
     pub fn uses(&self, segment: u64) -> Option<u32>
         ensures user { segment < 32 → result ≡ user_of self.now.queues segment }
         ensures none { 32 ≤ segment → result ≡ None }
@@ -262,8 +268,8 @@ impl Lanes {
         user_place(self.queues.as_slice(), segment).map(|place| place as u32)
     }
 
-    /// Whether no entry of a queue has still to be waited for. `BadQueue` where there is no such queue, `QueueBroken` where
-    /// it is broken. (GASPI: wait)
+    /// Whether no entry of a queue is awaited: `BadQueue` where there is no such queue, `QueueBroken` where it is broken.
+    /// (GASPI: wait)
     pub fn wait_ready(&self, queue: u64) -> Result<bool, Refusal>
         ensures { result ≡ wait_checks self.now.queues queue }
     {
@@ -271,7 +277,7 @@ impl Lanes {
         rings.wait_ready()
     }
 
-    /// The open count of a queue that is ready returns to 0. (GASPI: wait)
+    /// Makes the open count of a queue 0. No entry of the queue is awaited. (GASPI: wait)
     pub fn close_wait(&mut self, queue: u64)
         requires { wait_checks self.old.queues queue ≡ Ok true }
         ensures { self.new ≡ with_queue self.old queue closed_queue }
@@ -281,7 +287,7 @@ impl Lanes {
         self.movable = movable_after(self.movable, &self.queues, place);
     }
 
-    /// Drops every entry of a queue, which is then as it was when it was made. `BadQueue` where there is no such queue.
+    /// Drops every entry of a queue, and makes its open count 0 and the queue unbroken. `BadQueue` where there is no such queue.
     /// (GASPI: queue_purge)
     pub fn purge(&mut self, queue: u64) -> Result<(), Refusal>
         ensures answer { result ≡ purge_checks self.old.queues queue }
@@ -297,8 +303,7 @@ impl Lanes {
         Ok(())
     }
 
-    /// How many entries were posted to a queue since its last wait that was done, or purge. `BadQueue` where there is no
-    /// such queue. (GASPI: queue_size)
+    /// The open count of a queue. `BadQueue` where there is no such queue. (GASPI: queue_size)
     pub fn open_count(&self, queue: u64) -> Result<u32, Refusal>
         ensures { result ≡ open_count_of self.now.queues queue }
     {
@@ -306,7 +311,7 @@ impl Lanes {
         Ok(rings.open_count())
     }
 
-    /// The events for which room is kept: two for each posted entry, and one for each carried one. (own choice)
+    /// How many events are owed for all entries: two for each posted one, and one for each carried one. (own choice)
     pub fn owed(&self) -> u64
         ensures { result ≡ sum_by queue_owed self.now.queues }
     {

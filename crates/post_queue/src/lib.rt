@@ -1,10 +1,13 @@
-//! The calls that post, and the queues of one origin: for each queue and target a lane of entries, kept in two rings whose memory is taken
-//! when the queues are made. (GASPI: one-sided communication)
+//! The queues of one origin, with a lane for each queue and target; and the entries that a call posts.
 //!
-//! Contracts see `Lanes` as the queues of the machine: a lane is one list of entries, first the carried ones and then the posted ones. They
-//! see a `Draft` as its `Kind`, and the `Entries` of a post as a list of kinds. `build` finds what a call posts, or its first refusal, and
-//! takes all the memory that the post needs, so that posting takes none. Every call says what it answers and what it leaves in the machine's
-//! words.
+//! A lane is kept in two rings, which take their memory when the queues are made: one of posted entries, one of carried and failed
+//! ones. A ring is a list of fixed capacity, where items are appended at the end and removed at the front. The bytes of an entry
+//! have their own memory, which its draft takes: `build` finds what a call posts, or its first refusal, and takes all memory that
+//! the post needs.
+//!
+//! Contracts see `Lanes` as the machine's queues, a lane as one list of entries (first the carried ones, then the posted ones), a
+//! `Draft` as its kind, and `Entries` as a list of kinds. The depth of a queue is the most that its open count may be.
+//! (GASPI: one-sided communication)
 #![tactic(auto)]
 
 mod build_stops;

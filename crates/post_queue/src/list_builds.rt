@@ -1,4 +1,5 @@
-//! The entries that a call posts. (GASPI: one-sided communication)
+//! What a call posts, found before a queue is asked: its entries with capacity for their bytes, or its first refusal. Whether the
+//! queue is broken or full is asked after all that, by `Lanes`. (GASPI: one-sided communication)
 
 ghost use Rattle.std.specs.Prelude.{◌≡◌, ◌≤◌, true, false, length, IfOk};
 ghost use Rattle.gaspi_types.specs.CallRows.{row_of, is_post};
@@ -11,7 +12,7 @@ use gaspi_types::{Call, CallerId, Posting, RankId, Refusal, SegmentTable, Shape}
 use segment_store::call_kinds;
 use std::alloc::Global;
 
-/// Checks that the rank (`BadRank`) and the queue (`BadQueue`) are there to which a call posts.
+/// Checks that the rank (`BadRank`) and the queue (`BadQueue`) to which a call posts are there.
 fn check_lane(shape: &Shape, posting: Option<Posting>) -> Result<(), Refusal>
     ensures { result ≡ lane_checks shape.now.limits posting }
 {
@@ -26,11 +27,11 @@ fn check_lane(shape: &Shape, posting: Option<Posting>) -> Result<(), Refusal>
     Ok(())
 }
 
-/// The entries that a call asks for which posts, in order, with room for the bytes of each; or its first refusal that hangs on no lane:
-/// a list's length, segments, sizes, ranges, its slot, its notification value. So many slots has a segment, and the table is that of
-/// the caller's rank.
+/// The entries that a call asks for, in order, with capacity for the bytes of each; or its first refusal by the table of its
+/// caller's rank `me`: a list's length, segments, sizes, ranges, its slot, its notification value. Rank and queue are not asked.
+/// Each segment has `notes` slots.
 ///
-/// A call whose row says so takes no memory: a notification. (GASPI: write, read, notify, write_list)
+/// A call whose row says that it takes no memory takes none: a notification. (GASPI: write, read, notify, write_list)
 pub fn asked_entries(
     alloc: Global,
     notes: u32,
@@ -47,11 +48,10 @@ pub fn asked_entries(
     Ok(Entries::new(alloc, kinds.as_slice())?)
 }
 
-/// The entries of a call that posts, in order, with room for the bytes of each; or its first refusal: its rank, its queue, a
-/// list's length, segments, sizes, ranges, its slot, its notification value. The table is that of the caller's rank. What a
-/// queue is asked, whether it is broken and has room, comes after all of these.
+/// The entries of a call that posts, in order, with capacity for the bytes of each; or its first refusal: its rank, its queue, then
+/// those of `asked_entries`. `table` is that of the caller's rank.
 ///
-/// A call whose row says so takes no memory: a notification. (GASPI: write, read, notify, write_list)
+/// A call whose row says that it takes no memory takes none: a notification. (GASPI: write, read, notify, write_list)
 pub fn build(
     alloc: Global,
     table: &SegmentTable,

@@ -1,4 +1,4 @@
-//! The entries of one post. (GASPI: one-sided communication)
+//! The entries of one post as drafts, in the order in which they are appended. (GASPI: one-sided communication)
 
 ghost use Rattle.std.specs.Prelude.{◌≡◌, ◌≤◌, length, drop, slice_get, sum_by, IfOk, IsOk};
 ghost use Rattle.post_queue.specs.Payloads.{payload_size};
@@ -9,7 +9,7 @@ use std::alloc::Global;
 use std::collections::VecDeque;
 use std::marker::Model;
 
-/// A draft of each kind, in order. It takes no memory where there is none.
+/// A draft of each kind, in order. It takes no memory where there is no kind.
 fn drafts_of(alloc: Global, kinds: &[Kind]) -> Result<VecDeque<Draft>, NoMemory>
     ensures drafts { IfOk result (λ drafts. drafts.items ≡ kinds.now) }
     ensures empty { length kinds.now ≡ 0 → IsOk result }
@@ -21,13 +21,14 @@ fn drafts_of(alloc: Global, kinds: &[Kind]) -> Result<VecDeque<Draft>, NoMemory>
     Ok(drafts)
 }
 
-/// The entries that are to be posted together, with room for the bytes of each. Contracts see the list of their kinds, in
-/// order.
+/// The entries that are posted together, as drafts. Contracts see the list of their kinds, in order.
 ///
-/// One entry takes no memory but the room for its bytes, so a notification takes none.
+/// One entry takes no memory but that for its bytes, so a notification takes none.
 #[derive(Debug, Drop)]
 pub struct Entries {
+    /// The first draft, which is outside the list so that a single one needs no list; None once it was taken out.
     first: Option<Draft>,
+    /// The drafts after it.
     more: VecDeque<Draft>,
 }
 
@@ -43,7 +44,7 @@ impl Model for Entries {
 }
 
 impl Entries {
-    /// Entries of these kinds. All their room is taken here.
+    /// Drafts of these kinds. All their memory is taken here.
     pub fn new(alloc: Global, kinds: &[Kind]) -> Result<Entries, NoMemory>
         ensures kinds { IfOk result (λ entries. entries ≡ kinds.now) }
         ensures bare { length kinds.now ≤ 1 → sum_by payload_size kinds.now ≡ 0 → IsOk result }
@@ -61,7 +62,7 @@ impl Entries {
         })
     }
 
-    /// How many there are.
+    /// How many drafts there are.
     pub fn len(&self) -> usize
         ensures { result ≡ length self.now }
     {
@@ -69,7 +70,7 @@ impl Entries {
         first + self.more.len()
     }
 
-    /// Takes the first of them out, where there is one.
+    /// Takes the first draft out of the list and gives it; None where there is none.
     pub fn take_first(&mut self) -> Option<Draft>
         ensures first { result ≡ slice_get self.old 0 }
         ensures rest { self.new ≡ drop 1 self.old }

@@ -1,4 +1,5 @@
-//! What is counted of the entries of a queue, so that no call walks over them.
+//! Counts over the entries of a queue, so that no call walks over them: they are raised and lowered as entries come, change their
+//! phase, and go.
 
 ghost use Rattle.std.specs.Prelude.{◌≡◌, ◌<◌, ◌≤◌, ℕ, slice_index};
 ghost use Rattle.post_queue.specs.QueueCounts.{no_counts, with_entry, without_entry, with_user, without_user, AreBounded};
@@ -6,16 +7,18 @@ ghost use Rattle.post_queue.specs.QueueCounts.{no_counts, with_entry, without_en
 use crate::kinds::{PhaseKind, awaited_count, events_owed, used_segment};
 use gaspi_types::Kind;
 
-/// Counts over the entries of a queue: those that a wait waits for, the events for which room is kept, and for each own
-/// segment the entries that use it.
+/// Counts over the entries of a queue.
 #[derive(Debug, Drop)]
 pub struct QueueCounts {
+    /// How many are awaited.
     pub awaited: u32,
+    /// How many events are owed for them.
     pub owed: u32,
+    /// For each own segment how many of them use it.
     pub users: [u32; 32],
 }
 
-/// One entry more uses a segment.
+/// Counts one entry more that uses the segment `used`, if there is one.
 fn raise_user(users: &mut [u32; 32], used: Option<u32>)
     requires { (segment : ℕ) → slice_index users.old segment ≤ 65535 }
     ensures { users.new ≡ with_user used users.old }
@@ -31,7 +34,7 @@ fn raise_user(users: &mut [u32; 32], used: Option<u32>)
     }
 }
 
-/// One entry less uses a segment.
+/// Counts one entry less that uses the segment `used`, if there is one.
 fn lower_user(users: &mut [u32; 32], used: Option<u32>)
     ensures { users.new ≡ without_user used users.old }
 {
@@ -47,7 +50,7 @@ fn lower_user(users: &mut [u32; 32], used: Option<u32>)
 }
 
 impl QueueCounts {
-    /// Nothing is counted.
+    /// The counts of a queue with no entry.
     pub fn new() -> QueueCounts
         ensures { result ≡ no_counts }
     {
@@ -58,7 +61,7 @@ impl QueueCounts {
         }
     }
 
-    /// Counts an entry.
+    /// Counts an entry of this kind in this phase.
     pub fn add(&mut self, kind: &Kind, progress: PhaseKind)
         requires { AreBounded self.old }
         ensures { self.new ≡ with_entry self.old kind.now progress }
@@ -68,7 +71,7 @@ impl QueueCounts {
         raise_user(&mut self.users, used_segment(kind, progress));
     }
 
-    /// Counts an entry no more.
+    /// Counts an entry of this kind in this phase no more.
     pub fn subtract(&mut self, kind: &Kind, progress: PhaseKind)
         ensures { self.new ≡ without_entry self.old kind.now progress }
     {

@@ -1,4 +1,6 @@
-//! One queue: its lanes, its open count, its broken mark. (GASPI: one-sided communication)
+//! One queue: its open count, its broken mark, and for each target a lane in two rings, which are lists of fixed capacity; with
+//! counts and marks, so that no function walks over its entries. `Lanes` has the queues, and its functions are those of one queue
+//! here. (GASPI: one-sided communication)
 
 ghost use Rattle.std.specs.Prelude.{◌≡◌, ◌+◌, ◌<◌, ◌≤◌, ◌^◌, true, [], ◌∷◌, length, map, replicate, slice_get, sum_by, None, Some, Ok, option_copied, IfOk, IfSome, IsSome, IsSomeAnd};
 ghost use Rattle.std.specs.List.{list_any};
@@ -22,7 +24,7 @@ use gaspi_types::{Entry, NoMemory, RankId, Refusal, Sequence};
 use std::alloc::Global;
 use std::marker::Model;
 
-/// So many empty lanes.
+/// `ranks` empty lanes, each with capacity for the depth.
 fn empty_lanes(alloc: Global, ranks: usize, depth: u32) -> Result<Sequence<LaneRings>, NoMemory>
     ensures { IfOk result (λ lanes. lanes ≡ replicate ranks (record { depth = depth; entries = [] })) }
 {
@@ -33,7 +35,7 @@ fn empty_lanes(alloc: Global, ranks: usize, depth: u32) -> Result<Sequence<LaneR
     Ok(lanes)
 }
 
-/// All entries of all lanes go.
+/// Drops all entries of these lanes, and keeps the memory of their rings.
 fn clear_lanes(lanes: &mut Sequence<LaneRings>)
     ensures { lanes.new ≡ cleared_prefix (length lanes.old) lanes.old }
 {
@@ -42,14 +44,20 @@ fn clear_lanes(lanes: &mut Sequence<LaneRings>)
     }
 }
 
-/// A queue with the counts of its entries. Contracts see the machine's queue, and its depth.
+/// A queue with counts over its entries. Contracts see the machine's queue, and its depth.
 #[derive(Drop)]
 pub struct QueueRings {
+    /// The most that its open count may be.
     depth: u32,
+    /// How many entries were posted to it since its last `wait` or `purge` that was done.
     open_count: u32,
+    /// The target of its failed entry, if it has one.
     broken: Option<RankId>,
+    /// For each target its lane.
     lanes: Sequence<LaneRings>,
+    /// The counts over its entries: awaited, owed, users of each segment.
     tally: QueueCounts,
+    /// The set of the targets whose lanes have an entry.
     nonempty: u32,
 }
 
@@ -64,7 +72,7 @@ impl Model for QueueRings {
 }
 
 impl QueueRings {
-    /// The empty queue, with all the memory that it will need.
+    /// The empty queue. All memory of its rings is taken here; that of the entries' bytes comes with each draft.
     pub fn new(alloc: Global, ranks: usize, depth: u32) -> Result<QueueRings, NoMemory>
         requires ranks { ranks ≤ 16 }
         requires depth { depth ≤ 256 }
@@ -80,7 +88,8 @@ impl QueueRings {
         })
     }
 
-    /// Whether so many entries may be posted.
+    /// Checks that `need` entries may be posted: the queue is not broken (`QueueBroken`), and its open count stays within the depth
+    /// (`QueueFull`).
     pub fn check_depth(&self, need: u32) -> Result<(), Refusal>
         ensures { result ≡ depth_checks self.now.depth need self.now.queue }
     {
@@ -99,7 +108,7 @@ impl QueueRings {
         Ok(())
     }
 
-    /// Posts one entry.
+    /// Posts one entry of a draft, with this number. The open count is below the depth. It takes no memory.
     fn post_one(&mut self, target: RankId, number: u32, draft: Draft)
         requires target { target < length self.old.queue.lanes }
         requires room { self.old.queue.open_count < self.old.depth }
@@ -112,7 +121,8 @@ impl QueueRings {
         self.open_count += 1;
     }
 
-    /// Posts entries, numbered on from a number.
+    /// Posts entries, with numbers from `first` on. The open count stays within the depth, as `check_depth` asks. It takes no
+    /// memory.
     pub fn post(&mut self, target: RankId, first: u32, entries: Entries)
         requires target { target < length self.old.queue.lanes }
         requires room { self.old.queue.open_count + length entries ≤ self.old.depth }
@@ -127,7 +137,8 @@ impl QueueRings {
         }
     }
 
-    /// The entry of a lane that may take its bytes next.
+    /// The first posted entry of the lane to a target, where its take may come: the queue is not broken, and fewer entries of the
+    /// lane are carried than the depth.
     pub fn front_posted(&self, target: RankId) -> Option<&PostedEntry>
         ensures { option_copied result ≡ front_posted_in self.now.depth target self.now.queue }
     {
@@ -141,7 +152,7 @@ impl QueueRings {
         lane.front_posted()
     }
 
-    /// The entry of a lane that may be put next.
+    /// The first carried entry of the lane to a target, where its put may come: the queue is not broken. It is the head of the lane.
     pub fn front_carried(&self, target: RankId) -> Option<&Entry>
         ensures answer { option_copied result ≡ front_carried_in target self.now.queue }
         ensures head { IfSome result (λ e. head_in target self.now.queue ≡ Some e.now) }
@@ -153,7 +164,7 @@ impl QueueRings {
         lane.front_carried()
     }
 
-    /// The entry that may take its bytes next takes them.
+    /// Makes the entry of `front_posted` carried, with its bytes. It keeps its position. It takes no memory.
     pub fn mark_carried(&mut self, target: RankId, bytes: &[u8])
         requires { IsSomeAnd (front_posted_in self.old.depth target self.old.queue) (λ (e : Entry). length bytes.now ≡ payload_size e.kind) }
         ensures { self.new ≡ state_of self.old.depth (carried_in target bytes.now self.old.queue) }
@@ -163,7 +174,7 @@ impl QueueRings {
         self.tally.subtract(&kind, PhaseKind::Posted);
     }
 
-    /// The entry that may take its bytes next fails, and breaks the queue.
+    /// Makes the entry of `front_posted` failed, which keeps its position, and breaks the queue.
     pub fn fail_posted(&mut self, target: RankId)
         requires { IsSome (front_posted_in self.old.depth target self.old.queue) }
         ensures { self.new ≡ state_of self.old.depth (posted_failed_in target self.old.queue) }
@@ -174,7 +185,7 @@ impl QueueRings {
         self.broken = Some(target);
     }
 
-    /// The entry that may be put next fails, and breaks the queue.
+    /// Makes the entry of `front_carried` failed, which keeps its position, and breaks the queue.
     pub fn fail_carried(&mut self, target: RankId)
         requires { IsSome (front_carried_in target self.old.queue) }
         ensures { self.new ≡ state_of self.old.depth (head_failed_in target self.old.queue) }
@@ -185,7 +196,7 @@ impl QueueRings {
         self.broken = Some(target);
     }
 
-    /// The entry that may be put next goes.
+    /// Removes the entry of `front_carried`. The open count stays.
     pub fn remove(&mut self, target: RankId)
         requires { IsSome (front_carried_in target self.old.queue) }
         ensures { self.new ≡ state_of self.old.depth (put_done_in target self.old.queue) }
@@ -197,7 +208,7 @@ impl QueueRings {
         self.tally.subtract(&kind, PhaseKind::Carried);
     }
 
-    /// The least target whose lane has an entry. No lane is walked over.
+    /// The least target whose lane has an entry; None where no lane has one. No lane is walked over.
     pub fn nonempty_lane(&self) -> Option<RankId>
         ensures { result ≡ nonempty_in self.now.queue }
     {
@@ -205,14 +216,14 @@ impl QueueRings {
         first_member(self.nonempty)
     }
 
-    /// Whether it is not broken, and has a nonempty lane. No lane is walked over.
+    /// Whether the queue is not broken and has a nonempty lane. No lane is walked over.
     pub fn is_movable(&self) -> bool
         ensures { result ≡ is_movable self.now.queue }
     {
         self.broken.is_none() && self.nonempty_lane().is_some()
     }
 
-    /// The least target from a number on whose lane has an entry, where the queue is not broken. No lane is walked over.
+    /// The least target from `from` on whose lane is movable; None where none is. No lane is walked over.
     pub fn movable_lane_from(&self, from: u32) -> Option<RankId>
         requires { from < 32 }
         ensures { AnswersLeast (is_movable_to (Some self.now.queue)) from result }
@@ -234,7 +245,7 @@ impl QueueRings {
         self.tally.users[segment as usize] != 0
     }
 
-    /// The events for which room is kept.
+    /// How many events are owed for its entries.
     pub fn owed(&self) -> u32
         ensures value { result ≡ queue_owed self.now.queue }
         ensures bound { result ≤ 16384 }
@@ -243,14 +254,14 @@ impl QueueRings {
         self.tally.owed
     }
 
-    /// How many entries were posted since the last wait that was done, or purge.
+    /// The open count.
     pub fn open_count(&self) -> u32
         ensures { result ≡ self.now.queue.open_count }
     {
         self.open_count
     }
 
-    /// Whether no entry has still to be waited for.
+    /// Whether no entry is awaited; `QueueBroken` where the queue is broken.
     pub fn wait_ready(&self) -> Result<bool, Refusal>
         ensures { result ≡ wait_in self.now.queue }
     {
@@ -263,7 +274,7 @@ impl QueueRings {
         Ok(self.tally.awaited == 0)
     }
 
-    /// The open count returns to 0.
+    /// Makes the open count 0. No entry is awaited.
     pub fn close_wait(&mut self)
         requires { wait_in self.old.queue ≡ Ok true }
         ensures { self.new ≡ state_of self.old.depth (closed_queue self.old.queue) }
@@ -272,7 +283,7 @@ impl QueueRings {
         self.open_count = 0;
     }
 
-    /// All entries go.
+    /// Drops all entries, and makes the open count 0 and the queue unbroken. The memory of its rings is kept.
     pub fn purge(&mut self)
         ensures { self.new ≡ state_of self.old.depth (purged_queue self.old.queue) }
     {

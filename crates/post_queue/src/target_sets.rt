@@ -1,4 +1,5 @@
-//! Sets of targets, and of queues, as one number: bit r is the mark of rank r, or of queue r. (own choice)
+//! Sets of targets, and of queues, as one number: bit r is 1 where rank r, or queue r, is in the set. The code marks nonempty lanes
+//! and movable queues by them. (own choice)
 
 ghost use Rattle.std.specs.Prelude.{◌≡◌, ◌≢◌, ℕ, ◌<◌, ◌≤◌, true, false, IfSome, IfNone};
 ghost use Rattle.gaspi_types.specs.Masks.{is_member};
@@ -6,7 +7,7 @@ ghost use Rattle.post_queue.specs.LeastFrom.{AnswersLeast};
 
 use gaspi_types::RankId;
 
-/// A set in which a number is a member, or is not, as said. Every other member stays.
+/// The set with a number in it, or not in it, as `member` says. For every other number it is as before.
 pub fn set_number(mask: u32, number: u32, member: bool) -> u32
     requires { number < 32 }
     ensures here { is_member result number ≡ member }
@@ -16,7 +17,7 @@ pub fn set_number(mask: u32, number: u32, member: bool) -> u32
     if member { mask | bit } else { mask & !bit }
 }
 
-/// A set in which a target is a member, or is not, as said. Every other member stays.
+/// The set with a target in it, or not in it, as `member` says. For every other target it is as before.
 pub fn set_member(mask: u32, target: RankId, member: bool) -> u32
     ensures here { is_member result target ≡ member }
     ensures others { (other : ℕ) → other < 32 → other ≢ target → is_member result other ≡ is_member mask other }
@@ -24,7 +25,7 @@ pub fn set_member(mask: u32, target: RankId, member: bool) -> u32
     set_number(mask, target.number(), member)
 }
 
-/// The least member of a set of targets below 16. None exactly for the empty set.
+/// The least target of a set of targets below 16. None exactly for the empty set.
 pub fn first_member(mask: u32) -> Option<RankId>
     requires { (other : ℕ) → 16 ≤ other → other < 32 → is_member mask other ≡ false }
     ensures bound { IfSome result (λ target. target < 16) }
@@ -38,7 +39,7 @@ pub fn first_member(mask: u32) -> Option<RankId>
     Some(RankId::of(mask.trailing_zeros()))
 }
 
-/// The least member of a set from a number on. None exactly where there is none.
+/// The least number of a set from `from` on. None exactly where there is none.
 pub fn member_from(mask: u32, from: u32) -> Option<u32>
     requires { from < 32 }
     ensures least { AnswersLeast (is_member mask) from result }

@@ -1,7 +1,7 @@
--- For how many numbers memory was taken.
+-- The lengths of the lists that are reserved for the numbers of an allreduce.
 use Rattle.std.specs.Prelude.{ℕ}
 
--- for the values of what is pending, for the answer in its event, and for the answer to the caller
+-- for the values of the pending collective, for the reply in its event, and for the reply to the caller
 pub record NumberCapacities : Type 0 where
   pub values : ℕ
   pub event : ℕ

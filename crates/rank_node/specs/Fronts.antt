@@ -12,25 +12,26 @@ use Rattle.post_queue.specs.LanesStates.{front_posted_of, front_carried_of, head
 use Rattle.rank_node.specs.Transfers.{lanes_of}
 use Rattle.rank_node.specs.Values.{PostsValue}
 
--- the transfer of an entry of a rank's lane
+-- the take or the put of an entry of a lane
 abbrev pub entry_transfer : ℕ → ℕ → ℕ → Bool → Entry → Transfer
 entry_transfer origin queue target put e = record { origin = origin; queue = queue; target = target; number = e.number; put = put }
 
--- of what may be put next a put, else of what may take its bytes next a take
+-- the put of the first entry, if there is one, else the take of the second
 abbrev pub front_with : ℕ → ℕ → ℕ → Option Entry → Option Entry → Option Transfer
 front_with origin queue target (Some e) takes = Some (entry_transfer origin queue target true e)
 front_with origin queue target None (Some e) = Some (entry_transfer origin queue target false e)
 front_with origin queue target None None = None
 
+-- the front of a lane, or none
 abbrev pub front_of : PostsValue → ℕ → ℕ → Option Transfer
 front_of p queue target = front_with p.me queue target (front_carried_of (lanes_of p) queue target) (front_posted_of (lanes_of p) queue target)
 
--- the entry of a transfer that is a front
+-- the entry of a transfer that is the front of its lane
 abbrev pub front_entry : PostsValue → Transfer → Option Entry
 front_entry p t = if t.put then front_carried_of (lanes_of p) t.queue t.target else front_posted_of (lanes_of p) t.queue t.target
 
--- A transfer is the front of its lane: of the entry that may be put next, which is the head of the lane, or of the one that may take
--- its bytes next.
+-- A transfer is the front of its lane: the put of the first carried entry, which is the head of the lane, or the take of the first
+-- posted one.
 pub record IsFront (p : PostsValue) (t : Transfer) : Type 0 where
   pub mine : t.origin ≡ p.me
   pub entry : Entry
@@ -38,14 +39,14 @@ pub record IsFront (p : PostsValue) (t : Transfer) : Type 0 where
   pub next : front_entry p t ≡ Some entry
   pub head : t.put ≡ true → head_of (lanes_of p) t.queue t.target ≡ Some entry
 
--- how the transfer of an entry ends that works on a memory (state vector)
+-- the outcome of a put or a take of an entry of this kind on a memory (state vector)
 abbrev pub outcome_on : Memory → Bool → Kind → Outcome
 outcome_on memory put kind = if put then put_outcome memory kind else take_outcome memory kind
 
--- how a transfer ends that is the front of its lane and works on a memory
+-- the outcome of the front of a lane on a memory
 abbrev pub front_outcome : PostsValue → Memory → Transfer → Option Outcome
 front_outcome p memory t = option_map (λ (e : Entry). outcome_on memory t.put e.kind) (front_entry p t)
 
--- the footprint of the transfer of an entry of that kind, in a world of so many ranks
+-- the footprint of the transfer of an entry of this kind, in a world of `ranks` ranks
 abbrev pub transfer_footprint : ℕ → Transfer → Kind → Footprint
 transfer_footprint ranks t kind = footprint_of ranks t.origin (if t.put then put_footprint t.target kind else take_footprint t.target kind)

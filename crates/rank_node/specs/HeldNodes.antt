@@ -5,7 +5,7 @@ use Rattle.rank_node.specs.declared.held_nodes.OtherNode.TheVariants.{Nothing, R
 use Rattle.rank_node.specs.declared.nodes.Node.{Node}
 use Rattle.rank_node.specs.declared.nodes.GroupNode.{GroupNode}
 
--- the node of another rank, and that of a group, where the other node is one
+-- the other node as the node of a peer, and as that of a group; none where it is not of that kind
 abbrev pub peer_of : OtherNode → Option Node
 peer_of Nothing = None
 peer_of (Rank n) = Some n.value

@@ -1,4 +1,4 @@
--- What contracts see of the two values of a rank, its posts and its memory.
+-- What contracts see of `NodePosts` and of `NodeMemory`.
 use Rattle.std.specs.Prelude.{ℕ, List}
 use Rattle.gaspi_types.specs.declared.shapes.Limits.{Limits}
 use Rattle.gaspi_model.specs.declared.states.Posts.{Posts}
@@ -13,7 +13,7 @@ pub record PostsValue : Type 0 where
   pub posts : Posts
   pub journal : List PlacedEvent
 
--- how many messages its inbox holds at most, and its memory in the words of the machine
+-- The most messages that its inbox may have, and its memory in the words of the machine.
 pub record MemoryValue : Type 0 where
   pub capacity : ℕ
   pub memory : Memory

@@ -1,4 +1,6 @@
-//! A collective is recorded with its reply. (GASPI: collectives)
+//! The step by a collective with its reply, on the own node and the node of its group. `complete` is the step, and `refuse` that of
+//! a collective on a number over 7; the other functions are helpers of `complete`. `me` is the caller's rank. None takes memory.
+//! (GASPI: collectives)
 
 ghost use Rattle.std.specs.Prelude.{◌≡◌, ℕ, true, false, Option, None, Some};
 ghost use Rattle.gaspi_types.specs.CallRows.{row_of};
@@ -24,7 +26,7 @@ use gaspi_types::{
 use plain_calls::is_refused_or_timeout;
 use segment_store::set_known;
 
-/// Makes a segment of each of these ranks known, in the generation in which the rank has made it. (GASPI: segment_create)
+/// Makes segment `seg` of each of these ranks known in `table`, in the generation in which the rank made it. (GASPI: segment_create)
 fn make_known(table: &mut SegmentTable, made: &[MemberSegment], seg: u64, size: u32)
     ensures { table.new ≡ with_all_known seg size made.now table.old }
 {
@@ -41,8 +43,9 @@ fn make_known(table: &mut SegmentTable, made: &[MemberSegment], seg: u64, size: 
     }
 }
 
-/// What a collective changes of its rank's groups and segments as it completes: a commit marks its group as committed, and a segment
-/// that was made is known of all members. (GASPI: group_commit, segment_create)
+/// Changes the own posts as the kind of a collective asks at its completion: a `commit` makes the stage of its group committed, a
+/// create makes the new segment of each member known. What is pending, the rounds and the count of events stay.
+/// (GASPI: group_commit, segment_create)
 fn apply_effect(own: &mut NodePosts, group: &GroupNode, me: RankId, id: GroupId, call: &Call)
     requires built { IsBuiltYet own.old.posts.groups id call.now }
     requires bounded { CompletionIsBounded call.now }
@@ -64,7 +67,7 @@ fn apply_effect(own: &mut NodePosts, group: &GroupNode, me: RankId, id: GroupId,
     }
 }
 
-/// A rank leaves its round, which is full.
+/// Completes the round of `me`, which is full: the group counts one completed round more for that rank. The rank's posts stay.
 fn leave(group: &mut GroupNode, me: RankId)
     requires { (g : Group) × MayLeave g group.old me }
     ensures { (g : Group) → IsGroupNode g group.old → IsGroupNode (with_completed g me) group.new }
@@ -73,7 +76,8 @@ fn leave(group: &mut GroupNode, me: RankId)
     group.rounds.leave(me);
 }
 
-/// A collective of a thread completes.
+/// Makes the effect of the completion of a collective of a thread: on the own posts, with none pending on the group, and one
+/// completed round more for `me`. The event is not counted.
 fn complete_round(
     own: &mut NodePosts,
     group: &mut GroupNode,
@@ -92,7 +96,8 @@ fn complete_round(
     leave(group, me);
 }
 
-/// What a collective with a reply leaves, its event not counted: a refusal or a timeout nothing.
+/// Makes the effect of a collective with its reply: that of its completion, or nothing for a refusal or a timeout. The event is not
+/// counted.
 fn apply_completion(
     own: &mut NodePosts,
     group: &mut GroupNode,
@@ -111,8 +116,8 @@ fn apply_completion(
     }
 }
 
-/// Records a collective of a caller with its reply: the step by the call, which is recorded at its place. It completes, or is refused
-/// or not ready in time. It takes no memory. (GASPI: collectives, timeouts)
+/// Makes the step by a collective with its reply, recorded at `place`: the collective is completed, or refused, or not ready in
+/// time. It takes no memory. (GASPI: collectives, timeouts)
 pub(crate) fn complete(
     own: &mut Node,
     group: &mut GroupNode,
@@ -133,7 +138,8 @@ pub(crate) fn complete(
         .add_event(place, Event::Called(caller, call, reply));
 }
 
-/// Records a collective of a caller on a group that is not there, since its number is over 7: it is refused.
+/// Makes the step by a collective on a group whose number is over 7, recorded at `place`: its reply is a refusal, and nothing but
+/// the rank journal changes. It takes no memory.
 pub(crate) fn refuse(own: &mut Node, place: u64, caller: CallerId, call: Call, reply: Reply)
     requires named { (id : ℕ) × ((row_of call).group ≡ Some id) }
     requires step { MayStepOn (Called caller call reply) own.old None }

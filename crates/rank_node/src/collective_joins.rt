@@ -1,4 +1,5 @@
-//! A collective joins its group. (GASPI: collectives, segment_create)
+//! The step by a join, on the own node and the node of the group. `join` is the step; the other functions are its helpers. None
+//! takes memory: the list for the values and the segment of a create were reserved before. (GASPI: collectives, segment_create)
 
 ghost use Rattle.std.specs.Prelude.{◌≡◌, ◌≤◌, true, length, Option, None, Some, IfSome};
 ghost use Rattle.gaspi_types.specs.Tables.{item_at};
@@ -23,7 +24,7 @@ use crate::reserved_numbers::{ReservedNumbers, copied_args, take_numbers};
 use gaspi_types::{Args, CallerId, Coll, Event, GroupId, RankId, ThreadId};
 use segment_store::{add_own, next_generation};
 
-/// The generation of the segment that a collective makes as it joins; 0 where it makes none. (GASPI: segment_create)
+/// The generation of the segment that a collective makes at its join; 0 where it makes none. (GASPI: segment_create)
 fn made_generation(own: &NodePosts, coll: Coll) -> u32
     ensures { result ≡ made_generation own.now.posts coll }
 {
@@ -33,7 +34,7 @@ fn made_generation(own: &NodePosts, coll: Coll) -> u32
     }
 }
 
-/// Adds the segment that a collective makes to the table of its rank. (GASPI: segment_create)
+/// Adds the segment of a create to the table of own segments. Every other collective changes nothing. (GASPI: segment_create)
 fn add_made(own: &mut NodePosts, coll: Coll)
     requires { JoinIsBounded own.old.posts coll }
     ensures { own.new ≡ record own.old { posts = made_posts own.old.posts coll } }
@@ -43,7 +44,8 @@ fn add_made(own: &mut NodePosts, coll: Coll)
     }
 }
 
-/// Makes a collective of a thread pending.
+/// Makes a collective of a thread pending on group `id`, on which none is, and adds the segment of a create to the table of own
+/// segments.
 fn add_pending(own: &mut NodePosts, thread: ThreadId, id: GroupId, args: Args)
     requires none { item_at own.old.posts.pending id ≡ None }
     requires bounded { JoinIsBounded own.old.posts args.coll }
@@ -53,7 +55,7 @@ fn add_pending(own: &mut NodePosts, thread: ThreadId, id: GroupId, args: Args)
     own.pending.put_in(id, thread, args);
 }
 
-/// Puts a segment that was made at its number, if one was.
+/// Puts a made segment under an id; None changes nothing.
 fn insert_if_made(memory: &mut NodeMemory, seg: u64, made: Option<MadeSegment>)
     ensures made { IfSome made (λ made. memory.new ≡ with_made memory.old seg made) }
     ensures none { made ≡ None → memory.new ≡ memory.old }
@@ -64,7 +66,7 @@ fn insert_if_made(memory: &mut NodeMemory, seg: u64, made: Option<MadeSegment>)
     }
 }
 
-/// Puts the segment that a collective makes into the memory of its rank. (GASPI: segment_create)
+/// Puts the made segment of a create into the memory of its rank. Every other collective changes nothing. (GASPI: segment_create)
 fn insert_made(memory: &mut NodeMemory, coll: Coll, made: Option<MadeSegment>)
     ensures { (own : PostsValue) → IsMadeFor own coll made → memory.new ≡ record memory.old { memory = made_memory own.limits own.posts memory.old.memory coll } }
 {
@@ -74,7 +76,8 @@ fn insert_made(memory: &mut NodeMemory, coll: Coll, made: Option<MadeSegment>)
     }
 }
 
-/// A rank joins a group, with the generation of the segment that it makes: a commit fixes the group's list of ranks.
+/// Adds a contribution of `me` to its round, with the generation of its new segment; a `commit` fixes the member list. Both fit, as
+/// the look has found.
 fn join_group(group: &mut GroupNode, me: RankId, args: &Args, generation: u32)
     requires may { may_join group.old.rounds me args.now.coll ≡ true }
     requires values { HasItsValues args.now }
@@ -87,7 +90,8 @@ fn join_group(group: &mut GroupNode, me: RankId, args: &Args, generation: u32)
     let _ = group.rounds.join(me, args, generation);
 }
 
-/// What a join leaves, its event not counted: the rank has contributed, its segment is there, and its collective is pending.
+/// Makes the effect of a join, its event not counted: the rank has contributed, the segment of a create is there, and the collective
+/// is pending. `kept` are equal arguments, which the pending collective keeps.
 fn apply_join(
     own: &mut Node,
     group: &mut GroupNode,
@@ -111,8 +115,8 @@ fn apply_join(
     add_pending(&mut own.posts, caller.thread, id, kept);
 }
 
-/// A collective of a caller joins: the step by its join, which is recorded at its place. It takes no memory: the values that are
-/// kept as pending go into the room's list, and the segment was made before. (GASPI: collectives, segment_create)
+/// Makes the step by the join of a collective, recorded at `place`. The arguments that stay pending are a copy, its values in the
+/// list of `room`; the segment of a create was made before, in `made`. It takes no memory. (GASPI: collectives, segment_create)
 pub(crate) fn join(
     own: &mut Node,
     group: &mut GroupNode,

@@ -1,4 +1,6 @@
-//! What a look at a collective finds. (GASPI: collectives, timeouts)
+//! The answer of a look at a collective, on the posts of the caller's rank and the node of the group. `look` is the look itself,
+//! `look_nowhere` that on a number over 7, for which there is no group, and `look_again` the second look after a join, in reserved
+//! memory. The other functions are their helpers. Posts and group do not change. (GASPI: collectives, timeouts)
 
 ghost use Rattle.std.specs.Prelude.{◌≡◌, ◌≤◌, ◌<◌, ℕ, true, false, Some, IfOk, IsOk, length};
 ghost use Rattle.std.specs.Option.{option_copied};
@@ -26,7 +28,7 @@ use plain_calls::{args_of, called_on, check_fixed, collective_ready};
 use segment_store::check_alloc;
 use std::alloc::Global;
 
-/// Checks the segment that a collective makes, if it does. (GASPI: segment_create)
+/// Checks the segment that a create is to make, as `alloc` does. Every other collective passes. (GASPI: segment_create)
 fn check_segment(own: &NodePosts, call: &Call) -> Result<(), Refusal>
     ensures { result ≡ segment_checks own.now.posts call.now }
 {
@@ -36,7 +38,8 @@ fn check_segment(own: &NodePosts, call: &Call) -> Result<(), Refusal>
     }
 }
 
-/// Checks a collective by what other ranks have brought to its group: a commit by the list that is fixed, each other by the round.
+/// Checks a collective against those of other members: a `commit` by the member list that is fixed, each other by the round of `me`,
+/// to which `me` may contribute (`may_join`).
 fn check_meeting(group: &GroupNode, me: RankId, args: &Args) -> Result<(), Refusal>
     requires { is_commit args.now.coll ≡ false → may_join group.now.rounds me args.now.coll ≡ true }
     ensures { (g : Group) → IsGroupNode g group.now → result ≡ agreement_checks g me args.now.coll }
@@ -47,7 +50,8 @@ fn check_meeting(group: &GroupNode, me: RankId, args: &Args) -> Result<(), Refus
     }
 }
 
-/// Looks at a collective of which none is pending: whether it may join, with its arguments.
+/// The result of a collective where no collective of its rank is pending on the group: it may join, with `args`, or it is refused.
+/// `args` are the arguments of the call. By the counts of the group, the rank may contribute (`may_join`).
 fn fresh_result(
     own: &NodePosts,
     group: &GroupNode,
@@ -65,7 +69,8 @@ fn fresh_result(
     Ok(Ready::Join(args))
 }
 
-/// What a collective answers whose round is full: an allreduce its numbers, in a list that is long enough. (GASPI: allreduce)
+/// The reply of a collective whose round is full: for an allreduce the reduction, in `list`, which is long enough. It takes no
+/// memory. (GASPI: allreduce)
 fn full_reply(group: &GroupNode, me: RankId, call: &Call, list: Sequence<i128>) -> Reply
     requires member { is_in group.now.rounds.members me ≡ true }
     requires full { is_full_for group.now.rounds me ≡ true }
@@ -79,7 +84,7 @@ fn full_reply(group: &GroupNode, me: RankId, call: &Call, list: Sequence<i128>) 
     }
 }
 
-/// As many zeros as a call has elements: only an allreduce takes memory.
+/// As many zeros as a call has elements. Only an allreduce takes memory.
 fn blank_for(alloc: Global, call: &Call) -> Result<Sequence<i128>, NoMemory>
     ensures capacity { IfOk result (λ numbers. length numbers ≡ elements_in call.now) }
     ensures ample { (row_of call.now).takes_memory ≡ false → IsOk result }
@@ -90,7 +95,8 @@ fn blank_for(alloc: Global, call: &Call) -> Result<Sequence<i128>, NoMemory>
     }
 }
 
-/// Looks at a collective that is pending for its caller: ready where its round is full.
+/// The answer to a collective that is pending for its caller, and with which its rank has joined the round: its reply where that is
+/// full, else not ready. Only an allreduce whose round is full takes memory.
 fn resumed_answer(
     alloc: Global,
     group: &GroupNode,
@@ -110,8 +116,9 @@ fn resumed_answer(
     Ok(Ready::Reply(full_reply(group, me, call, list)))
 }
 
-/// Looks at a collective of a rank on a group: it may join, with these arguments, or it is not ready, or it is refused or ready,
-/// with its reply. It takes memory only where the call does. (GASPI: collectives, timeouts)
+/// The answer to a collective of a thread of the own rank on group `id`: it may join, with its arguments, or it is not ready, or it
+/// is refused or done, with its reply. It takes memory only where the call's row says so, and none where it is not ready.
+/// (GASPI: collectives, timeouts)
 pub(crate) fn look(
     alloc: Global,
     own: &NodePosts,
@@ -145,7 +152,7 @@ pub(crate) fn look(
     }
 }
 
-/// Looks at a collective on a group that is not there, since its number is over 7.
+/// The answer to a collective of a thread on a number over 7, for which there is no group: a refusal.
 pub(crate) fn look_nowhere(own: &NodePosts, thread: ThreadId, id: u64, call: &Call) -> Ready
     requires { 8 ≤ id }
     ensures look { (g : Group) → result ≡ collective_answer own.now.posts g own.now.me thread id call.now }
@@ -160,8 +167,8 @@ pub(crate) fn look_nowhere(own: &NodePosts, thread: ThreadId, id: u64, call: &Ca
     }
 }
 
-/// Looks again at a collective of a rank that is pending for its caller, in a list that was taken before. It takes no memory.
-/// (GASPI: timeouts)
+/// The answer to a collective of `me` that is pending for its caller, with the numbers of a reply in the list for the event; where
+/// it is not ready, `room` stays as it is. It takes no memory. (GASPI: timeouts)
 pub(crate) fn look_again(
     group: &GroupNode,
     me: RankId,

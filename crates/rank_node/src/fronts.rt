@@ -1,4 +1,5 @@
-//! The front of a lane: the transfer that comes next in it, first in first out. (GASPI: one-sided communication)
+//! The front of a lane, the kind of its entry, and the next movable lane: which transfer a worker makes next. Nothing changes. The
+//! functions of `Node` are those of its posts. (GASPI: one-sided communication)
 
 ghost use Rattle.std.specs.Prelude.{◌≡◌, ℕ, true, false, Some, IfSome, IfNone, IsSome};
 ghost use Rattle.gaspi_types.specs.declared.entries.Entry.{Entry};
@@ -11,8 +12,8 @@ use gaspi_types::{Kind, QueueId, RankId, Transfer};
 
 impl NodePosts {
     /// The front of a lane: the put of its first carried entry, which is then the head of the lane, or else the take of its first
-    /// posted one. None exactly where there is no such queue or lane, the queue is broken, or the lane has neither: then no transfer
-    /// of the lane is permitted.
+    /// posted one. None exactly where there is no such queue or lane, the queue is broken, or the lane has no such entry: then no
+    /// transfer of the lane is enabled.
     pub fn front(&self, queue: QueueId, target: RankId) -> Option<Transfer>
         ensures value { result ≡ front_of self.now queue target }
         ensures front { IfSome result (IsFront self.now) }
@@ -37,7 +38,7 @@ impl NodePosts {
         })
     }
 
-    /// What the entry asks for that may be put, or take its bytes, next in the lane of a transfer.
+    /// What the entry of a transfer asks for that is the front of its lane.
     pub(crate) fn kind(&self, t: &Transfer) -> Kind
         requires { IsSome (front_entry self.now t.now) }
         ensures { IfSome (front_entry self.now t.now) (λ (e : Entry). result ≡ e.kind) }
@@ -50,8 +51,7 @@ impl NodePosts {
         }
     }
 
-    /// The next lane after a lane, in cyclic order by queue and target, that has an entry and whose queue is not broken. None exactly
-    /// where there is none.
+    /// The next movable lane after the lane `after`, in cyclic order by queue and target. None exactly where no lane is movable.
     pub fn next_lane(&self, after: (QueueId, RankId)) -> Option<(QueueId, RankId)>
         ensures none { IfNone result ((queue target : ℕ) → is_movable_lane self.now.posts.queues queue target ≡ false) }
         ensures next { IfSome result (IsNextLane self.now.posts.queues after) }
@@ -61,7 +61,8 @@ impl NodePosts {
 }
 
 impl Node {
-    /// The front of a lane of the rank. None exactly where no transfer of the lane is permitted.
+    /// The front of a lane of the rank: the put of its first carried entry, or else the take of its first posted one. None exactly
+    /// where no transfer of the lane is enabled.
     pub fn front(&self, queue: QueueId, target: RankId) -> Option<Transfer>
         ensures value { result ≡ front_of self.now.posts queue target }
         ensures front { IfSome result (IsFront self.now.posts) }
@@ -77,9 +78,9 @@ impl Node {
         self.posts.kind(t)
     }
 
-    /// The next lane after a lane, in cyclic order by queue and target, that has an entry and whose queue is not broken; such a lane has
-    /// a front. Who asks again and again after the lane that was answered comes to every such lane. None exactly where there is none:
-    /// then no transfer of the rank is permitted, and one word was read.
+    /// The next movable lane after the lane `after`, in cyclic order by queue and target; it has a front. Calls that go on from the
+    /// lane of the last answer reach every movable lane. None exactly where no lane is movable: then no transfer of the rank is
+    /// enabled, and one word was read.
     pub fn next_lane(&self, after: (QueueId, RankId)) -> Option<(QueueId, RankId)>
         ensures none { IfNone result ((queue target : ℕ) → is_movable_lane self.now.posts.posts.queues queue target ≡ false) }
         ensures next { IfSome result (IsNextLane self.now.posts.posts.queues after) }

@@ -1,4 +1,4 @@
-//! The node of a group at the start. (GASPI: groups)
+//! The node of a group in the opening state. (GASPI: groups)
 
 ghost use Rattle.std.specs.Prelude.{◌≤◌, IfOk};
 ghost use Rattle.gaspi_model.specs.State.{opening_group};
@@ -11,8 +11,8 @@ use group_registry::Meeting;
 use std::alloc::Global;
 
 impl GroupNode {
-    /// A group of the world at the start, which no rank has joined: of group 0 every rank is a member, of another none is fixed. All
-    /// memory is taken here. (GASPI: groups)
+    /// The node of a group in the opening state, with no contribution. The member list of group 0 has every rank; that of another
+    /// group is not fixed. All memory that the node will ever need is taken here. (GASPI: groups)
     pub fn new(alloc: Global, id: GroupId, ranks: u32) -> Result<GroupNode, NoMemory>
         requires { ranks ≤ 16 }
         ensures { IfOk result (λ node. IsGroupNode (opening_group ranks id) node) }

@@ -1,4 +1,5 @@
-//! The nodes that one thread holds for an event, in boxes.
+//! The nodes that one event reaches, owned in boxes by the thread that holds their locks. `HeldNodes` has the same functions as
+//! `Lent`: looks, reserved memory, and steps. A clause `kind` says that the other node is of the kind that it was (`IsSameKind`).
 
 ghost use Rattle.std.specs.Prelude.{◌≡◌, ◌≤◌, ℕ, length, false, None, Some, IfOk, IsOk};
 ghost use Rattle.gaspi_types.specs.CallRows.{row_of};
@@ -34,25 +35,30 @@ use gaspi_types::{
 use std::alloc::Global;
 use std::boxed::Box;
 
-/// The nodes of the parts that an event reaches, owned by the thread that holds their locks: that of its owner's rank, and that of
-/// another rank or of a group where the event reaches one.
+/// The nodes that an event reaches, owned by the thread that holds their locks.
 #[derive(Drop)]
 pub struct HeldNodes {
+    /// The node of the event's owner.
     pub own: Box<Node>,
+    /// The node that the event reaches beside that, if any.
     pub other: OtherNode,
 }
 
-/// The node that an event reaches besides that of its owner's rank.
+/// The node that an event reaches beside that of its owner.
 #[derive(Drop)]
 pub enum OtherNode {
+    /// The event reaches none.
     Nothing,
+    /// The node of a peer.
     Rank(Box<Node>),
+    /// The node of a group.
     Group(Box<GroupNode>),
 }
 
 impl HeldNodes {
-    /// Looks at a call of a thread of the own rank: its reply, or that it is not ready, or that it may join. What it finds fits
-    /// the room that is taken for the call. It takes memory only where the call's row says so, and none where the call is not ready.
+    /// The answer to a call of a thread of the own rank: its reply, that it may join, or that it is not ready. The memory that
+    /// `room` takes for the call is enough for a second, equal reply (clause `fits`). It takes memory only where the call's row says
+    /// so, and none where the call is not ready. The nodes do not change.
     pub fn answer(&self, alloc: Global, invocation: &Invocation<'_>) -> Result<Ready, NoMemory>
         requires lent { AreLentFor invocation.now.call.now self.now.own.value (peer_of self.now.other) (group_of self.now.other) }
         ensures answer { (s : State) → IsSound s → LendsFor s invocation.now.call.now self.now.own.value (peer_of self.now.other) (group_of self.now.other)
@@ -75,8 +81,9 @@ impl HeldNodes {
         }
     }
 
-    /// What a look at a collective of a thread on the group with a number finds: no more numbers than the call has elements. It takes
-    /// memory only where the call does. (GASPI: collectives)
+    /// The answer to a collective of a thread on group `id`. Its reply or its arguments have no more numbers than the call has
+    /// elements (clause `fits`). It takes memory only where the call's row says so, and none where the call is not ready.
+    /// (GASPI: collectives)
     fn answer_collective(
         &self,
         alloc: Global,
@@ -101,7 +108,8 @@ impl HeldNodes {
         }
     }
 
-    /// Takes the memory that a call needs, so that recording it takes none. It takes some only where the call's row says so.
+    /// Takes the memory that the record of a call needs. A call whose row says that it takes none takes none. The nodes do not
+    /// change.
     pub fn room(&self, alloc: Global, invocation: &Invocation<'_>) -> Result<Room, NoMemory>
         requires lent { AreLentFor invocation.now.call.now self.now.own.value (peer_of self.now.other) (group_of self.now.other) }
         ensures room { IfOk result (λ room. IsReservedFor self.now.own.value.posts self.now.own.value.memory invocation.now.call.now room) }
@@ -110,9 +118,9 @@ impl HeldNodes {
         reserve(alloc, &self.own.posts, &self.own.memory, invocation)
     }
 
-    /// What a look at a collective of a caller finds after its join: it is pending for the caller. The numbers of an answer go into
-    /// the reserved list for the event, and fit that for the caller; a look that is not ready leaves the room as it is. It takes no
-    /// memory. (GASPI: timeouts)
+    /// The answer to a collective of a caller after its join, in reserved memory. The collective is pending for the caller. The
+    /// numbers of a reply use the list for the event, and fit that for the caller; where the call is not ready, `room` stays as it
+    /// is. It takes no memory. (GASPI: timeouts)
     pub fn answer_in(&self, caller: CallerId, call: &Call, room: &mut ReservedNumbers) -> Ready
         requires own { caller.rank ≡ self.now.own.value.posts.me }
         requires lent { AreLentFor call.now self.now.own.value (peer_of self.now.other) (group_of self.now.other) }
@@ -130,8 +138,8 @@ impl HeldNodes {
         }
     }
 
-    /// Records a call with its reply: the step by it, at its place. The memory that it needs was taken just before; of a collective
-    /// only the row is used. It takes no memory.
+    /// Makes the step by a call with its reply, recorded at `place` in the owner's rank journal. `room` is the memory that was
+    /// reserved for this call on these nodes; of a collective its row alone is used. It takes no memory.
     pub fn called(
         &mut self,
         place: u64,
@@ -158,8 +166,8 @@ impl HeldNodes {
         }
     }
 
-    /// A collective is recorded with its reply, on the group with a number: the step by the call, recorded at its place. It takes no
-    /// memory. (GASPI: collectives, timeouts)
+    /// Makes the step by a collective on group `id` with its reply, recorded at `place`. It takes no memory.
+    /// (GASPI: collectives, timeouts)
     fn complete(&mut self, place: u64, caller: CallerId, id: u64, call: Call, reply: Reply)
         requires own { caller.rank ≡ self.old.own.value.posts.me }
         requires named { (row_of call).group ≡ Some id }
@@ -182,8 +190,9 @@ impl HeldNodes {
         }
     }
 
-    /// A collective joins its group: the step by its join, recorded at its place. The segment that it makes was made before, and the
-    /// room has a list for its values. It takes no memory. (GASPI: collectives, segment_create)
+    /// Makes the step by the join of a collective, recorded at `place`. The segment of a create was made before, in `made`, and
+    /// `room` has a list for its values. The collective is pending for the caller then. It takes no memory.
+    /// (GASPI: collectives, segment_create)
     pub fn joined(
         &mut self,
         place: u64,
@@ -212,8 +221,8 @@ impl HeldNodes {
         }
     }
 
-    /// How a transfer ends that is the front of its lane: it is a step of the machine with this outcome, in each sound state of which
-    /// the nodes are lent for it. (GASPI: state vector)
+    /// The outcome of a transfer that is the front of its lane: with this outcome it is a step of the machine, in each sound state
+    /// of which the nodes are lent for it. The nodes do not change. (GASPI: state vector)
     pub fn outcome(&self, t: &Transfer) -> Outcome
         requires { IsFront self.now.own.value.posts t.now }
         ensures value { front_outcome self.now.own.value.posts (lent_memory self.now.own.value (peer_of self.now.other)) t.now ≡ Some result }
@@ -228,7 +237,7 @@ impl HeldNodes {
         }
     }
 
-    /// The take of the first posted entry of a lane. It takes no memory.
+    /// Makes the step by the take of the first posted entry of a lane, with its outcome, recorded at `place`. It takes no memory.
     pub fn take(&mut self, place: u64, t: Transfer)
         requires { MayTake self.old.own.value (peer_of self.old.other) (group_of self.old.other) t }
         ensures kind { IsSameKind self.new.other self.old.other }
@@ -243,7 +252,7 @@ impl HeldNodes {
         }
     }
 
-    /// The put of the first carried entry of a lane. It takes no memory.
+    /// Makes the step by the put of the first carried entry of a lane, with its outcome, recorded at `place`. It takes no memory.
     pub fn put(&mut self, place: u64, t: Transfer)
         requires { MayPut self.old.own.value (peer_of self.old.other) (group_of self.old.other) t }
         ensures kind { IsSameKind self.new.other self.old.other }

@@ -1,4 +1,6 @@
-//! The take and the put of what comes next in a lane, on the stores that they change. (GASPI: one-sided communication)
+//! The take and the put of a front entry, on the stores that they change: the lanes and the state vector of the origin, and the
+//! memory that they work on. The rank journal and the counts are not changed here, but in `posts_transfers`. The *next* entry of a
+//! lane is its first posted one for a take, and its first carried one for a put. (GASPI: one-sided communication)
 
 ghost use Rattle.std.specs.Prelude.{◌≡◌, true, slice_set, IfSome, IsSome, IsSomeAnd};
 ghost use Rattle.gaspi_types.specs.declared.entries.Entry.{Entry};
@@ -12,7 +14,7 @@ use crate::node_memory::NodeMemory;
 use gaspi_types::{Outcome, RankId, Sequence};
 use post_queue::Lanes;
 
-/// A target is corrupt from now on. (GASPI: state vector)
+/// Makes a target corrupt in a state vector. (GASPI: state vector)
 fn mark_corrupt(corrupt: &mut Sequence<bool>, target: RankId)
     ensures { corrupt.new ≡ slice_set corrupt.old target true }
 {
@@ -22,7 +24,8 @@ fn mark_corrupt(corrupt: &mut Sequence<bool>, target: RankId)
     }
 }
 
-/// The entry that may take its bytes next takes them, or fails. It takes no memory.
+/// Makes the take of the first posted entry of a lane: it becomes carried, with its bytes from `source`, or it fails, which breaks
+/// the queue and makes the target corrupt. It gives the outcome. It takes no memory.
 pub(crate) fn take_next(
     lanes: &mut Lanes,
     corrupt: &mut Sequence<bool>,
@@ -49,7 +52,7 @@ pub(crate) fn take_next(
     }
 }
 
-/// How the put of the entry ends that may be put next.
+/// The outcome that the put of the first carried entry of a lane has.
 fn next_outcome(lanes: &Lanes, destination: &NodeMemory, queue: u64, target: RankId) -> Outcome
     requires { IsSome (front_carried_of lanes.now queue target) }
     ensures { IfSome (front_carried_of lanes.now queue target) (λ (e : Entry). result ≡ put_outcome destination.now.memory e.kind) }
@@ -58,7 +61,8 @@ fn next_outcome(lanes: &Lanes, destination: &NodeMemory, queue: u64, target: Ran
     destination.put_outcome(&entry.kind)
 }
 
-/// The entry that may be put next is put, and goes. It takes no memory.
+/// Makes the put of the first carried entry of a lane, where it does not fail: the entry stores its bytes or sets its slot, and
+/// goes. It takes no memory.
 fn apply_put(lanes: &mut Lanes, destination: &mut NodeMemory, queue: u64, target: RankId)
     requires { IsSome (front_carried_of lanes.old queue target) }
     ensures lanes { lanes.new ≡ with_queue lanes.old queue (put_done_in target) }
@@ -70,7 +74,8 @@ fn apply_put(lanes: &mut Lanes, destination: &mut NodeMemory, queue: u64, target
     lanes.remove(queue, target);
 }
 
-/// The entry that may be put next fails, and its target is corrupt. It takes no memory.
+/// Makes the put of the first carried entry of a lane, where it fails: the entry stays as failed, the queue is broken, and the
+/// target is corrupt. It takes no memory.
 fn fail_put(lanes: &mut Lanes, corrupt: &mut Sequence<bool>, queue: u64, target: RankId)
     requires { IsSome (front_carried_of lanes.old queue target) }
     ensures lanes { lanes.new ≡ with_queue lanes.old queue (head_failed_in target) }
@@ -82,7 +87,8 @@ fn fail_put(lanes: &mut Lanes, corrupt: &mut Sequence<bool>, queue: u64, target:
     mark_corrupt(corrupt, target);
 }
 
-/// The entry that may be put next is put: it goes, or fails where its segment is gone. It takes no memory.
+/// Makes the put of the first carried entry of a lane, and gives the outcome: it is applied, or it fails where its segment is gone.
+/// It takes no memory.
 pub(crate) fn put_next(
     lanes: &mut Lanes,
     corrupt: &mut Sequence<bool>,

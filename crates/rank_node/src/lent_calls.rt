@@ -1,4 +1,5 @@
-//! Any call by the nodes that are lent for it: a look, the memory that it needs, its record.
+//! The functions of `Lent` for any call: its answer, the memory that its record needs, and its record. Clauses `own`, `peer` and
+//! `group` say that the same nodes are still lent.
 
 ghost use Rattle.std.specs.Prelude.{◌≡◌, None, IfOk, IsOk, false};
 ghost use Rattle.gaspi_types.specs.CallRows.{row_of};
@@ -18,8 +19,9 @@ use gaspi_types::{Call, CallerId, Invocation, NoMemory, Ready, Reply};
 use std::alloc::Global;
 
 impl Lent<'_> {
-    /// Looks at a call of a thread of the own rank: its reply, or that it is not ready, or that it may join. What it finds fits
-    /// the room that is taken for the call. It takes memory only where the call's row says so, and none where the call is not ready.
+    /// The answer to a call of a thread of the own rank: its reply, that it may join, or that it is not ready. The memory that
+    /// `room` takes for the call is enough for a second, equal reply (clause `fits`). It takes memory only where the call's row says
+    /// so, and none where the call is not ready. The nodes do not change.
     pub fn answer(&self, alloc: Global, invocation: &Invocation<'_>) -> Result<Ready, NoMemory>
         requires lent { AreLentFor invocation.now.call.now self.now.own.now (behind self.now.peer) (behind self.now.group) }
         ensures answer { (s : State) → IsSound s → LendsFor s invocation.now.call.now self.now.own.now (behind self.now.peer) (behind self.now.group)
@@ -40,7 +42,8 @@ impl Lent<'_> {
         }
     }
 
-    /// Takes the memory that a call needs, so that recording it takes none. It takes some only where the call's row says so.
+    /// Takes the memory that the record of a call needs. A call whose row says that it takes none takes none. The nodes do not
+    /// change.
     pub fn room(&self, alloc: Global, invocation: &Invocation<'_>) -> Result<Room, NoMemory>
         requires lent { AreLentFor invocation.now.call.now self.now.own.now (behind self.now.peer) (behind self.now.group) }
         ensures room { IfOk result (λ room. IsReservedFor self.now.own.now.posts self.now.own.now.memory invocation.now.call.now room) }
@@ -49,8 +52,8 @@ impl Lent<'_> {
         reserve(alloc, &self.own.posts, &self.own.memory, invocation)
     }
 
-    /// Records a call with its reply: the step by it, at its place. The memory that it needs was taken just before; of a collective
-    /// only the row is used. It takes no memory.
+    /// Makes the step by a call with its reply, recorded at `place` in the owner's rank journal. `room` is the memory that was
+    /// reserved for this call on these nodes; of a collective its row alone is used. It takes no memory.
     pub fn called(&mut self, place: u64, caller: CallerId, call: Call, reply: Reply, mut room: Room)
         requires step { MayStep (Called caller call reply) self.old.own.now (behind self.old.peer) (behind self.old.group) }
         requires row { room.row ≡ row_of call }

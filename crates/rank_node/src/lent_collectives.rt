@@ -1,4 +1,5 @@
-//! Collectives by the nodes that are lent for them. (GASPI: collectives, timeouts)
+//! The functions of `Lent` for collectives: their answers, joins and records. A group whose number is over 7 has no node. The
+//! promises `own`, `peer` and `group` say that the same nodes are still lent. (GASPI: collectives, timeouts)
 
 ghost use Rattle.std.specs.Prelude.{◌≡◌, ◌≤◌, ℕ, length, false, Option, None, Some, IfOk, IsOk};
 ghost use Rattle.gaspi_types.specs.CallRows.{row_of};
@@ -22,8 +23,9 @@ use gaspi_types::{Args, Call, CallerId, GroupId, NoMemory, Ready, Reply, ThreadI
 use std::alloc::Global;
 
 impl Lent<'_> {
-    /// What a look at a collective of a thread on the group with a number finds: no more numbers than the call has elements. It takes
-    /// memory only where the call does. (GASPI: collectives)
+    /// The answer to a collective of a thread on group `id`. Its reply or its arguments have no more numbers than the call has
+    /// elements (clause `fits`). It takes memory only where the call's row says so, and none where the call is not ready.
+    /// (GASPI: collectives)
     pub(crate) fn answer_collective(
         &self,
         alloc: Global,
@@ -46,8 +48,9 @@ impl Lent<'_> {
         }
     }
 
-    /// What a look at a collective of a caller finds after its join: it is pending for the caller. The numbers of an answer go into
-    /// the reserved list for the event, and fit that for the caller; a look that is not ready leaves the room as it is. It takes no memory. (GASPI: timeouts)
+    /// The answer to a collective of a caller after its join, in reserved memory. The collective is pending for the caller. The
+    /// numbers of a reply use the list for the event, and fit that for the caller; where the call is not ready, `room` stays as it
+    /// is. It takes no memory. (GASPI: timeouts)
     pub fn answer_in(&self, caller: CallerId, call: &Call, room: &mut ReservedNumbers) -> Ready
         requires own { caller.rank ≡ self.now.own.now.posts.me }
         requires lent { AreLentFor call.now self.now.own.now (behind self.now.peer) (behind self.now.group) }
@@ -65,8 +68,9 @@ impl Lent<'_> {
         }
     }
 
-    /// A collective joins its group: the step by its join, recorded at its place. The segment that it makes was made before, and the
-    /// room has a list for its values. It takes no memory. (GASPI: collectives, segment_create)
+    /// Makes the step by the join of a collective, recorded at `place`. The segment of a create was made before, in `made`, and
+    /// `room` has a list for its values. The collective is pending for the caller then. It takes no memory.
+    /// (GASPI: collectives, segment_create)
     pub fn joined(
         &mut self,
         place: u64,
@@ -96,8 +100,8 @@ impl Lent<'_> {
         }
     }
 
-    /// A collective is recorded with its reply, on the group with a number: the step by the call, recorded at its place. It takes no
-    /// memory. (GASPI: collectives, timeouts)
+    /// Makes the step by a collective on group `id` with its reply, recorded at `place`. It takes no memory.
+    /// (GASPI: collectives, timeouts)
     pub(crate) fn complete(
         &mut self,
         place: u64,

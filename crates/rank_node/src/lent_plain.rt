@@ -1,4 +1,5 @@
-//! Calls that are no collectives, on the nodes that are lent for them.
+//! Calls that are no collectives, as the clause `plain` requires: their answers and their records, on one or two nodes. `_alone` is
+//! for a call that reaches the own node only, `_between` for one that reaches a peer's. `Lent` and `HeldNodes` choose between them.
 
 ghost use Rattle.std.specs.Prelude.{◌≡◌, Option, None, Some, IfOk, IsOk, false};
 ghost use Rattle.gaspi_types.specs.CallRows.{row_of};
@@ -26,7 +27,7 @@ use gaspi_types::{Call, CallerId, Invocation, NoMemory, Ready, Reply};
 use plain_calls::{Registration, is_refused_or_timeout, registration_of};
 use std::alloc::Global;
 
-/// What a call tells a peer that it reaches, where it is recorded with that reply.
+/// The registration that a call gives a peer: that of a `register` with a reply that is no refusal; None for each other call.
 fn registration(posts: &NodePosts, call: &Call, reply: &Reply) -> Option<Registration>
     ensures { (peer : Posts) → with_registration result peer ≡ peer_after posts.now.me posts.now.posts call.now reply.now peer }
 {
@@ -39,7 +40,7 @@ fn registration(posts: &NodePosts, call: &Call, reply: &Reply) -> Option<Registr
     }
 }
 
-/// Registers a segment at a peer.
+/// Makes the segment of a registration known to a peer; None changes nothing.
 fn register_at(peer: &mut NodePosts, registration: Option<Registration>)
     ensures { peer.new ≡ with_posts peer.old (with_registration registration peer.old.posts) }
 {
@@ -48,7 +49,8 @@ fn register_at(peer: &mut NodePosts, registration: Option<Registration>)
     }
 }
 
-/// Looks at a call that reaches its own node alone.
+/// The answer to a call that reaches the own node only. It takes memory only where the call's row says so, and none where the call
+/// is not ready.
 pub fn answer_alone(
     alloc: Global,
     own: &Node,
@@ -66,7 +68,8 @@ pub fn answer_alone(
     look(alloc, &own.posts, &own.memory, invocation)
 }
 
-/// Looks at a call that reaches the node of another rank.
+/// The answer to a call that reaches the node of a peer, on the memory of the peer. It takes memory only where the call's row says
+/// so, and none where the call is not ready.
 pub fn answer_between(
     alloc: Global,
     own: &Node,
@@ -85,7 +88,8 @@ pub fn answer_between(
     look(alloc, &own.posts, &peer.memory, invocation)
 }
 
-/// Records a call that reaches its own node alone. It takes no memory.
+/// Makes the step by a call with its reply, which reaches the own node only, recorded at `place`. `room` is the memory that was
+/// reserved for it, and is used. It takes no memory.
 pub fn called_alone(
     own: &mut Node,
     place: u64,
@@ -110,7 +114,9 @@ pub fn called_alone(
     );
 }
 
-/// Records a call that reaches the node of another rank. It takes no memory.
+/// Makes the step by a call with its reply, which reaches the node of a peer: on the memory of the peer, and on the peer's posts for
+/// a `register`. It is recorded at `place` in the own rank journal. `room` is the memory that was reserved for it, and is used. It
+/// takes no memory.
 pub fn called_between(
     own: &mut Node,
     peer: &mut Node,

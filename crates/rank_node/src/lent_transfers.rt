@@ -1,4 +1,6 @@
-//! Takes and puts on the nodes that are lent for them. (GASPI: one-sided communication)
+//! Takes and puts on the nodes that are lent for them. The functions come twice: for one or two nodes, which `HeldNodes` uses too,
+//! and of `Lent`, which chooses between those. `_alone` works on the memory of the origin, `_between` on that of a peer. A take or a
+//! put may also fail. Clauses `own`, `peer` and `group` say that the same nodes are still lent. (GASPI: one-sided communication)
 
 ghost use Rattle.std.specs.Prelude.{◌≡◌, Some, None, IsSome, IsOk};
 ghost use Rattle.gaspi_types.specs.declared.events.Outcome.{Outcome};
@@ -16,7 +18,8 @@ use crate::node_posts::NodePosts;
 use crate::nodes::Node;
 use gaspi_types::{Outcome, Transfer};
 
-/// A take on the node of its origin alone. It takes no memory.
+/// Makes the step by the take of the first posted entry of a lane, from the memory of its origin, recorded at `place`. It takes no
+/// memory.
 pub fn take_alone(own: &mut Node, place: u64, t: Transfer)
     requires { MayTake own.old None None t }
     ensures { (s after : State) (outcome : Outcome) → IsStepOn s after (take_of t outcome) own.old None None → IsFirstPosted own.old.posts t
@@ -25,7 +28,8 @@ pub fn take_alone(own: &mut Node, place: u64, t: Transfer)
     own.posts.take_from(&own.memory, place, &t);
 }
 
-/// A take from the memory of another node, which it leaves as it is. It takes no memory.
+/// Makes the step by the take of the first posted entry of a lane, from the memory of a peer, whose node does not change; recorded
+/// at `place`. It takes no memory.
 pub fn take_between(own: &mut Node, peer: &mut Node, place: u64, t: Transfer)
     requires { MayTake own.old (Some peer.old) None t }
     ensures kept { peer.new ≡ peer.old }
@@ -35,7 +39,8 @@ pub fn take_between(own: &mut Node, peer: &mut Node, place: u64, t: Transfer)
     own.posts.take_from(&peer.memory, place, &t);
 }
 
-/// A put on the node of its origin alone. It takes no memory.
+/// Makes the step by the put of the first carried entry of a lane, into the memory of its origin, recorded at `place`. It takes no
+/// memory.
 pub fn put_alone(own: &mut Node, place: u64, t: Transfer)
     requires { MayPut own.old None None t }
     ensures { (s after : State) (outcome : Outcome) → IsStepOn s after (put_of t outcome) own.old None None → IsFirstCarried own.old.posts t
@@ -44,7 +49,8 @@ pub fn put_alone(own: &mut Node, place: u64, t: Transfer)
     let _outcome = own.posts.put_into(&mut own.memory, place, &t);
 }
 
-/// A put into the memory of another node. It takes no memory.
+/// Makes the step by the put of the first carried entry of a lane, into the memory of a peer, recorded at `place` in the own rank
+/// journal. It takes no memory.
 pub fn put_between(own: &mut Node, peer: &mut Node, place: u64, t: Transfer)
     requires { MayPut own.old (Some peer.old) None t }
     ensures { (s after : State) (outcome : Outcome) → IsStepOn s after (put_of t outcome) own.old (Some peer.old) None → IsFirstCarried own.old.posts t
@@ -53,7 +59,7 @@ pub fn put_between(own: &mut Node, peer: &mut Node, place: u64, t: Transfer)
     let _outcome = own.posts.put_into(&mut peer.memory, place, &t);
 }
 
-/// How a transfer ends that is the front of its lane and works on a memory. (GASPI: state vector)
+/// The outcome of a transfer that is the front of its lane and works on `memory`. (GASPI: state vector)
 pub fn front_outcome(posts: &NodePosts, memory: &NodeMemory, t: &Transfer) -> Outcome
     requires { IsSome (front_entry posts.now t.now) }
     ensures { front_outcome posts.now memory.now.memory t.now ≡ Some result }
@@ -67,8 +73,8 @@ pub fn front_outcome(posts: &NodePosts, memory: &NodeMemory, t: &Transfer) -> Ou
 }
 
 impl<'a> Lent<'a> {
-    /// How a transfer ends that is the front of its lane: it is a step of the machine with this outcome, in each sound state of which
-    /// the nodes are lent for it. (GASPI: state vector)
+    /// The outcome of a transfer that is the front of its lane: with this outcome it is a step of the machine, in each sound state
+    /// of which the nodes are lent for it. The nodes do not change. (GASPI: state vector)
     pub fn outcome(&self, t: &Transfer) -> Outcome
         requires { IsFront self.now.own.now.posts t.now }
         ensures value { front_outcome self.now.own.now.posts (lent_memory self.now.own.now (behind self.now.peer)) t.now ≡ Some result }
@@ -81,7 +87,7 @@ impl<'a> Lent<'a> {
         }
     }
 
-    /// The take of the first posted entry of a lane. It takes no memory.
+    /// Makes the step by the take of the first posted entry of a lane, with its outcome, recorded at `place`. It takes no memory.
     pub fn take(&mut self, place: u64, t: Transfer)
         requires { MayTake self.old.own.now (behind self.old.peer) (behind self.old.group) t }
         ensures own { self.new.own.ghost_name ≡ self.old.own.ghost_name }
@@ -98,7 +104,7 @@ impl<'a> Lent<'a> {
         }
     }
 
-    /// The put of the first carried entry of a lane. It takes no memory.
+    /// Makes the step by the put of the first carried entry of a lane, with its outcome, recorded at `place`. It takes no memory.
     pub fn put(&mut self, place: u64, t: Transfer)
         requires { MayPut self.old.own.now (behind self.old.peer) (behind self.old.group) t }
         ensures own { self.new.own.ghost_name ≡ self.old.own.ghost_name }

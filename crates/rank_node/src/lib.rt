@@ -1,8 +1,13 @@
-//! The machine's step on the parts of one rank: what an event reads and changes of the ranks and the group that it reaches.
+//! The nodes of ranks and of groups, on which threads make the machine's steps: each function works on the nodes that one event
+//! reaches.
 //!
-//! A `Node` is all that a rank has, made of the stores of its parts; a `GroupNode` is all that a group has. `Lent` are the nodes of
-//! the parts that an event reaches. Its functions answer calls and make the events' steps on these alone. Contracts say so in the
-//! machine's own words: what is lent stands for parts of a sound state, and after a step for the same parts of the state after it.
+//! A `Node` has posts, memory and rank journal of one rank, made of the stores of other crates; a `GroupNode` has one group. `Lent`
+//! borrows the nodes that an event reaches, and `HeldNodes` owns them. Both answer calls and make steps. Contracts speak of every
+//! sound state of which the nodes are lent: the answer is the machine's there, and a step leaves the nodes of the state after it
+//! (clause `left`). That there is such a state is required (clause `lent`), and that the event is a step there (clause `step`).
+//!
+//! In names, `own` is the node of the event's owner `me`, and `peer` that of another rank. An event `_alone` reaches the own node
+//! only, and one `_between` reaches the node of a peer too.
 #![tactic(auto)]
 
 mod collective_completions;

@@ -1,4 +1,4 @@
-//! Segments as they are made. (GASPI: segments)
+//! Made segments: to allocate one takes memory, and comes before the record of its call; to insert it takes none. (GASPI: segments)
 
 ghost use Rattle.std.specs.Prelude.{◌≡◌, ◌<◌, ◌^◌, IfOk};
 ghost use Rattle.rank_node.specs.Making.{made_segment, with_made};
@@ -9,17 +9,20 @@ use gaspi_types::{NoMemory, Segment};
 use segment_store::{Slots, new_segment, next_generation};
 use std::alloc::Global;
 
-/// A segment as it is made, with its slots, that stands in no table yet.
+/// A segment with its slots that was allocated and is in no table yet.
 #[derive(Debug, Drop)]
 pub struct MadeSegment {
+    /// The segment, all bytes zero.
     pub segment: Segment,
+    /// Its slots, all zero.
     pub slots: Slots,
 }
 
 impl NodePosts {
     ghost use Rattle.std.specs.Prelude.{◌≡◌, ◌<◌, ◌^◌, IfOk, ◌≤◌};
 
-    /// Takes the memory of an own segment of the next generation of its number. (GASPI: segment_alloc)
+    /// Allocates an own segment: the next generation of the id, all bytes and slots zero. The node does not change.
+    /// (GASPI: segment_alloc)
     pub(crate) fn make_segment(
         &self,
         alloc: Global,
@@ -39,7 +42,8 @@ impl NodePosts {
 }
 
 impl NodeMemory {
-    /// Puts a segment that was made at its number. It takes no memory. (GASPI: segment_alloc)
+    /// Puts a made segment and its slots under an id. The table of segments is not changed here. It takes no memory.
+    /// (GASPI: segment_alloc)
     pub(crate) fn insert_segment(&mut self, seg: u64, made: MadeSegment)
         ensures { self.new ≡ with_made self.old seg made }
     {

@@ -1,4 +1,6 @@
-//! What calls change in the memory that they work on, without memory being allocated.
+//! Effects on the memory that a call works on, of calls that were done. A call was done where its reply is neither a refusal nor a
+//! timeout. None takes memory: a new segment and a message were reserved before. `affect` chooses among the functions of single
+//! changes by the call.
 
 ghost use Rattle.std.specs.Prelude.{◌≡◌, ◌<◌, Ok, IsOk, IsSome, IfSome, slice_set};
 ghost use Rattle.gaspi_types.specs.Inboxes.{first_within, deposited};
@@ -19,7 +21,7 @@ impl NodeMemory {
     ghost use Rattle.rank_node.specs.Making.{with_made};
     ghost use Rattle.rank_node.specs.Values.{PostsValue};
 
-    /// Takes a segment away, with its slots. (GASPI: segment_delete)
+    /// Removes a segment with its bytes and slots. Where there is no such segment nothing changes. (GASPI: segment_delete)
     fn remove_segment(&mut self, call: &Delete)
         ensures { self.new ≡ with_memory self.old (delete_effect self.old.memory call.now) }
     {
@@ -32,7 +34,7 @@ impl NodeMemory {
         }
     }
 
-    /// Writes the bytes of a store. (own choice)
+    /// Writes the bytes of a store. All other bytes stay. (own choice)
     fn store(&mut self, call: &Store)
         ensures { self.new ≡ with_memory self.old (store_effect self.old.memory call.now) }
     {
@@ -44,7 +46,7 @@ impl NodeMemory {
         );
     }
 
-    /// Sets a notification slot of a segment to a value, where it is there. (GASPI: notify, notify_reset)
+    /// Sets a slot of a segment to a value. Where there is no such slot nothing changes. (GASPI: notify, notify_reset)
     pub(crate) fn set_slot(&mut self, seg: u64, note: u64, value: u32)
         ensures { self.new ≡ with_memory self.old (with_slots self.old.memory seg (slice_set (slots_of self.old.memory seg) note value)) }
     {
@@ -58,7 +60,7 @@ impl NodeMemory {
         }
     }
 
-    /// Puts a message behind the others of the inbox. (GASPI: passive_send)
+    /// Appends a message to the inbox, which has room for it. (GASPI: passive_send)
     fn deposit(&mut self, message: Message)
         requires { MayDeposit self.old message }
         ensures { self.new ≡ with_memory self.old (record self.old.memory { inbox = deposited self.old.memory.inbox message }) }
@@ -70,7 +72,8 @@ impl NodeMemory {
         }
     }
 
-    /// Takes the first message out of the inbox, and puts its bytes where the receive says. (GASPI: passive_receive)
+    /// Removes the first message of the inbox, and stores its bytes from the offset of the receive on. The message is not too long;
+    /// where there is none, nothing changes. (GASPI: passive_receive)
     fn receive(&mut self, call: &PassiveReceive)
         requires { IsOk (first_within call.now.size self.old.memory.inbox) }
         ensures { self.new ≡ with_memory self.old (receive_effect self.old.memory call.now) }
@@ -87,14 +90,16 @@ impl NodeMemory {
         }
     }
 
-    /// Adds to a word. (GASPI: atomic_fetch_add)
+    /// Adds the value of the call to the memory word that it names. Where there is no such word nothing changes.
+    /// (GASPI: atomic_fetch_add)
     fn fetch_add(&mut self, call: &FetchAdd)
         ensures { self.new ≡ with_memory self.old (fetch_add_effect self.old.memory call.now) }
     {
         add_to_segment(&mut self.segments, call.seg, call.offset, call.value);
     }
 
-    /// Writes over a word, where it is the comparator. (GASPI: atomic_compare_swap)
+    /// Puts the new value of the call into the memory word that it names, where that is the comparator; else nothing changes.
+    /// (GASPI: atomic_compare_swap)
     fn compare_swap(&mut self, call: &CompareSwap)
         ensures { self.new ≡ with_memory self.old (compare_swap_effect self.old.memory call.now) }
     {
@@ -107,7 +112,7 @@ impl NodeMemory {
         );
     }
 
-    /// Takes the segment that an alloc makes, and puts it at its number. (GASPI: segment_alloc)
+    /// Puts the made segment of an alloc under its id. It is there, and `made` is None after that. (GASPI: segment_alloc)
     fn insert_made(&mut self, seg: u64, made: &mut Option<MadeSegment>)
         requires { IsSome made.old }
         ensures { IfSome made.old (λ made. self.new ≡ with_made self.old seg made) }
@@ -118,7 +123,8 @@ impl NodeMemory {
         }
     }
 
-    /// Takes the message that a send brings, where there is one, and puts it behind the others of the inbox. (GASPI: passive_send)
+    /// Appends the reserved message of a send to the inbox; `message` is None after that. Where it was None before, nothing changes.
+    /// (GASPI: passive_send)
     fn deposit_message(&mut self, message: &mut Option<Message>)
         requires { MayDepositIf self.old message.old }
         ensures { self.new ≡ with_memory self.old (send_effect message.old self.old.memory) }
@@ -128,8 +134,8 @@ impl NodeMemory {
         }
     }
 
-    /// What a call leaves that was answered neither with a refusal nor with a timeout, in the memory that it works on: with the segment
-    /// that it makes, and the message that it brings, which are taken.
+    /// Makes the effect of a call that was done on the memory that it works on. An alloc uses `made`, and a send `message`; they are
+    /// None after that. The calls that change no memory change nothing here. It takes no memory.
     pub(crate) fn affect(
         &mut self,
         call: &Call,

@@ -1,4 +1,5 @@
-//! What entries take from a memory, and what their puts change of it. (GASPI: one-sided communication)
+//! A transfer on the memory that it works on: which bytes a take copies from there, which outcome a take or a put has, and what a
+//! put changes there. (GASPI: one-sided communication)
 
 ghost use Rattle.std.specs.Prelude.{◌≡◌, slice_set};
 ghost use Rattle.gaspi_types.specs.Slots.{slots_of, with_slots};
@@ -8,7 +9,7 @@ use crate::node_memory::NodeMemory;
 use gaspi_types::{Destination, Entry, Kind, Outcome, Phase, Sequence};
 use segment_store::{Slots, bytes_of, is_generation, range_of, segment_in, store_bytes};
 
-/// Sets a slot of a segment, where both are there. (GASPI: notify)
+/// Sets a slot of a segment to a value. Where there is no such slot nothing changes. (GASPI: notify)
 fn set_slot(slots: &mut Sequence<Option<Slots>>, seg: u64, note: u64, value: u32)
     ensures { slots.new ≡ with_slots slots.old seg (slice_set (slots_of slots.old seg) note value) }
 {
@@ -22,7 +23,7 @@ fn set_slot(slots: &mut Sequence<Option<Slots>>, seg: u64, note: u64, value: u32
     }
 }
 
-/// The bytes that an entry has taken.
+/// The bytes of a carried entry; none of an entry of another phase.
 fn carried_bytes(phase: &Phase) -> &[u8]
     ensures { result.now ≡ carried_bytes phase.now }
 {
@@ -35,7 +36,7 @@ fn carried_bytes(phase: &Phase) -> &[u8]
 impl NodeMemory {
     ghost use Rattle.rank_node.specs.Values.{MemoryValue};
 
-    /// The bytes that an entry of that kind takes from this memory, lent.
+    /// The bytes that the take of an entry of this kind copies from this memory, lent; none for a notification.
     pub(crate) fn taken_bytes(&self, kind: &Kind) -> &[u8]
         ensures { result.now ≡ source_bytes self.now.memory kind.now }
     {
@@ -49,7 +50,7 @@ impl NodeMemory {
         }
     }
 
-    /// How a transfer ends that works on a segment of that generation. (GASPI: state vector)
+    /// The outcome of a transfer that needs a segment of this generation: failed where the segment is gone. (GASPI: state vector)
     fn outcome_at(&self, segment: u32, generation: u32) -> Outcome
         ensures { result ≡ outcome_at self.now.memory segment generation }
     {
@@ -61,7 +62,7 @@ impl NodeMemory {
         }
     }
 
-    /// How the take of an entry of that kind ends that works on this memory. (GASPI: state vector)
+    /// The outcome of the take of an entry of this kind from this memory: a read may fail, no other take does. (GASPI: state vector)
     pub(crate) fn take_outcome(&self, kind: &Kind) -> Outcome
         ensures { result ≡ take_outcome self.now.memory kind.now }
     {
@@ -71,7 +72,8 @@ impl NodeMemory {
         }
     }
 
-    /// How the put of an entry of that kind ends that works on this memory. (GASPI: state vector)
+    /// The outcome of the put of an entry of this kind into this memory: a write and a notification may fail, no other put does.
+    /// (GASPI: state vector)
     pub(crate) fn put_outcome(&self, kind: &Kind) -> Outcome
         ensures { result ≡ put_outcome self.now.memory kind.now }
     {
@@ -84,7 +86,8 @@ impl NodeMemory {
         }
     }
 
-    /// Writes the bytes that an entry has taken to its range, or sets its slot. (GASPI: write, read, notify)
+    /// Stores the bytes of a carried entry in its range, or sets its slot. The rest of the memory stays.
+    /// (GASPI: write, read, notify)
     pub(crate) fn put(&mut self, entry: &Entry)
         ensures { self.new ≡ record self.old { memory = memory_put self.old.memory entry.now } }
     {

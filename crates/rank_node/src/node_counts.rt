@@ -1,4 +1,5 @@
-//! How much room a node's rank has for events, what a call needs, and whether its threads have ended.
+//! Questions that threads ask a node before a call: the room of its rank, the need of the call, and whether all its callers have
+//! ended. Nothing changes. The functions of `Node` are those of its posts.
 
 ghost use Rattle.std.specs.Prelude.{◌≡◌, ◌+◌, ◌-◌, count_by, not};
 ghost use Rattle.std.specs.List.{list_any};
@@ -12,7 +13,7 @@ use gaspi_model::ThreadState;
 use gaspi_types::{Invocation, Sequence};
 use plain_calls::is_running;
 
-/// How many of these threads have not ended.
+/// How many of these threads are active.
 pub(crate) fn running_count(threads: &Sequence<ThreadState>) -> usize
     ensures { result ≡ count_by is_running threads.now }
 {
@@ -23,7 +24,7 @@ pub(crate) fn running_count(threads: &Sequence<ThreadState>) -> usize
         .count()
 }
 
-/// Whether one of these threads has not ended.
+/// Whether one of these threads is active.
 fn has_running(threads: &Sequence<ThreadState>) -> bool
     ensures { result ≡ list_any is_running threads.now }
 {
@@ -31,7 +32,7 @@ fn has_running(threads: &Sequence<ThreadState>) -> bool
 }
 
 impl NodePosts {
-    /// How many events have room yet, none for what the rank owes.
+    /// The room of the rank: how many events it may record beside those that it owes.
     pub fn room(&self) -> u64
         ensures { result ≡ self.now.limits.events - (self.now.posts.events + owed self.now.posts) }
     {
@@ -41,7 +42,8 @@ impl NodePosts {
             .saturating_sub(self.running as u64)
     }
 
-    /// Whether a collective of a caller is pending on the group that its call names. (GASPI: timeouts)
+    /// Whether a collective of the caller is pending on the group that its call names; false for a call that is no collective.
+    /// (GASPI: timeouts)
     fn is_pending(&self, invocation: &Invocation<'_>) -> bool
         ensures { result ≡ is_pending_on invocation.now.caller.thread self.now.posts (row_of invocation.now.call.now).group }
     {
@@ -54,7 +56,8 @@ impl NodePosts {
         }
     }
 
-    /// How much room a call of a caller of this rank needs: a collective that has not joined needs its join besides. (own choice)
+    /// The room that a call of a caller of this rank must find at its look. A collective that is not pending for the caller needs an
+    /// event more, for its join. (own choice)
     pub fn need(&self, invocation: &Invocation<'_>) -> u64
         ensures { result ≡ need_of invocation.now.call.now (is_pending_on invocation.now.caller.thread self.now.posts (row_of invocation.now.call.now).group) (not (is_running (thread_at self.now.posts invocation.now.caller.thread))) }
     {
@@ -63,7 +66,7 @@ impl NodePosts {
         invocation.row.need(pending, ended)
     }
 
-    /// Whether every thread of the rank that has a section has ended.
+    /// Whether no thread of the rank is active: all its callers have ended.
     pub fn all_ended(&self) -> bool
         ensures { result ≡ not (list_any is_running self.now.posts.threads) }
     {
@@ -72,21 +75,22 @@ impl NodePosts {
 }
 
 impl Node {
-    /// How many events of its rank have room yet, none for what it owes.
+    /// The room of the rank: how many events it may record beside those that it owes.
     pub fn room(&self) -> u64
         ensures { result ≡ self.now.posts.limits.events - (self.now.posts.posts.events + owed self.now.posts.posts) }
     {
         self.posts.room()
     }
 
-    /// How much room a call of a caller of this rank needs: a collective that has not joined needs its join besides. (own choice)
+    /// The room that a call of a caller of this rank must find at its look. A collective that is not pending for the caller needs an
+    /// event more, for its join. (own choice)
     pub fn need(&self, invocation: &Invocation<'_>) -> u64
         ensures { result ≡ need_of invocation.now.call.now (is_pending_on invocation.now.caller.thread self.now.posts.posts (row_of invocation.now.call.now).group) (not (is_running (thread_at self.now.posts.posts invocation.now.caller.thread))) }
     {
         self.posts.need(invocation)
     }
 
-    /// Whether every thread of the rank that has a section has ended.
+    /// Whether no thread of the rank is active: all its callers have ended.
     pub fn all_ended(&self) -> bool
         ensures { result ≡ not (list_any is_running self.now.posts.posts.threads) }
     {

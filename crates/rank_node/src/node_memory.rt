@@ -1,4 +1,5 @@
-//! The memory of a rank: the bytes and slots of its segments, and its inbox.
+//! The memory of a rank as a node has it: its stores, what contracts see of them, and the slots of a segment. The effects of calls
+//! on it are in `memory_effects`, those of transfers in `memory_transfers`.
 
 ghost use Rattle.std.specs.Prelude.{◌≡◌};
 ghost use Rattle.gaspi_model.specs.Memories.{slots_of};
@@ -7,12 +8,14 @@ use gaspi_types::{OwnSegments, Sequence};
 use segment_store::{Inbox, Slots};
 use std::marker::Model;
 
-/// The memory of a rank. Contracts see it as the machine's memory, with how many messages its inbox holds at most.
+/// The memory of a rank. Contracts see it as the machine's memory, with the most messages that its inbox may have.
 #[derive(Drop)]
 pub struct NodeMemory {
+    /// The own segments with their bytes.
     pub(crate) segments: OwnSegments,
     /// The notification slots of each segment. (GASPI: notifications)
     pub(crate) slots: Sequence<Option<Slots>>,
+    /// The messages that the rank has not received.
     pub(crate) inbox: Inbox,
 }
 
@@ -27,7 +30,7 @@ impl Model for NodeMemory {
 }
 
 impl NodeMemory {
-    /// The notification slots of a segment. Of one that is not there, none.
+    /// The slots of a segment; none where there is no such segment.
     pub(crate) fn slots_of(&self, seg: u64) -> &[u32]
         ensures { result.now ≡ slots_of self.now.memory seg }
     {

@@ -1,4 +1,4 @@
-//! The node of a rank at the start, with all its tables, rings and its rank journal.
+//! The node of a rank in the opening state: its posts with all stores and the rank journal, and its memory.
 
 ghost use Rattle.std.specs.Prelude.{◌≡◌, ◌<◌, ◌≤◌, IfOk, [], None, false, map, replicate};
 ghost use Rattle.std.specs.Option.{option_map};
@@ -20,7 +20,7 @@ use segment_store::{Inbox, Slots};
 use std::alloc::Global;
 use timeout_state::Pending;
 
-/// The slots of the segment of a rank with a number.
+/// The slots of the declared segment of a rank under an id, all zero; None where the shape declares none.
 fn opening_slots_at(
     alloc: Global,
     shape: &Shape,
@@ -36,7 +36,7 @@ fn opening_slots_at(
     }
 }
 
-/// The slots of each segment of a rank.
+/// The slots of the declared segments of a rank: one item for each of the 32 ids.
 #[tactic(auto, using(gaspi_model::proofs::Ranges::map_range_more))]
 fn opening_slots(
     alloc: Global,
@@ -52,7 +52,7 @@ fn opening_slots(
     Ok(slots)
 }
 
-/// Of a rank at the start: which ranks are corrupt for it, what it has and knows of segments, and its threads.
+/// Three tables of a rank's posts in the opening state: its state vector, its table of segments, and its threads.
 fn opening_tables(
     alloc: Global,
     shape: &Shape,
@@ -69,7 +69,7 @@ fn opening_tables(
     ))
 }
 
-/// Of a rank at the start: its groups, its collectives that are pending, and its rank journal.
+/// Three stores of a rank in the opening state: its groups, its pending collectives (none), and its rank journal (empty).
 fn opening_records(
     alloc: Global,
     limits: Limits,
@@ -93,7 +93,7 @@ impl NodePosts {
     ghost use Rattle.std.specs.Prelude.{◌≡◌, ◌<◌, IfOk};
     ghost use Rattle.rank_node.specs.Openings.{posts_at_start};
 
-    /// The posts of a rank at the start. The memory of its tables, its lanes and its rank journal is taken here.
+    /// The posts of a rank in the opening state. All memory of their stores and of the rank journal is taken here.
     pub(crate) fn new(alloc: Global, shape: &Shape, rank: RankId) -> Result<NodePosts, NoMemory>
         requires { rank < shape.now.limits.ranks }
         ensures { IfOk result (λ posts. posts ≡ posts_at_start shape.now rank) }
@@ -122,7 +122,7 @@ impl NodeMemory {
     ghost use Rattle.std.specs.Prelude.{◌≡◌, IfOk};
     ghost use Rattle.rank_node.specs.Openings.{memory_at_start};
 
-    /// The memory of a rank at the start, with the declared segments and their slots.
+    /// The memory of a rank in the opening state: the declared segments with their slots, and an empty inbox.
     pub(crate) fn new(alloc: Global, shape: &Shape, rank: RankId) -> Result<NodeMemory, NoMemory>
         ensures { IfOk result (λ memory. memory ≡ memory_at_start shape.now rank) }
     {
@@ -136,8 +136,8 @@ impl NodeMemory {
 }
 
 impl Node {
-    /// The node of a rank at the start: that of the opening state. All its tables and rings, and its rank journal, have their memory: what a
-    /// call needs besides is taken for it.
+    /// The node of a rank in the opening state. All its stores and its rank journal take their memory here; what a call needs beside
+    /// that is taken for that call, by `room`.
     pub fn new(alloc: Global, shape: &Shape, rank: RankId) -> Result<Node, NoMemory>
         requires { rank < shape.now.limits.ranks }
         ensures { IfOk result (λ node. IsOpeningNode shape.now rank node) }

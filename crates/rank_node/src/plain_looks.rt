@@ -1,4 +1,6 @@
-//! What a look at a call finds that is no collective.
+//! The answer of a look at a call that is no collective, on the posts of the caller's rank and the memory that the call works on. A
+//! *plain* call posts nothing, and is no collective. The functions `look_at` give the result of a call from the stores of
+//! `post_queue` and the table of segments; `plain_calls` has the others. Nothing changes.
 
 ghost use Rattle.std.specs.Prelude.{◌≡◌, ◌≤◌, length, false, Some, IfOk, IsOk};
 ghost use Rattle.gaspi_types.specs.CallRows.{row_of};
@@ -26,8 +28,7 @@ use post_queue::Lanes;
 use segment_store::{call_kinds, extent_in};
 use std::alloc::Global;
 
-/// Looks at a wait: ready where no entry of its queue is posted, and no read and no notification of a read stands in it.
-/// (GASPI: wait)
+/// The result of a `wait`: `BadQueue`, or `QueueBroken`, or done where its queue has no awaited entry, else not ready. (GASPI: wait)
 fn look_at_wait(lanes: &Lanes, call: &Wait) -> Result<Option<Reply>, Refusal>
     ensures { (posts : Posts) → posts.queues ≡ lanes.now.queues → result ≡ wait_result posts call.now }
 {
@@ -38,7 +39,7 @@ fn look_at_wait(lanes: &Lanes, call: &Wait) -> Result<Option<Reply>, Refusal>
     }
 }
 
-/// Looks at a purge: its queue is there, broken or not. (GASPI: queue_purge)
+/// The result of a `purge`: done where the queue is there, broken or not; else `BadQueue`. (GASPI: queue_purge)
 fn look_at_purge(lanes: &Lanes, call: &Purge) -> Result<Option<Reply>, Refusal>
     ensures { (posts : Posts) → posts.queues ≡ lanes.now.queues → result ≡ purge_result posts call.now }
 {
@@ -46,7 +47,7 @@ fn look_at_purge(lanes: &Lanes, call: &Purge) -> Result<Option<Reply>, Refusal>
     Ok(Some(Reply::Done))
 }
 
-/// Looks at the size of a queue: its open count. (GASPI: queue_size)
+/// The result of a `qsize`: the open count of its queue, or `BadQueue`. (GASPI: queue_size)
 fn look_at_size(lanes: &Lanes, call: &Qsize) -> Result<Option<Reply>, Refusal>
     ensures { (posts : Posts) → posts.queues ≡ lanes.now.queues → result ≡ qsize_result posts call.now }
 {
@@ -54,7 +55,8 @@ fn look_at_size(lanes: &Lanes, call: &Qsize) -> Result<Option<Reply>, Refusal>
     Ok(Some(Reply::Value(u64::from(count))))
 }
 
-/// Checks that no entry of the rank's own uses a segment. (GASPI: segment_delete)
+/// The result of a `delete`: `NoSegment`, `SegmentBusy` with the least queue that has an entry that uses the segment, or done.
+/// (GASPI: segment_delete)
 fn look_at_delete(lanes: &Lanes, own: &Extents, call: &Delete) -> Result<Option<Reply>, Refusal>
     ensures { (posts : Posts) → posts.queues ≡ lanes.now.queues → posts.segments.own ≡ own.now → result ≡ delete_result posts call.now }
 {
@@ -65,7 +67,7 @@ fn look_at_delete(lanes: &Lanes, own: &Extents, call: &Delete) -> Result<Option<
     }
 }
 
-/// What a call finds that posts nothing and is no collective. Only a load takes memory.
+/// The result of a plain call: its refusal, its reply, or None where it is not ready. Only a load takes memory.
 fn plain_result(
     alloc: Global,
     posts: &NodePosts,
@@ -139,7 +141,8 @@ fn plain_result(
     })
 }
 
-/// What a call finds that posts to that lane: `Done`, or its first refusal. Only the post of a list takes memory.
+/// The result of a call that posts to the lane `to`: done, or its first refusal: `BadRank`, `BadQueue`, those of `call_kinds`, those
+/// of `check_post`. Only the post of a list takes memory.
 fn post_result(
     alloc: Global,
     posts: &NodePosts,
@@ -167,8 +170,9 @@ fn post_result(
     }
 }
 
-/// Looks at a call that is no collective: its refusal or its reply, or that it is not ready. The memory is that which the call works on:
-/// its rank's or, of an atomic and a send, that of the rank that it names. Only a load and the post of a list take memory.
+/// The answer to a call that is no collective: a refusal or a reply, or that it is not ready. `memory` is that of the rank that an
+/// atomic or a send names, and else that of the caller's rank. Only a load and the post of a list take memory, and a call that is
+/// not ready takes none.
 pub(crate) fn look(
     alloc: Global,
     posts: &NodePosts,

@@ -1,4 +1,6 @@
-//! What calls change in the posts of a rank, without memory.
+//! Effects on the posts of a rank, of calls that were done and are no collectives. A call was done where its reply is neither a
+//! refusal nor a timeout. None takes memory, and the count of events stays: `recording` adds the event. The functions of single
+//! changes require what the look has found; `change` and `affect` choose among them by the call.
 
 ghost use Rattle.std.specs.Prelude.{◌≡◌, ◌+◌, ◌<◌, ◌≤◌, ◌^◌, Ok, IsOk, IfSome, IsSomeAnd, Some, slice_set};
 ghost use Rattle.gaspi_types.specs.CallRows.{row_of};
@@ -23,7 +25,8 @@ impl NodePosts {
     ghost use Rattle.std.specs.Prelude.{◌≡◌, ◌+◌, ◌<◌, ◌≤◌, ◌^◌, Ok, IsOk, IfSome, IsSomeAnd, Some, slice_set, ◌++◌, ◌∷◌, [], length, option_copied};
     ghost use Rattle.rank_node.specs.Effects.{with_posts, MayPost};
 
-    /// Posts entries to the end of a lane. (GASPI: write, read, notify)
+    /// Appends entries to the end of the lane `to`, and counts them as open and as owed. Its queue takes them, as the look has
+    /// found. (GASPI: write, read, notify)
     pub(crate) fn post(&mut self, to: Posting, entries: Entries)
         requires { MayPost self.old to entries }
         ensures { self.new ≡ with_posts self.old (with_post self.old.posts to.queue to.rank (Ok entries)) }
@@ -36,7 +39,7 @@ impl NodePosts {
         self.owed = self.lanes.owed();
     }
 
-    /// The open count of a queue that is ready returns to 0. (GASPI: wait)
+    /// Makes the open count of a queue 0. A `wait` for the queue would be done. (GASPI: wait)
     fn close_wait(&mut self, queue: u64)
         requires { wait_result self.old.posts (record { queue = queue }) ≡ Ok (Some Done) }
         ensures { self.new ≡ with_posts self.old (closed self.old.posts queue) }
@@ -45,7 +48,8 @@ impl NodePosts {
         self.owed = self.lanes.owed();
     }
 
-    /// Drops the entries of a queue, clears its open count and mends it. Its corrupt ranks stay so. (GASPI: queue_purge)
+    /// Drops all entries of a queue, and makes its open count 0 and the queue unbroken. The state vector stays. Where there is no
+    /// such queue nothing changes. (GASPI: queue_purge)
     fn purge(&mut self, queue: u64)
         ensures { self.new ≡ with_posts self.old (purged self.old.posts queue) }
     {
@@ -56,7 +60,7 @@ impl NodePosts {
         self.owed = self.lanes.owed();
     }
 
-    /// Adds a segment of the next generation of its number to the own ones. (GASPI: segment_alloc)
+    /// Adds an extent to the table of own segments, in the next generation of its id. (GASPI: segment_alloc)
     pub(crate) fn add_own(&mut self, seg: u64, size: u32)
         requires { next_generation self.old.posts.segments.next_generations seg + 1 < 2 ^ 32 }
         ensures { self.new ≡ with_posts self.old (with_own self.old.posts seg size) }
@@ -64,21 +68,21 @@ impl NodePosts {
         add_own(&mut self.segments, seg, size);
     }
 
-    /// Takes a segment out of the own ones. (GASPI: segment_delete)
+    /// Removes an extent from the table of own segments. (GASPI: segment_delete)
     fn remove_own(&mut self, seg: u64)
         ensures { self.new ≡ with_posts self.old (without_own self.old.posts seg) }
     {
         remove_own(&mut self.segments, seg);
     }
 
-    /// Makes a segment of an owner known, or takes away what was known of it. (GASPI: segment_register)
+    /// Makes a segment of `owner` known with this extent, or unknown where that is None. (GASPI: segment_register)
     pub(crate) fn set_known(&mut self, owner: RankId, seg: u64, extent: Option<Extent>)
         ensures { self.new ≡ with_posts self.old (with_known owner seg extent self.old.posts) }
     {
         set_known(&mut self.segments, owner, seg, extent);
     }
 
-    /// Makes a group, with no rank in it. (GASPI: group_create)
+    /// Makes the group with the next id: building, with no rank. (GASPI: group_create)
     fn create_group(&mut self)
         requires { IsOk (next_group self.old.posts.groups) }
         ensures { self.new ≡ with_posts self.old (group_create_effect self.old.posts) }
@@ -89,7 +93,7 @@ impl NodePosts {
         }
     }
 
-    /// Adds a rank to a group. (GASPI: group_add)
+    /// Adds a rank to a group that is building. A rank that is in the group already changes nothing. (GASPI: group_add)
     fn add_to_group(&mut self, call: &GroupAdd)
         requires rank { call.now.rank < 16 }
         requires group { IsOk (building_at self.old.posts.groups call.now.group) }
@@ -101,7 +105,7 @@ impl NodePosts {
         }
     }
 
-    /// Drops a group. (GASPI: group_delete)
+    /// Removes the handle of a group, which is there and is not group 0. (GASPI: group_delete)
     fn delete_group(&mut self, group: u64)
         requires { IsOk (delete_checks self.old.posts.groups group) }
         ensures { self.new ≡ with_posts self.old (group_delete_effect self.old.posts (record { group = group })) }
@@ -112,7 +116,7 @@ impl NodePosts {
         }
     }
 
-    /// Ends a thread.
+    /// Makes the state of a thread ended.
     fn end_thread(&mut self, thread: ThreadId)
         ensures { self.new ≡ with_posts self.old (record self.old.posts { threads = slice_set self.old.posts.threads thread Ended }) }
     {
@@ -125,7 +129,8 @@ impl NodePosts {
 
     ghost use Rattle.rank_node.specs.Effects.{MayChangePosts, MayAffectPosts};
 
-    /// What a call leaves that posts nothing.
+    /// Makes the effect on its rank's posts of a call that was done, is no collective and posts nothing. The count of events stays.
+    /// `thread` matters for the end alone. It takes no memory.
     fn change(&mut self, thread: ThreadId, call: &Call)
         requires { MayChangePosts self.old call.now }
         ensures { self.new ≡ with_posts self.old (plain_effect self.old.posts thread call.now) }
@@ -143,7 +148,8 @@ impl NodePosts {
         }
     }
 
-    /// Takes the entries that were reserved for a post, and posts them to the end of a lane. (GASPI: write, read, notify)
+    /// Appends the reserved entries of a post to the end of the lane `to`. They are there, and `entries` is None after that.
+    /// (GASPI: write, read, notify)
     fn post_reserved(&mut self, to: Posting, entries: &mut Option<Entries>)
         requires { IsSomeAnd entries.old (λ entries. MayPost self.old to entries) }
         ensures { IfSome entries.old (λ entries. self.new ≡ with_posts self.old (with_post self.old.posts to.queue to.rank (Ok entries))) }
@@ -154,7 +160,8 @@ impl NodePosts {
         }
     }
 
-    /// What a call leaves that was answered neither with a refusal nor with a timeout: a post its entries, which are taken.
+    /// Makes the effect on its rank's posts of a call that was done and is no collective: of a post by `entries`, which is None
+    /// after that, of any other call by `change`. The count of events stays. It takes no memory.
     pub(crate) fn affect(
         &mut self,
         thread: ThreadId,

@@ -1,4 +1,5 @@
-//! Takes and puts of a rank's own entries, with their events. (GASPI: one-sided communication)
+//! The take and the put of a front entry, on the posts of its origin and the memory that they work on, with the event in the rank
+//! journal. (GASPI: one-sided communication)
 
 ghost use Rattle.std.specs.Prelude.{◌≡◌, Some, IfSome};
 ghost use Rattle.gaspi_types.specs.declared.entries.Entry.{Entry};
@@ -12,8 +13,8 @@ use crate::node_posts::NodePosts;
 use gaspi_types::{Event, Outcome, Transfer};
 
 impl NodePosts {
-    /// The entry of the lane of a transfer that may take its bytes next takes them from a memory, or fails; the event has its place
-    /// in the rank journal. It takes no memory.
+    /// Makes the take of the first posted entry of the lane of `t`, from `source`, and records it with its outcome at `place`. There
+    /// is such an entry, its bytes fit, and the rank journal has room. It takes no memory.
     pub(crate) fn take_from(&mut self, source: &NodeMemory, place: u64, t: &Transfer)
         requires { MayTakeFrom self.old source.now.memory t.now }
         ensures { IfSome (front_posted_of (lanes_of self.old) t.now.queue t.now.target) (λ (e : Entry).
@@ -26,8 +27,8 @@ impl NodePosts {
         self.add_event(place, event);
     }
 
-    /// The entry of the lane of a transfer that may be put next is put into a memory, and goes, or fails; the event has its place in
-    /// the rank journal. It takes no memory.
+    /// Makes the put of the first carried entry of the lane of `t`, into `destination`, records it with its outcome at `place`, and
+    /// gives the outcome. There is such an entry, which is the head of the lane, and the rank journal has room. It takes no memory.
     pub(crate) fn put_into(
         &mut self,
         destination: &mut NodeMemory,

@@ -1,4 +1,4 @@
-//! A call that is no collective is recorded, on the posts of its caller's rank and the memory that it works on.
+//! The record of a call that is no collective, on the posts of its caller's rank and the memory that it works on.
 
 ghost use Rattle.std.specs.Prelude.{◌≡◌, ◌<◌, false};
 ghost use Rattle.gaspi_types.specs.CallRows.{row_of};
@@ -11,7 +11,8 @@ use crate::rooms::Room;
 use gaspi_types::{Call, CallerId, Event, Reply};
 use plain_calls::is_refused_or_timeout;
 
-/// Records a call with its reply: what it leaves, and one event more. It takes no memory but what the room has.
+/// Makes the effect of a call with its reply, and appends its event at `place` to the rank journal. A refusal or a timeout only
+/// appends the event. `room` is the memory that was reserved for the call, and is used; no other memory is taken.
 pub(crate) fn record(
     posts: &mut NodePosts,
     memory: &mut NodeMemory,

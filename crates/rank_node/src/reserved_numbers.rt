@@ -1,4 +1,5 @@
-//! Memory for numbers that is taken before a call is recorded. (GASPI: allreduce)
+//! Reserved memory for the numbers of an allreduce: lists that are taken before the call is recorded, and how they are filled
+//! without more memory. (GASPI: allreduce)
 
 ghost use Rattle.std.specs.Prelude.{◌≡◌, ◌≤◌, length, false, IfOk, IsOk};
 ghost use Rattle.gaspi_types.specs.CallRows.{row_of};
@@ -8,15 +9,14 @@ use gaspi_types::{Args, Call, NoMemory, Numbers, Reply, Sequence};
 use std::alloc::Global;
 use std::marker::Model;
 
-/// Memory for the numbers of a collective, in three lists. Contracts see the capacity of each. A list is used once, and its
-/// capacity is 0 after that.
+/// Three lists for the numbers of an allreduce, each to be used once. Contracts see the length of each, which is 0 once it was used.
 #[derive(Debug, Drop)]
 pub struct ReservedNumbers {
-    /// For the values of the collective that is pending.
+    /// For the values of the collective as it becomes pending.
     pub(crate) values: Sequence<i128>,
-    /// For the numbers of the answer in its event.
+    /// For the numbers of the reply in its event.
     pub(crate) event: Sequence<i128>,
-    /// For the numbers of the answer to the caller.
+    /// For the numbers of the reply to the caller.
     pub(crate) caller: Sequence<i128>,
 }
 
@@ -30,14 +30,14 @@ impl Model for ReservedNumbers {
     ghost view = { capacities_of };
 }
 
-/// So many zeros.
+/// A list of `count` zeros.
 pub(crate) fn blank(alloc: Global, count: usize) -> Result<Sequence<i128>, NoMemory>
     ensures { IfOk result (λ numbers. length numbers ≡ count) }
 {
     Ok(Sequence::from_vec(vec![in alloc; 0; count]?))
 }
 
-/// Takes a list, and leaves the empty one. It takes no memory.
+/// Gives a list away and leaves the empty one. It takes no memory.
 pub(crate) fn take_numbers(numbers: &mut Sequence<i128>) -> Sequence<i128>
     ensures { result ≡ numbers.old }
 {
@@ -45,7 +45,7 @@ pub(crate) fn take_numbers(numbers: &mut Sequence<i128>) -> Sequence<i128>
     std::mem::replace(numbers, Sequence::new(alloc))
 }
 
-/// Equal numbers, in a list that is long enough.
+/// Equal numbers in `list`, which is long enough. It takes no memory.
 fn copied(numbers: &Numbers, mut list: Sequence<i128>) -> Numbers
     requires { length numbers.now.items ≤ length list }
     ensures { result ≡ numbers.now }
@@ -56,7 +56,7 @@ fn copied(numbers: &Numbers, mut list: Sequence<i128>) -> Numbers
     Numbers::new(numbers.num_type(), list)
 }
 
-/// Equal arguments, in a list that is long enough.
+/// Equal arguments, with their values in `list`, which is long enough. It takes no memory.
 pub(crate) fn copied_args(args: &Args, list: Sequence<i128>) -> Args
     requires { length args.now.values.items ≤ length list }
     ensures { result ≡ args.now }
@@ -67,7 +67,7 @@ pub(crate) fn copied_args(args: &Args, list: Sequence<i128>) -> Args
     }
 }
 
-/// An equal reply. Of numbers it takes the list, which is long enough.
+/// An equal reply, its numbers in `list`, which is long enough and is empty after that. The reply has no bytes. It takes no memory.
 fn reply_in(reply: &Reply, list: &mut Sequence<i128>) -> Reply
     requires { ReplyFits reply.now (length list.old) }
     ensures { result ≡ reply.now }
@@ -85,7 +85,7 @@ fn reply_in(reply: &Reply, list: &mut Sequence<i128>) -> Reply
 }
 
 impl ReservedNumbers {
-    /// No memory.
+    /// Three empty lists. It takes no memory.
     pub(crate) fn nothing(alloc: Global) -> ReservedNumbers
         ensures values { result.values ≡ 0 }
         ensures event { result.event ≡ 0 }
@@ -98,7 +98,7 @@ impl ReservedNumbers {
         }
     }
 
-    /// Memory for so many numbers in each list.
+    /// Three lists of `count` numbers.
     fn with_capacity(alloc: Global, count: usize) -> Result<ReservedNumbers, NoMemory>
         ensures values { IfOk result (λ rooms. rooms.values ≡ count) }
         ensures event { IfOk result (λ rooms. rooms.event ≡ count) }
@@ -111,7 +111,8 @@ impl ReservedNumbers {
         })
     }
 
-    /// The memory that a call needs: for an allreduce as many places in each list as it has elements, and for any other call none.
+    /// The lists that a call needs: of an allreduce each has as many numbers as the call has elements, of any other call none. A
+    /// call whose row says that it takes no memory takes none.
     pub fn for_call(alloc: Global, call: &Call) -> Result<ReservedNumbers, NoMemory>
         ensures capacities { IfOk result (λ rooms. rooms ≡ capacities_for call.now) }
         ensures ample { (row_of call.now).takes_memory ≡ false → IsOk result }
@@ -125,7 +126,8 @@ impl ReservedNumbers {
         }
     }
 
-    /// An equal reply for the caller, without memory: once. The reply has no bytes, and no more numbers than the caller's list takes.
+    /// An equal reply for the caller, beside that in the event. It works once, for it uses the caller's list. The reply has no bytes
+    /// and fits that list. It takes no memory.
     pub fn again(&mut self, reply: &Reply) -> Reply
         requires { ReplyFits reply.now self.old.caller }
         ensures reply { result ≡ reply.now }

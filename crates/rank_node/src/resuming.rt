@@ -1,4 +1,6 @@
-//! A pending collective resumed by a call, whose arguments are not made anew. (GASPI: timeouts)
+//! Whether a call resumes the pending collective of its rank. The arguments of the call are compared without being made, since that
+//! takes memory. *Kept* are the arguments of the pending collective; *plain* is a collective without values: any but an allreduce.
+//! (GASPI: timeouts)
 
 ghost use Rattle.std.specs.Prelude.{◌≡◌, ℕ, Ok};
 ghost use Rattle.std.specs.Option.{option_copied};
@@ -11,7 +13,7 @@ use gaspi_types::{
     Allreduce, Args, Call, Coll, NumType, PendingCollective, Refusal, Resume, ThreadId,
 };
 
-/// Whether a collective without values is the one that is kept.
+/// Whether a collective without values has the arguments that are kept.
 fn is_plain_same(coll: Coll, kept: &Args) -> bool
     ensures { result ≡ same_args (plain_args coll) kept.now }
 {
@@ -20,7 +22,7 @@ fn is_plain_same(coll: Coll, kept: &Args) -> bool
         && kept.values.items().is_empty()
 }
 
-/// Whether an allreduce is the one that is kept.
+/// Whether an allreduce has the arguments that are kept.
 fn is_reduce_same(call: &Allreduce, kept: &Args) -> bool
     requires { element_checks (calls.Allreduce call.now) ≡ Ok tt }
     ensures { (members : ℕ) → result ≡ has_same_args (args_of members (calls.Allreduce call.now)) kept.now }
@@ -30,7 +32,7 @@ fn is_reduce_same(call: &Allreduce, kept: &Args) -> bool
     same_coll(coll, kept.coll) && same_numbers(&call.values, &kept.values)
 }
 
-/// Whether a call asks for the arguments that are kept, where its group has those members.
+/// Whether a call on a group with these members has the arguments that are kept.
 fn asks_same(members: u32, call: &Call, kept: &Args) -> bool
     requires { element_checks call.now ≡ Ok tt }
     ensures { result ≡ has_same_args (args_of members call.now) kept.now }
@@ -49,8 +51,9 @@ fn asks_same(members: u32, call: &Call, kept: &Args) -> bool
     }
 }
 
-/// What a collective of a thread meets where that one of the rank is pending on its group, or none: as `gaspi_model::resume` says,
-/// without the arguments of the call. It takes no memory. (GASPI: timeouts)
+/// Whether a collective of a thread is fresh or the same, by what is pending on its group, as `gaspi_model::resume` says; else
+/// `ActiveCollective` where one is pending for another thread, `ResumeOther` where another one is pending for this thread. The
+/// elements of the call were checked. It takes no memory. (GASPI: timeouts)
 pub(crate) fn resumes(
     pending: Option<&PendingCollective>,
     thread: ThreadId,

@@ -1,4 +1,5 @@
-//! Memory that is reserved before a call is recorded, so that its steps take none.
+//! Reserved memory: all that the record of a call needs is taken before it, so that the record takes none. In this file a *room* is
+//! that memory, and no count of events.
 
 ghost use Rattle.std.specs.Prelude.{◌≡◌, ◌≤◌, false, length, IfOk, IsOk, IsSome, None, Ok, Some};
 ghost use Rattle.gaspi_types.specs.CallRows.{row_of};
@@ -19,19 +20,25 @@ use post_queue::{BuildStop, Entries, asked_entries};
 use segment_store::{check_alloc, check_own_range};
 use std::alloc::Global;
 
-/// The memory that a call needs, with the call's row: of a post its entries, with room for their bytes; a segment that is made; a
-/// message that is sent; bytes for a second reply of a load; and lists for the numbers of an allreduce.
+/// The reserved memory of a call, with its row.
 #[derive(Debug, Drop)]
 pub struct Room {
+    /// The row of the call.
     pub row: CallRow,
+    /// The entries of a post, with capacity for their bytes.
     pub entries: Option<Entries>,
+    /// The segment that an alloc or a create makes.
     pub made: Option<MadeSegment>,
+    /// The message of a send.
     pub message: Option<Message>,
+    /// A list for the bytes of a load, for a second reply.
     pub bytes: Bytes,
+    /// Lists for the numbers of an allreduce.
     pub numbers: ReservedNumbers,
 }
 
-/// The entries of a call that posts, where it asks for some; of one that is refused for what it asks, none.
+/// The entries that a call asks for, with capacity for their bytes; None where it posts nothing, and where it is refused for what it
+/// asks.
 fn reserve_entries(
     alloc: Global,
     posts: &NodePosts,
@@ -52,7 +59,7 @@ fn reserve_entries(
     }
 }
 
-/// A segment of a number and a size that may be made; else none.
+/// A made segment for this id and size; None where `alloc` would be refused.
 fn reserve_segment(
     alloc: Global,
     posts: &NodePosts,
@@ -68,7 +75,7 @@ fn reserve_segment(
     }
 }
 
-/// The segment that a call makes, where it may be made.
+/// The made segment of an alloc or a create; None where `alloc` would be refused, and for every other call.
 fn reserve_made(
     alloc: Global,
     posts: &NodePosts,
@@ -85,7 +92,7 @@ fn reserve_made(
     }
 }
 
-/// The message that a call brings, taken from the own memory.
+/// The message of a send, copied from the own memory; None for every other call.
 fn reserve_message(
     alloc: Global,
     posts: &NodePosts,
@@ -104,7 +111,7 @@ fn reserve_message(
     }
 }
 
-/// As many zeros as a load reads bytes, where it is not refused; else none.
+/// As many zeros as a load reads bytes; none where it is refused, and for every other call.
 fn reserve_bytes(alloc: Global, posts: &NodePosts, call: &Call) -> Result<Bytes, NoMemory>
     ensures bytes { IfOk result (λ bytes. HasBytes posts.now call.now bytes) }
     ensures ample { (row_of call.now).takes_memory ≡ false → IsOk result }
@@ -118,7 +125,7 @@ fn reserve_bytes(alloc: Global, posts: &NodePosts, call: &Call) -> Result<Bytes,
     Ok(Sequence::new(alloc))
 }
 
-/// The room of a call that posts nothing and takes no memory.
+/// The room of a call that posts nothing and takes no memory: its row alone.
 fn empty_room(alloc: Global, invocation: &Invocation<'_>) -> Room
     requires posting { (row_of invocation.now.call.now).posting ≡ None }
     requires memory { (row_of invocation.now.call.now).takes_memory ≡ false }
@@ -155,7 +162,7 @@ fn post_room(
     })
 }
 
-/// The room of a call that posts nothing.
+/// The room of a call that posts nothing, in the posts and the memory of its caller's rank.
 fn memory_room(
     alloc: Global,
     posts: &NodePosts,
@@ -178,7 +185,8 @@ fn memory_room(
     })
 }
 
-/// Reserves the memory that a call needs, on the posts and the memory of its caller's rank. A call whose row says so takes none.
+/// Reserves the memory that a call needs, on the posts and the memory of its caller's rank, which do not change. A call whose row
+/// says that it takes no memory takes none.
 pub(crate) fn reserve(
     alloc: Global,
     posts: &NodePosts,
@@ -196,7 +204,7 @@ pub(crate) fn reserve(
     }
 }
 
-/// Takes a list of bytes, and leaves the empty one. It takes no memory.
+/// Gives a list of bytes away and leaves the empty one. It takes no memory.
 fn take_bytes(bytes: &mut Bytes) -> Bytes
     ensures { result ≡ bytes.old }
 {
@@ -204,7 +212,7 @@ fn take_bytes(bytes: &mut Bytes) -> Bytes
     std::mem::replace(bytes, Sequence::new(alloc))
 }
 
-/// Equal bytes, in a list that is long enough.
+/// Equal bytes in `list`, which is long enough. It takes no memory.
 fn copied_bytes(bytes: &Bytes, mut list: Bytes) -> Bytes
     requires { length bytes.now ≤ length list }
     ensures { result ≡ bytes.now }
@@ -218,8 +226,8 @@ impl Room {
     ghost use Rattle.std.specs.Prelude.{◌≡◌};
     ghost use Rattle.rank_node.specs.Rooms.{ReplyFitsReserved};
 
-    /// An equal reply for the caller, beside that in the event: once. It takes no memory, and the room is still one for the record, with
-    /// the lists for a join's values and for the event.
+    /// An equal reply for the caller, beside that in the event. It works once, for it uses the list for a load's bytes or the
+    /// caller's list of numbers. All else of the room stays, so it still serves the record. It takes no memory.
     pub fn again(&mut self, reply: &Reply) -> Reply
         requires { ReplyFitsReserved reply.now self.old }
         ensures reply { result ≡ reply.now }

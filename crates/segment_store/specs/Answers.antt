@@ -1,11 +1,11 @@
--- What the calls on the notification slots of one segment answer, by the checks of the machine. (GASPI: notifications)
+-- The results of `waitsome` and `reset` on the slots of one segment, by the checks of the machine. (GASPI: notifications)
 use Rattle.std.specs.Prelude.{ℕ, List, length, Option, Result, Ok, nat_lt, slice_index}
 use Rattle.gaspi_types.specs.Checks.{◌>>=◌, check}
 use Rattle.gaspi_types.specs.Slots.{is_slot_range, first_set}
 use Rattle.gaspi_types.specs.declared.replies.Refusal.{Refusal}
 use Rattle.gaspi_types.specs.declared.replies.Refusal.TheVariants.{BadNote}
 
--- the least slot of a range that is set, where one is (notify_waitsome)
+-- the least set slot of a range, or none where none is set (notify_waitsome)
 abbrev pub first_slot : List ℕ → ℕ → ℕ → Result (Option ℕ) Refusal
 first_slot slots begin num = do
   noted ← check (is_slot_range begin num (length slots)) BadNote

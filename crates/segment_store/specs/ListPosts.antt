@@ -1,4 +1,4 @@
--- What a list of items is checked for. (GASPI: write_list)
+-- The checks of the post of a list. (GASPI: write_list)
 use Rattle.std.specs.Prelude.{ℕ, List, [], ◌∷◌, ◌++◌, length, Result, Ok}
 use Rattle.gaspi_types.specs.Checks.{◌>>=◌, check, check_each}
 use Rattle.gaspi_types.specs.Posts.{is_list_length, has_segments, has_size, transfers_of}
@@ -9,8 +9,8 @@ use Rattle.gaspi_types.specs.declared.segments.SegmentTable.{SegmentTable}
 use Rattle.gaspi_types.specs.declared.replies.Refusal.{Refusal}
 use Rattle.gaspi_types.specs.declared.replies.Refusal.TheVariants.{BadCount}
 
--- What a list is refused for before the ranges of its items: its length, their segments, what else the post looks up, and
--- their sizes. Where it is not refused, this gives what else was looked up.
+-- The refusals of a list before the ranges of its items: by its length, by their segments, by `beside`, by their sizes. `beside` is what
+-- else the post has looked up, or its refusal; it is given back where the list is not refused.
 abbrev pub list_checks : {A : Type 0} → ℕ → SegmentTable → ℕ → List Item → Result A Refusal → Result A Refusal
 list_checks me table rank items beside = do
   counted ← check (is_list_length (length items)) BadCount
@@ -19,7 +19,7 @@ list_checks me table rank items beside = do
   sized ← check_each has_size items
   Ok known
 
--- the transfers of its items, and behind them a notification, which is refused after them
+-- the entries of its items, and then its notification, whose refusal comes after theirs
 abbrev pub transfers_then : Direction → ℕ → SegmentTable → ℕ → List Item → Result Kind Refusal → Result (List Kind) Refusal
 transfers_then direction me table rank items last = do
   kinds ← transfers_of direction me table rank items

@@ -1,4 +1,5 @@
-//! An inbox as a ring of messages. (GASPI: passive communication)
+//! The inbox of a rank as a ring: a list of fixed capacity, where messages are appended at the end and removed at the front.
+//! (GASPI: passive communication)
 
 ghost use Rattle.std.specs.Prelude.{◌≡◌, ◌≤◌, [], length, true, IfOk, IfSome};
 ghost use Rattle.gaspi_types.specs.Inboxes.{is_passive_size, has_room, first_within};
@@ -8,10 +9,11 @@ use gaspi_types::{Bytes, Message, NoMemory, RankId, Refusal};
 use std::alloc::Global;
 use std::marker::Model;
 
-/// The inbox of one rank: the messages that were sent to it and that it has not received, the earliest first. Contracts see how
-/// many messages it holds at most, 1 to 64, and the list of those that it holds.
+/// The inbox of one rank: the messages that it has not received, the earliest first. Contracts see the most messages that it may
+/// have, 1 to 64, and the list of its messages.
 #[derive(Drop)]
 pub struct Inbox {
+    /// The messages, with capacity for the most of them.
     ring: HeapCircularBuffer<Message>,
 }
 
@@ -28,8 +30,8 @@ impl Model for Inbox {
 impl Inbox {
     ghost use Rattle.segment_store.specs.Held.{message_of, deposit_answer, with_deposit, front_of, Receives};
 
-    /// The empty inbox, which holds `most` messages at most: 1 to 64, the limits of a world's inboxes. All places are taken here,
-    /// and no memory after.
+    /// The empty inbox, for `most` messages at most: 1 to 64, the limits of a world's inboxes. All memory of the ring is taken here;
+    /// the bytes of a message come with it.
     pub fn new(alloc: Global, most: u32) -> Result<Inbox, NoMemory>
         requires least { 1 ≤ most }
         requires greatest { most ≤ 64 }
@@ -40,7 +42,7 @@ impl Inbox {
         })
     }
 
-    /// How many messages it holds, which is never more than it may.
+    /// How many messages there are, at most `most`.
     pub fn len(&self) -> usize
         ensures value { result ≡ length self.now.messages }
         ensures bound { result ≤ self.now.most }
@@ -49,15 +51,15 @@ impl Inbox {
         self.ring.len()
     }
 
-    /// Whether there is room for one more message: exactly where `deposit` does not hand its message back.
+    /// Whether one message more fits: exactly where `deposit` does not give its message back.
     pub fn has_room(&self) -> bool
         ensures { result ≡ has_room self.now.most self.now.messages }
     {
         self.ring.len() < self.ring.capacity()
     }
 
-    /// Puts a message of 1 to 4,096 bytes behind the others. Where there is no room, and only there, nothing changes and the
-    /// message comes back. (GASPI: passive_send)
+    /// Appends a message of 1 to 4,096 bytes. Exactly where there is no room, nothing changes and the message is given back. It
+    /// takes no memory. (GASPI: passive_send)
     pub fn deposit(&mut self, sender: RankId, bytes: Bytes) -> Result<(), Message>
         requires { is_passive_size (length bytes) ≡ true }
         ensures answer { result ≡ deposit_answer self.old (message_of sender bytes) }
@@ -75,8 +77,8 @@ impl Inbox {
         Some((message.sender.number(), size_of(message)))
     }
 
-    /// Takes the first message out, if it has at most `size` bytes; None exactly where there is no message. A longer one stays:
-    /// `PassiveSize` then has its size. (GASPI: passive_receive)
+    /// Removes the first message and gives it, where it has at most `size` bytes; None exactly where there is no message. A longer
+    /// one stays, and `PassiveSize` has its size. (GASPI: passive_receive)
     pub fn receive(&mut self, size: u64) -> Result<Option<Message>, Refusal>
         ensures answer { result ≡ first_within size self.old.messages }
         ensures inbox { Receives self.old self.new result }

@@ -1,4 +1,4 @@
-//! Laws of the segments of a rank: the contracts of functions that do nothing.
+//! Laws of the segments of a rank: contracts of functions that do nothing.
 
 ghost use Rattle.std.specs.Prelude.{◌≡◌, ◌≢◌, ℕ, ◌+◌, ◌%◌, ◌^◌, ◌<◌, ◌≤◌, List, length, Some, Ok};
 ghost use Rattle.std.specs.Option.{option_map};
@@ -9,17 +9,16 @@ ghost use Rattle.gaspi_types.specs.declared.segments.Segment.{Segment};
 ghost use Rattle.segment_store.specs.Changes.{IsWritten};
 ghost use Rattle.segment_store.specs.Segments.{SegmentsValue, IsSound, word_in, with_stored, with_added, with_swapped};
 
-/// The table of own segments, by which calls are checked, has the generation and the size of each segment, and no others.
+/// The table of own segments, by which calls are checked, has the generation and the size of each own segment, and no other extents.
 pub fn extents()
     ensures each { (s : SegmentsValue) (segment : ℕ) → IsSound s → extent_in s.table.own segment ≡ option_map extent_of (segment_in s.segments segment) }
     ensures all { (s : SegmentsValue) → IsSound s → s.table.own ≡ extents_of s.segments }
 {}
 
-/// What a call that writes changes, where it is not refused: a store or a put exactly the bytes of its range, and an atomic
-/// exactly the eight bytes of its word, the lowest first. A put whose range goes past the end of the segment changes nothing.
-/// Every other byte, every other segment, all generations and all that is
-/// known stay. A word that is not the comparator stays too. Whether it is refused is told by the generations and sizes of the
-/// segments themselves, which is the table that calls are checked by. (GASPI: segments, atomics)
+/// What a call that writes changes, where it is not refused: a store or a put just the bytes of its range, and an atomic just its
+/// memory word. All other bytes, segments, generations and known segments stay. A put whose range does not lie in the segment
+/// changes nothing, and neither does a swap where the word is not the comparator. Refusals follow from the generations and sizes of
+/// the segments themselves. (GASPI: segments, atomics)
 pub fn writes()
     ensures store { (s : SegmentsValue) (segment offset : ℕ) (bytes : List ℕ) → own_range_checks (extents_of s.segments) segment offset (length bytes) ≡ Ok tt
         → IsWritten s (with_stored s segment offset bytes) segment offset bytes }

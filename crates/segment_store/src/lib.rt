@@ -1,11 +1,12 @@
-//! The memory of one rank: its segments, their notification slots, and its inbox.
-//! (GASPI: segments, atomics, notifications, passive communication)
+//! The memory of one rank: its segments, their slots, and its inbox; and what the calls that post ask of the table of segments.
 //!
-//! Contracts see `Segments` as the table from which a rank's posts are built (its own segments and what it knows of others, by generation
-//! and size) and the segments with their bytes, which agree with it; `Slots` as the list of the slots' values, 0 where no notification is
-//! set; an `Inbox` as how many messages it holds at most and the list of those that it holds. Every call says what it answers, by the
-//! checks of `gaspi_types` that the machine uses, and what it leaves. A refused call changes nothing, and neither does one that is out of
-//! memory. The machine in memory uses the functions on ranges, words and tables by themselves.
+//! Contracts see `Segments` as the table of segments (own and known, by generation and size) and the own segments with their bytes,
+//! which agree with it; `Slots` as the list of the slots' values; an `Inbox` as the most messages that it may have and the list of
+//! its messages. A call answers by the checks of `gaspi_types` that the machine uses. Where it is refused, or memory runs out,
+//! nothing changes.
+//!
+//! Both machines use `Slots`, `Inbox` or the functions on ranges, words and tables. Neither uses `Segments`, which is the whole
+//! store of a rank's segments for other code. (GASPI: segments, atomics, notifications, passive communication)
 #![tactic(auto)]
 
 mod inbox;

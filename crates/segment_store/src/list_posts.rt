@@ -1,5 +1,6 @@
-//! What the posts of lists ask of a table of segments. Each kind of check goes through all items before the next one.
-//! (GASPI: write_list)
+//! The entries that the post of a list asks for, or its first refusal, by the table of segments of its caller's rank `me`. One kind
+//! of check goes through all items before the next kind: length, segments, sizes, ranges. All functions that give entries take
+//! memory for them. (GASPI: write_list)
 
 ghost use Rattle.std.specs.Prelude.{◌≡◌, ◌≤◌, length, IfOk, Ok};
 ghost use Rattle.gaspi_types.specs.Checks.{check_each};
@@ -30,7 +31,7 @@ fn check_item_segments(
     Ok(())
 }
 
-/// Checks the segments of all items.
+/// Checks the segments of all items, item by item.
 fn check_segments(
     me: RankId,
     table: &SegmentTable,
@@ -57,8 +58,9 @@ fn check_sizes(items: &[Item]) -> Result<(), Refusal>
     Ok(())
 }
 
-/// Checks a list before the ranges of its items: its length (`BadCount`), their segments, what else the post looks up, and
-/// their sizes. Where it is not refused, this gives what else was looked up.
+/// Checks a list before the ranges of its items: its length (`BadCount`), their segments, then `beside`, then their sizes. `beside`
+/// is what else the post has looked up, the segment of its notification, or its refusal; it is given back where the list is not
+/// refused.
 fn check_list<T: Copy>(
     me: RankId,
     table: &SegmentTable,
@@ -79,8 +81,8 @@ fn check_list<T: Copy>(
     Ok(known)
 }
 
-/// A transfer for each item, in order, or the first refusal of an item. Memory is taken for all of them at once, and for a
-/// notification behind them.
+/// A write or a read for each item, in order, or the first refusal of an item. Memory is taken for all of them at once, and for one
+/// entry more.
 fn transfers_of(
     alloc: Global,
     direction: Direction,
@@ -103,7 +105,8 @@ fn transfers_of(
     Ok(Ok(kinds))
 }
 
-/// The transfers of a list that was checked, and behind them its notification, which is refused after them.
+/// The entries of a list that passed `check_list`, and `last`, its notification, after them; or the first refusal, that of `last`
+/// after those of the items.
 fn transfers_then(
     alloc: Global,
     direction: Direction,
@@ -128,7 +131,7 @@ fn transfers_then(
     Ok(Ok(EntryKinds::Many(kinds)))
 }
 
-/// The transfers of a list alone.
+/// The entries of a list without a notification, or its first refusal.
 fn list_kinds(
     alloc: Global,
     direction: Direction,
@@ -149,7 +152,7 @@ fn list_kinds(
     }
 }
 
-/// The entries of writes, or the first refusal. (GASPI: write_list)
+/// The writes of a `write_list`, or its first refusal. (GASPI: write_list)
 pub(crate) fn write_list_kinds(
     alloc: Global,
     me: RankId,
@@ -163,7 +166,7 @@ pub(crate) fn write_list_kinds(
     list_kinds(alloc, Direction::Outward, me, table, call.rank, items)
 }
 
-/// The entries of reads, or the first refusal. (GASPI: read_list)
+/// The reads of a `read_list`, or its first refusal. (GASPI: read_list)
 pub(crate) fn read_list_kinds(
     alloc: Global,
     me: RankId,
@@ -177,8 +180,7 @@ pub(crate) fn read_list_kinds(
     list_kinds(alloc, Direction::Inward, me, table, call.rank, items)
 }
 
-/// The entries of writes and the notification behind them, or the first refusal up to the notification value.
-/// (GASPI: write_list_notify)
+/// The writes of a `write_list_notify` and its notification, or its first refusal. (GASPI: write_list_notify)
 #[tactic(auto, using(crate::proofs::ListPosts::list_noted_writes))]
 pub(crate) fn write_list_notify_kinds(
     alloc: Global,
@@ -201,8 +203,7 @@ pub(crate) fn write_list_notify_kinds(
     }
 }
 
-/// The entries of reads and the notification behind them, or the first refusal up to the slot.
-/// (GASPI: read_list_notify)
+/// The reads of a `read_list_notify` and its notification, or its first refusal. (GASPI: read_list_notify)
 pub(crate) fn read_list_notify_kinds(
     alloc: Global,
     notes: u32,

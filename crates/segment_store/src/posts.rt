@@ -1,4 +1,6 @@
-//! What the calls that post ask of a table of segments. (GASPI: one-sided communication)
+//! The entries that a call asks for, or its first refusal, by the table of segments of its caller's rank `me`: of a single write,
+//! read and notification, and of any call. Neither rank nor queue of the call is checked here. `notes` is how many slots each
+//! segment has. (GASPI: one-sided communication)
 
 ghost use Rattle.std.specs.Prelude.{◌≡◌, ◌<◌, ◌≤◌, ◌^◌, false, length, IfOk, IsOk};
 ghost use Rattle.gaspi_types.specs.Checks.{ok_or};
@@ -19,7 +21,7 @@ use gaspi_types::{
 };
 use std::alloc::Global;
 
-/// An own segment (`NoSegment`).
+/// The extent of an own segment, else `NoSegment`.
 pub(crate) fn own_segment(table: &SegmentTable, segment: u64) -> Result<Extent, Refusal>
     ensures found { result ≡ ok_or (extent_in table.now.own segment) NoSegment }
     ensures bound { IfOk result (λ mine. segment < 32) }
@@ -27,7 +29,7 @@ pub(crate) fn own_segment(table: &SegmentTable, segment: u64) -> Result<Extent, 
     extent_in(&table.own, segment).ok_or(Refusal::NoSegment)
 }
 
-/// What is known of a segment of a rank (`Unregistered`).
+/// The extent that `me` knows of a segment of a rank, else `Unregistered`.
 pub(crate) fn known_segment(
     me: RankId,
     table: &SegmentTable,
@@ -40,8 +42,8 @@ pub(crate) fn known_segment(
     known_extent(me, table, rank, segment).ok_or(Refusal::Unregistered)
 }
 
-/// The two ends of a transfer with a rank, or its first refusal: its segments (`NoSegment`, `Unregistered`), its size
-/// (`BadSize`), its ranges (`BadRange`).
+/// The two ranges of a write or a read, with the extents of their segments, or its first refusal: by its segments (`NoSegment`,
+/// `Unregistered`), its size (`BadSize`), its ranges (`BadRange`, the own one first).
 pub(crate) fn ends_of(
     me: RankId,
     table: &SegmentTable,
@@ -80,7 +82,7 @@ pub(crate) fn ends_of(
     })
 }
 
-/// A slot of a segment that is known so.
+/// The slot with a number of a segment with this extent.
 fn slot_in(extent: Extent, segment: u64, note: u64) -> NoteSlot
     requires segment { segment < 32 }
     requires note { note < 2 ^ 32 }
@@ -93,7 +95,7 @@ fn slot_in(extent: Extent, segment: u64, note: u64) -> NoteSlot
     }
 }
 
-/// A notification of a slot of the target, where there is one (`BadNote`), with a value from 1 on (`ZeroValue`).
+/// A notification of a slot of the target, which has that slot (else `BadNote`), with a value that is not 0 (else `ZeroValue`).
 pub(crate) fn notification(
     notes: u32,
     theirs: Extent,
@@ -116,7 +118,7 @@ pub(crate) fn notification(
     })
 }
 
-/// The notification of a read: of an own slot, where there is one (`BadNote`).
+/// The notification of a read, of an own slot, which is there (else `BadNote`).
 pub(crate) fn read_notification(
     notes: u32,
     mine: Extent,
@@ -166,8 +168,7 @@ fn notify_kinds(
     Ok([notification(notes, theirs, call.rseg, call.note, call.value)?])
 }
 
-/// The entries of a write and the notification behind it, or the first refusal up to the notification value.
-/// (GASPI: write_notify)
+/// The write of a `write_notify` and its notification, or its first refusal. (GASPI: write_notify)
 #[tactic(auto, using(crate::proofs::OneTransfer::one_noted_write))]
 fn write_notify_kinds(
     notes: u32,
@@ -182,7 +183,7 @@ fn write_notify_kinds(
     Ok([ends.kind(Direction::Outward), notify])
 }
 
-/// The entries of a read and its notification behind it, or the first refusal up to the slot. (GASPI: read_notify)
+/// The read of a `read_notify` and its notification, or its first refusal. (GASPI: read_notify)
 #[tactic(auto, using(crate::proofs::OneTransfer::one_noted_read))]
 fn read_notify_kinds(
     notes: u32,
@@ -197,9 +198,8 @@ fn read_notify_kinds(
     Ok([ends.kind(Direction::Inward), note])
 }
 
-/// What a call asks to be appended that posts, with so many notification slots in a segment, or its first refusal up to the
-/// notification value. A call that does not post asks for nothing. Only a list takes memory.
-/// (GASPI: one-sided communication)
+/// The entries that a call asks for, or its first refusal by the table: those of its segments, sizes, ranges, its slot, its value. A
+/// call that posts nothing asks for none. Only the post of a list takes memory. (GASPI: one-sided communication)
 pub fn call_kinds(
     alloc: Global,
     notes: u32,

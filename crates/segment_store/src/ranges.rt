@@ -1,4 +1,5 @@
-//! Ranges of bytes, and of other items. (GASPI: segments)
+//! Ranges of bytes, and of other items: their size and whether they lie within a list; to lend one, and to write over one.
+//! (GASPI: segments)
 
 ghost use Rattle.std.specs.Prelude.{◌≡◌, take, drop};
 ghost use Rattle.gaspi_types.specs.SegmentBytes.{is_transfer_size, is_within, range_checks, with_range};
@@ -12,14 +13,14 @@ pub fn is_transfer_size(size: u64) -> bool
     (1..=65_536).contains(&size)
 }
 
-/// Whether a range lies within that many items.
+/// Whether a range lies within `whole` items.
 pub fn is_within(offset: u64, size: u64, whole: u64) -> bool
     ensures { result ≡ is_within offset size whole }
 {
     size <= whole && offset <= whole - size
 }
 
-/// Checks a range of a segment of `whole` bytes: its size (`BadSize`), then its place (`BadRange`).
+/// Checks a range in a segment of `whole` bytes: its size is 1 to 65,536 (`BadSize`), then it lies within them (`BadRange`).
 pub fn check_range(whole: u32, offset: u64, size: u64) -> Result<(), Refusal>
     ensures { result ≡ range_checks whole offset size }
 {
@@ -32,7 +33,7 @@ pub fn check_range(whole: u32, offset: u64, size: u64) -> Result<(), Refusal>
     Ok(())
 }
 
-/// The items of a range, as far as there are any.
+/// The items of a range, from `offset` on and at most `size` of them, as far as there are any.
 pub fn range_of<T>(items: &[T], offset: usize, size: usize) -> &[T]
     ensures { result.now ≡ take size (drop offset items.now) }
 {
@@ -42,7 +43,7 @@ pub fn range_of<T>(items: &[T], offset: usize, size: usize) -> &[T]
     &behind[..end]
 }
 
-/// Writes bytes over those from an offset on, where they lie within them.
+/// Writes bytes over those from an offset on. Where they do not lie within the list nothing changes.
 pub fn set_range(bytes: &mut Bytes, offset: u64, new: &[u8])
     ensures { bytes.new ≡ with_range bytes.old offset new.now }
 {

@@ -1,4 +1,5 @@
-//! Tables of segments: what a rank has, and what it knows of others. (GASPI: segments)
+//! Tables of segments: the extents of a rank's own segments, and of those that it knows of others. What they have, what calls check
+//! by them, and how they change. `own` is the table of own segments. (GASPI: segments)
 
 ghost use Rattle.std.specs.Prelude.{◌≡◌, ◌+◌, ◌<◌, ◌^◌, OnSome, slice_set};
 ghost use Rattle.gaspi_types.specs.Inboxes.{passive_checks};
@@ -9,7 +10,7 @@ use gaspi_types::{
     Extent, Extents, RankId, Refusal, SegmentTable, Sequence, is_passive_size, is_segment_size,
 };
 
-/// What stands in a table of segments at a number, which is below 32.
+/// The extent in a table under an id; None where there is none, also for a number over 31.
 pub fn extent_in(table: &Extents, segment: u64) -> Option<Extent>
     ensures extent { result ≡ extent_in table.now segment }
     ensures bound { OnSome result (segment < 32) }
@@ -23,7 +24,8 @@ pub fn extent_in(table: &Extents, segment: u64) -> Option<Extent>
     }
 }
 
-/// What a rank knows of a segment of a rank: of its own what is there, of others what was made known to it.
+/// The extent that rank `me` knows of a segment of a rank: of its own the present one, of another's that of its registration; None
+/// where it knows none.
 pub fn known_extent(me: RankId, table: &SegmentTable, rank: u64, segment: u64) -> Option<Extent>
     ensures extent { result ≡ known_extent me table.now rank segment }
     ensures bound { OnSome result (segment < 32) }
@@ -37,8 +39,8 @@ pub fn known_extent(me: RankId, table: &SegmentTable, rank: u64, segment: u64) -
     }
 }
 
-/// Checks a range of an own segment: that the segment is there (`NoSegment`), the range's size (`BadSize`), its place
-/// (`BadRange`).
+/// Checks a range of an own segment: the segment is there (`NoSegment`), the size is right (`BadSize`), and the range lies in the
+/// segment (`BadRange`).
 pub fn check_own_range(own: &Extents, seg: u64, offset: u64, size: u64) -> Result<(), Refusal>
     ensures { result ≡ own_range_checks own.now seg offset size }
 {
@@ -61,7 +63,7 @@ pub fn check_message_range(own: &Extents, seg: u64, offset: u64, size: u64) -> R
     Ok(())
 }
 
-/// Checks that a segment may be made: its number (`NoSegment`), that it is not there (`SegmentThere`), its size
+/// Checks that a segment may be made: its id is below 32 (`NoSegment`), it is not there (`SegmentThere`), and its size is right
 /// (`BadSize`). (GASPI: segment_alloc)
 pub fn check_alloc(own: &Extents, seg: u64, size: u64) -> Result<(), Refusal>
     ensures { result ≡ alloc_checks own.now seg size }
@@ -78,7 +80,7 @@ pub fn check_alloc(own: &Extents, seg: u64, size: u64) -> Result<(), Refusal>
     Ok(())
 }
 
-/// The generation that the next segment of a number has; of a number over 31, 0.
+/// The generation that the next segment of an id has; 0 for a number over 31.
 pub fn next_generation(generations: &Sequence<u32>, seg: u64) -> u32
     ensures { result ≡ next_generation generations.now seg }
 {
@@ -89,7 +91,7 @@ pub fn next_generation(generations: &Sequence<u32>, seg: u64) -> u32
         .unwrap_or(0)
 }
 
-/// Uses a generation of a number.
+/// Raises the next generation of an id by one. A number over 31 changes nothing.
 fn use_generation(generations: &mut Sequence<u32>, seg: u64)
     requires { next_generation generations.old seg + 1 < 2 ^ 32 }
     ensures { generations.new ≡ with_generation generations.old seg }
@@ -101,7 +103,7 @@ fn use_generation(generations: &mut Sequence<u32>, seg: u64)
     }
 }
 
-/// Puts a segment at a number of a table, or takes away the one that is there.
+/// Puts an extent under an id, or removes the one that is there. A number over 31 changes nothing.
 fn set_extent(table: &mut Extents, seg: u64, extent: Option<Extent>)
     ensures { table.new ≡ slice_set table.old seg extent }
 {
@@ -111,7 +113,7 @@ fn set_extent(table: &mut Extents, seg: u64, extent: Option<Extent>)
     }
 }
 
-/// Adds an own segment of so many bytes, of the next generation of its number. (GASPI: segment_alloc)
+/// Adds an own segment of `size` bytes, in the next generation of its id, which is then one more. (GASPI: segment_alloc)
 pub fn add_own(table: &mut SegmentTable, seg: u64, size: u32)
     requires { next_generation table.old.next_generations seg + 1 < 2 ^ 32 }
     ensures { table.new ≡ with_own table.old seg size }
@@ -121,14 +123,15 @@ pub fn add_own(table: &mut SegmentTable, seg: u64, size: u32)
     use_generation(&mut table.next_generations, seg);
 }
 
-/// Takes an own segment away. (GASPI: segment_delete)
+/// Removes an own segment. The next generation of its id stays. (GASPI: segment_delete)
 pub fn remove_own(table: &mut SegmentTable, seg: u64)
     ensures { table.new ≡ without_own table.old seg }
 {
     set_extent(&mut table.own, seg, None);
 }
 
-/// Makes a segment of an owner known, in place of what was known of that number. (GASPI: segment_register)
+/// Makes a segment of another rank known with this extent, in place of what was known of that id; None makes it unknown.
+/// (GASPI: segment_register)
 pub fn set_known(table: &mut SegmentTable, owner: RankId, seg: u64, extent: Option<Extent>)
     ensures { table.new ≡ with_known owner seg extent table.old }
 {

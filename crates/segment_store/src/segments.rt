@@ -1,4 +1,5 @@
-//! The segments of one rank, and what it knows of the segments of all ranks. (GASPI: segments, atomics)
+//! The own segments of one rank, and what it knows of the segments of all ranks, as one store: tables and bytes agree. Neither
+//! machine uses it. (GASPI: segments, atomics)
 
 ghost use Rattle.std.specs.Prelude.{◌≡◌, ◌+◌, ◌<◌, ◌≤◌, ◌^◌, ◌↔◌, IsTrue, IfOk, OnOk, OnErr, IsSomeAnd, length};
 ghost use Rattle.std.specs.Option.{option_map};
@@ -18,13 +19,14 @@ use gaspi_types::{
 use std::alloc::Global;
 use std::marker::Model;
 
-/// The segments of one rank, and what it knows of the segments of all ranks. Contracts see it as the table of segments
-/// that a rank's posts are built from, and the segments with their bytes.
+/// The own segments of one rank with their bytes, and the table of segments. Contracts see both.
 ///
-/// The numbers of segments, offsets and sizes are those that a caller wrote, so any number may come.
+/// Ids, offsets and sizes are those that a caller wrote, so any number may come.
 #[derive(Debug, Drop)]
 pub struct Segments {
+    /// The table of segments.
     table: SegmentTable,
+    /// The own segments with their bytes.
     own: OwnSegments,
 }
 
@@ -45,7 +47,7 @@ impl Segments {
     ghost use Rattle.segment_store.specs.Segments.{IsSound, nothing_stored, known_of, delete_checks, own_bytes, own_word, with_zeros, without, with_stored, with_added, with_swapped, with_registered, HasNextGeneration};
     ghost use Rattle.segment_store.specs.Stops.{Answers};
 
-    /// No segment is there, and nothing is known of the segments of so many ranks. All tables are taken here.
+    /// No own segment, and none known of `ranks` ranks. All tables take their memory here.
     pub fn new(alloc: Global, ranks: u32) -> Result<Segments, NoMemory>
         requires { ranks ≤ 16 }
         ensures { IfOk result (λ segments. segments ≡ nothing_stored ranks) }
@@ -56,23 +58,23 @@ impl Segments {
         })
     }
 
-    /// Whether a rank is one of those of which something may be known.
+    /// Whether a rank is one of those of which segments may be known.
     pub fn has_rank(&self, owner: RankId) -> bool
         ensures { IsTrue result ↔ (owner < length self.now.table.known) }
     {
         owner.index() < self.table.known.len()
     }
 
-    /// Whether the next segment of a number may be made: its generation is below 4294967295, or the number over 31.
+    /// Whether the next segment of an id may be made: its generation is below 4,294,967,295, or the number is over 31.
     pub fn has_next_generation(&self, seg: u64) -> bool
         ensures { IsTrue result ↔ HasNextGeneration self.now seg }
     {
         seg >= 32 || *self.table.next_generations.at(seg as usize) < u32::MAX
     }
 
-    /// Makes a segment of so many zeros, of the next generation of its number. Refused with `NoSegment` where the number
-    /// is over 31, `SegmentThere`, or `BadSize` where the size is not 1 to 1,048,576; the memory is taken after these
-    /// checks. (GASPI: segment_alloc)
+    /// Makes an own segment of `size` zeros, in the next generation of its id. Refused with `NoSegment` where the id is over 31,
+    /// `SegmentThere`, or `BadSize` where the size is not 1 to 1,048,576. The memory is taken after these checks. Where it is
+    /// refused or memory runs out nothing changes. (GASPI: segment_alloc)
     pub fn alloc(&mut self, alloc: Global, seg: u64, size: u64) -> Result<(), PartStop>
         requires { HasNextGeneration self.old seg }
         ensures answer { Answers result (alloc_checks self.old.table.own seg size) }
@@ -86,8 +88,8 @@ impl Segments {
         Ok(())
     }
 
-    /// Makes a segment as `alloc` does, as long as the room that is handed in. The room is set to zeros and kept, and no
-    /// memory is taken. A refusal drops the room.
+    /// As `alloc`, but in the memory that is handed in: the segment has as many zeros as `room` has bytes. It takes no memory. Where
+    /// it is refused, `room` is dropped and nothing else changes.
     pub fn alloc_in(&mut self, seg: u64, room: Bytes) -> Result<(), Refusal>
         requires { HasNextGeneration self.old seg }
         ensures answer { result ≡ alloc_checks self.old.table.own seg (length room) }
@@ -104,7 +106,7 @@ impl Segments {
         Ok(())
     }
 
-    /// Keeps a segment of so many zeros, of the next generation of its number.
+    /// Puts a new segment of `size` zeros under its id, and its extent into the table. For `alloc` and `alloc_in`.
     fn keep(&mut self, seg: u64, size: u32, segment: Segment)
         requires number { seg < 32 }
         requires size { is_segment_size size ≡ true }
@@ -116,8 +118,8 @@ impl Segments {
         *self.own.at_mut(seg as usize) = Some(segment);
     }
 
-    /// Deletes a segment; `NoSegment` where it is not there. Whether an entry that the rank posted still uses the segment
-    /// cannot be seen here: the caller sees to it first that none does. (GASPI: segment_delete)
+    /// Deletes an own segment; `NoSegment` where there is none. Whether an entry of the rank still uses the segment cannot be seen
+    /// here: the caller must make sure that none does. (GASPI: segment_delete)
     pub fn delete(&mut self, seg: u64) -> Result<(), Refusal>
         ensures answer { result ≡ delete_checks self.old.table.own seg }
         ensures deleted { OnOk result (self.new ≡ without self.old seg) }
@@ -129,8 +131,8 @@ impl Segments {
         Ok(())
     }
 
-    /// Checks a range of an own segment, which `bytes` then lends: `NoSegment`, then `BadSize` where the size is not 1 to
-    /// 65,536, then `BadRange`.
+    /// Checks a range of an own segment, which `bytes` then lends: `NoSegment`, then `BadSize` where the size is not 1 to 65,536,
+    /// then `BadRange`.
     pub fn range(&self, seg: u64, offset: u64, size: u64) -> Result<(), Refusal>
         ensures answer { result ≡ own_range_checks self.now.table.own seg offset size }
         ensures within { OnOk result (IsSomeAnd (segment_in self.now.segments seg) (λ mine. offset + size ≤ length mine.bytes)) }
@@ -138,8 +140,8 @@ impl Segments {
         check_own_range(&self.table.own, seg, offset, size)
     }
 
-    /// Writes bytes into an own segment, from an offset on, of any size and unchecked: where the segment is not there, or their
-    /// range does not lie within it, none is written and nothing changes. (GASPI: write, read)
+    /// Writes bytes into an own segment, from an offset on, of any size and unchecked. Where the segment is not there, or they do
+    /// not lie in it, nothing changes. (GASPI: write, read)
     pub fn put(&mut self, seg: u64, offset: u64, bytes: &[u8])
         ensures { self.new ≡ with_stored self.old seg offset bytes.now }
     {
@@ -147,7 +149,7 @@ impl Segments {
         store_bytes(&mut self.own, seg, offset, bytes);
     }
 
-    /// Stores bytes into an own segment, from an offset on. Refused as `range` is. (own choice)
+    /// Stores bytes into an own segment, from an offset on. Refused as `range` is, and then nothing changes. (own choice)
     pub fn store(&mut self, seg: u64, offset: u64, bytes: &[u8]) -> Result<(), Refusal>
         ensures answer { result ≡ own_range_checks self.old.table.own seg offset (length bytes.now) }
         ensures stored { OnOk result (self.new ≡ with_stored self.old seg offset bytes.now) }
@@ -158,8 +160,7 @@ impl Segments {
         Ok(())
     }
 
-    /// The bytes of a range of an own segment, copied. Refused as `range` is; the memory is taken after these checks.
-    /// (own choice)
+    /// A copy of the bytes of a range of an own segment. Refused as `range` is; the memory is taken after these checks. (own choice)
     pub fn load(&self, alloc: Global, seg: u64, offset: u64, size: u64) -> Result<Bytes, PartStop>
         ensures answer { Answers result (own_bytes self.now seg offset size) }
     {
@@ -168,7 +169,7 @@ impl Segments {
         Ok(Sequence::copied_from(alloc, bytes)?)
     }
 
-    /// The bytes of a range of an own segment, lent.
+    /// The bytes of a range of an own segment, lent. The range lies in it, as `range` checks.
     pub fn bytes(&self, seg: u64, offset: u64, size: u64) -> &[u8]
         requires { IsSomeAnd (segment_in self.now.segments seg) (λ mine. offset + size ≤ length mine.bytes) }
         ensures { result.now ≡ range_of (bytes_of self.now.segments seg) offset size }
@@ -176,7 +177,7 @@ impl Segments {
         range_of(bytes_of(&self.own, seg), offset as usize, size as usize)
     }
 
-    /// The table of segments, lent: its own, and what it knows of those of others. A rank's posts are built from it.
+    /// The table of segments, lent: own and known ones. The clause `sound` gives what holds of the store at any time.
     pub fn table(&self) -> &SegmentTable
         ensures table { result.now ≡ self.now.table }
         ensures sound { IsSound self.now }
@@ -184,7 +185,7 @@ impl Segments {
         &self.table
     }
 
-    /// How many bytes an own segment has; None exactly where it is not there.
+    /// How many bytes an own segment has; None exactly where there is none.
     pub fn size_of(&self, seg: u64) -> Option<u32>
         ensures size { result ≡ option_map (λ mine. mine.size) (extent_in self.now.table.own seg) }
         ensures sound { IsSound self.now }
@@ -192,14 +193,14 @@ impl Segments {
         extent_in(&self.table.own, seg).map(|mine| mine.size)
     }
 
-    /// The generation of an own segment; None exactly where it is not there.
+    /// The generation of an own segment; None exactly where there is none.
     pub fn generation(&self, seg: u64) -> Option<u32>
         ensures { result ≡ option_map (λ mine. mine.generation) (extent_in self.now.table.own seg) }
     {
         extent_in(&self.table.own, seg).map(|mine| mine.generation)
     }
 
-    /// Whether an own segment is there in a generation.
+    /// Whether an own segment is there and has this generation.
     pub fn has_generation(&self, seg: u64, generation: u32) -> bool
         ensures { result ≡ is_generation generation (segment_in self.now.segments seg) }
     {
@@ -207,8 +208,8 @@ impl Segments {
         is_generation(generation, segment_in(&self.own, seg))
     }
 
-    /// Makes a segment of an owner known, in a generation and a size, in place of what was known of that number. The size is a
-    /// number of 32 bits; whether a segment may have it is not checked here. (GASPI: segment_register)
+    /// Makes a segment of another rank known with this generation and size, in place of what was known of that id. Whether a segment
+    /// may have that size is not checked. (GASPI: segment_register)
     pub fn register(&mut self, owner: RankId, seg: u64, generation: u32, size: u64)
         requires rank { owner < length self.old.table.known }
         requires segment { seg < 32 }
@@ -224,8 +225,8 @@ impl Segments {
         );
     }
 
-    /// The generation and the size in which a segment of another rank was made known; None exactly where none was. What the
-    /// rank knows of its own segments is what is there (`size_of`, `generation`).
+    /// The generation and the size of a known segment of another rank; None exactly where none is known. Of its own segments a rank
+    /// knows the present extent (`size_of`, `generation`).
     pub fn known(&self, owner: RankId, seg: u64) -> Option<(u32, u32)>
         requires { owner < length self.now.table.known }
         ensures { result ≡ option_map (λ extent. (extent.generation, extent.size)) (extent_in (known_of self.now.table.known owner) seg) }
@@ -236,9 +237,9 @@ impl Segments {
         ))
     }
 
-    /// Adds a value to a word of an own segment, and answers the word that stood there. Sums wrap. Refused with
-    /// `Unregistered` where the segment is not there, then `BadRange`, then `BadAlign` where the offset is not divisible by
-    /// 8. (GASPI: atomic_fetch_add)
+    /// Adds a value to a memory word of an own segment, and gives the old word; sums wrap. Refused with `Unregistered` where the
+    /// segment is not there, then `BadRange`, then `BadAlign` where the offset is not divisible by 8; then nothing changes.
+    /// (GASPI: atomic_fetch_add)
     pub fn fetch_add(&mut self, seg: u64, offset: u64, value: u64) -> Result<u64, Refusal>
         ensures answer { result ≡ own_word self.old seg offset }
         ensures added { OnOk result (self.new ≡ with_added self.old seg offset value) }
@@ -250,8 +251,8 @@ impl Segments {
         Ok(old)
     }
 
-    /// Writes a new word into an own segment where the comparator stands there, and answers the word that stood there.
-    /// Refused as `fetch_add` is. (GASPI: atomic_compare_swap)
+    /// Puts a new value into a memory word of an own segment, where the word is the comparator, and gives the old word. Refused as
+    /// `fetch_add` is, and then nothing changes. (GASPI: atomic_compare_swap)
     pub fn compare_swap(
         &mut self,
         seg: u64,

@@ -1,9 +1,9 @@
-//! Ranges of notification slots. (GASPI: notifications)
+//! Ranges of slots within the slots of a segment, for `waitsome`. (GASPI: notifications)
 
 ghost use Rattle.std.specs.Prelude.{◌≡◌, ◌+◌, ◌<◌, ◌≤◌, length, position, IfSome};
 ghost use Rattle.gaspi_types.specs.Slots.{is_set, is_slot_range, first_set};
 
-/// Whether a range of slots has a slot, and lies within that many.
+/// Whether a range of slots has a slot and lies within `notes` slots.
 pub fn is_slot_range(begin: u64, num: u64, notes: usize) -> bool
     ensures { result ≡ is_slot_range begin num notes }
 {
@@ -11,7 +11,7 @@ pub fn is_slot_range(begin: u64, num: u64, notes: usize) -> bool
     1 <= num && num <= notes && begin <= notes - num
 }
 
-/// The place of the first slot that is set.
+/// The index of the first slot that is set; None where none is.
 fn first_set_place(slots: &[u32]) -> Option<usize>
     ensures place { result ≡ position is_set slots.now }
     ensures bound { IfSome result (λ place. place < length slots.now) }
@@ -19,7 +19,7 @@ fn first_set_place(slots: &[u32]) -> Option<usize>
     slots.iter().position(|value| *value != 0)
 }
 
-/// The least slot of a range that is set. Only the slots of the range are looked at.
+/// The least set slot of a range; None where none is set. Only the slots of the range are looked at.
 pub fn first_set(slots: &[u32], begin: usize, num: usize) -> Option<u32>
     requires within { begin + num ≤ length slots.now }
     requires notes { length slots.now ≤ 1024 }

@@ -1,4 +1,4 @@
-//! The notification slots of one segment. (GASPI: notifications)
+//! The slots of one segment as a store: to set one, to find the least set one, and to reset one. (GASPI: notifications)
 
 ghost use Rattle.std.specs.Prelude.{◌≡◌, ◌<◌, ◌≤◌, IfOk, OnOk, OnErr, length, replicate, slice_set};
 
@@ -7,12 +7,13 @@ use gaspi_types::{NoMemory, Refusal, Sequence};
 use std::alloc::Global;
 use std::marker::Model;
 
-/// The notification slots of one segment, numbered from 0: each has the value of the notification that stands there, or 0
-/// where none stands. Contracts see the list of these values.
+/// The slots of one segment, by their numbers: each has the value of its notification, or 0 where there is none. Contracts see the
+/// list of these values.
 ///
-/// The numbers of slots are those that a caller wrote, so any number may come.
+/// Numbers of slots are those that a caller wrote, so any number may come.
 #[derive(Debug, Drop)]
 pub struct Slots {
+    /// The value of each slot.
     values: Sequence<u32>,
 }
 
@@ -31,8 +32,8 @@ impl Slots {
     ghost use Rattle.segment_store.specs.Answers.{first_slot, slot_value};
     ghost use Rattle.segment_store.specs.Found.{IsLeastSlot};
 
-    /// So many slots, at most 1,024, which is the most that a world may have; no notification stands in them. Their
-    /// memory is taken here, and none after. (GASPI: segment_alloc)
+    /// `notes` slots, all 0: at most 1,024, which is the most that a world may have. All their memory is taken here.
+    /// (GASPI: segment_alloc)
     pub fn new(alloc: Global, notes: u32) -> Result<Slots, NoMemory>
         requires { notes ≤ 1024 }
         ensures { IfOk result (λ slots. slots ≡ replicate notes 0) }
@@ -57,7 +58,7 @@ impl Slots {
         self.values.as_slice()
     }
 
-    /// Sets a slot to a value, in place of the one that stood there. All other slots stay. (GASPI: notify)
+    /// Sets a slot, which is there, to a value. All other slots stay. (GASPI: notify)
     pub fn set(&mut self, note: u64, value: u32)
         requires { note < length self.old }
         ensures slots { self.new ≡ slice_set self.old note value }
@@ -66,9 +67,8 @@ impl Slots {
         *self.values.at_mut(note as usize) = value;
     }
 
-    /// The least slot of the range from `begin` on, `num` slots long, in which a notification stands; None exactly where
-    /// none stands in the range. `BadNote` where the range has no slot, or does not lie within the slots.
-    /// (GASPI: notify_waitsome)
+    /// The least set slot of the range from `begin` on, `num` slots long; None exactly where none is set. `BadNote` where the range
+    /// has no slot, or does not lie within the slots. (GASPI: notify_waitsome)
     pub fn waitsome(&self, begin: u64, num: u64) -> Result<Option<u32>, Refusal>
         ensures answer { result ≡ first_slot self.now begin num }
         ensures least { IfOk result (λ found. IsLeastSlot self.now begin num found) }
@@ -80,7 +80,7 @@ impl Slots {
         Ok(first_set(slots, begin as usize, num as usize))
     }
 
-    /// The value of a slot, 0 where no notification stands there. `BadNote` where there is no such slot. (own choice)
+    /// The value of a slot, 0 where it has no notification. `BadNote` where there is no such slot. (own choice)
     pub fn value(&self, note: u64) -> Result<u32, Refusal>
         ensures { result ≡ slot_value self.now note }
     {
@@ -90,8 +90,8 @@ impl Slots {
         Ok(*self.values.at(note as usize))
     }
 
-    /// Takes the notification that stands in a slot: answers its value, 0 where none stands there, and leaves 0. All other
-    /// slots stay. Refused as `value` is. (GASPI: notify_reset)
+    /// Gives the value of a slot, and sets it to 0. All other slots stay. `BadNote` where there is no such slot, and then nothing
+    /// changes. (GASPI: notify_reset)
     pub fn reset(&mut self, note: u64) -> Result<u32, Refusal>
         ensures answer { result ≡ slot_value self.old note }
         ensures slots { OnOk result (self.new ≡ slice_set self.old note 0) }

@@ -1,14 +1,14 @@
-//! Why a call that takes memory is not done.
+//! Why a call on a store that takes memory changed nothing.
 
 ghost use Rattle.std.specs.Prelude.{◌≡◌};
 ghost use Rattle.segment_store.specs.declared.stops.PartStop.TheVariants.{Refused, NoMemory};
 
 use gaspi_types::{NoMemory, Refusal};
 
-/// Why a call that takes memory is not done: it is refused, or an allocation was.
+/// Why a call on a store changed nothing: a refusal, or out of memory.
 #[derive(Clone, Copy, Debug, PartialEq, Eq)]
 pub enum PartStop {
-    /// The call is refused, for that cause.
+    /// The call is refused; this says why.
     Refused(Refusal),
     /// Out of memory, where the call is not refused.
     NoMemory,

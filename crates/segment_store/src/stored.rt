@@ -1,5 +1,5 @@
-//! The segments of a rank with their bytes, by their numbers: what is read of them, and their bytes written.
-//! (GASPI: segments, atomics)
+//! The segments of a rank with their bytes, under their ids: to make one, to find one, and to write its bytes. Nothing is checked
+//! here by the table of segments; a write that does not lie in its segment changes nothing. (GASPI: segments, atomics)
 
 ghost use Rattle.std.specs.Prelude.{◌≡◌, IfOk};
 ghost use Rattle.std.specs.Option.{option_copied};
@@ -12,7 +12,7 @@ use crate::words::{add_to_word, swap_word};
 use gaspi_types::{NoMemory, OwnSegments, Segment, Sequence};
 use std::alloc::Global;
 
-/// A segment as it is made: all its bytes are zero. (GASPI: segments)
+/// A segment in this generation with `size` bytes, all zero. (GASPI: segments)
 pub fn new_segment(alloc: Global, generation: u32, size: u32) -> Result<Segment, NoMemory>
     ensures { IfOk result (λ segment. segment ≡ new_segment generation size) }
 {
@@ -22,7 +22,7 @@ pub fn new_segment(alloc: Global, generation: u32, size: u32) -> Result<Segment,
     })
 }
 
-/// The segment of a number.
+/// The segment under an id; None where there is none.
 pub fn segment_in(own: &OwnSegments, seg: u64) -> Option<&Segment>
     ensures { option_copied result ≡ segment_in own.now seg }
 {
@@ -32,7 +32,7 @@ pub fn segment_in(own: &OwnSegments, seg: u64) -> Option<&Segment>
     }
 }
 
-/// Whether a segment is there in a generation.
+/// Whether a segment is there and has this generation.
 pub fn is_generation(generation: u32, segment: Option<&Segment>) -> bool
     ensures { result ≡ is_generation generation (option_copied segment.entry) }
 {
@@ -42,7 +42,7 @@ pub fn is_generation(generation: u32, segment: Option<&Segment>) -> bool
     }
 }
 
-/// The bytes of a segment. Of one that is not there, none.
+/// The bytes of a segment; none where there is no such segment.
 pub fn bytes_of(own: &OwnSegments, seg: u64) -> &[u8]
     ensures { result.now ≡ bytes_of own.now seg }
 {
@@ -52,7 +52,7 @@ pub fn bytes_of(own: &OwnSegments, seg: u64) -> &[u8]
     }
 }
 
-/// Writes bytes into a segment from an offset on, where they lie within it.
+/// Writes bytes into a segment from an offset on. Where they do not lie in it, or there is no such segment, nothing changes.
 pub fn store_bytes(own: &mut OwnSegments, seg: u64, offset: u64, new: &[u8])
     ensures { own.new ≡ with_bytes own.old seg (with_range (bytes_of own.old seg) offset new.now) }
 {
@@ -64,7 +64,7 @@ pub fn store_bytes(own: &mut OwnSegments, seg: u64, offset: u64, new: &[u8])
     }
 }
 
-/// Adds a value to a word of a segment, where it is there. Sums wrap. (GASPI: atomic_fetch_add)
+/// Adds a value to a memory word of a segment; sums wrap. Where there is no such word nothing changes. (GASPI: atomic_fetch_add)
 pub fn add_to_segment(own: &mut OwnSegments, seg: u64, offset: u64, value: u64)
     ensures { own.new ≡ with_bytes own.old seg (with_sum (bytes_of own.old seg) offset value) }
 {
@@ -76,7 +76,8 @@ pub fn add_to_segment(own: &mut OwnSegments, seg: u64, offset: u64, value: u64)
     }
 }
 
-/// Writes a new word into a segment, where the comparator stands there. (GASPI: atomic_compare_swap)
+/// Puts a new value into a memory word of a segment, where the word is the comparator; else nothing changes.
+/// (GASPI: atomic_compare_swap)
 pub fn swap_in_segment(own: &mut OwnSegments, seg: u64, offset: u64, comparator: u64, new: u64)
     ensures { own.new ≡ with_bytes own.old seg (with_swap (bytes_of own.old seg) offset comparator new) }
 {

@@ -1,5 +1,5 @@
-//! What a rank has of segments before any is made, and what its calls check beside what all segments are checked for.
-//! (GASPI: segments, atomics)
+//! Helpers of `Segments` alone: its tables before any segment is made, the zeros of a segment in a given list, and the checks of a
+//! delete and an atomic. (GASPI: segments, atomics)
 
 ghost use Rattle.std.specs.Prelude.{◌≡◌, IfOk, length, replicate, None};
 ghost use Rattle.segment_store.specs.Segments.{nothing_known, own_word_checks, delete_checks};
@@ -8,7 +8,7 @@ use crate::{check_word, extent_in};
 use gaspi_types::{Bytes, Extents, NoMemory, OwnSegments, Refusal, SegmentTable, Sequence};
 use std::alloc::Global;
 
-/// No own segment.
+/// No own segment: 32 times None.
 pub fn no_segments(alloc: Global) -> Result<OwnSegments, NoMemory>
     ensures { IfOk result (λ own. own ≡ replicate 32 None) }
 {
@@ -19,14 +19,14 @@ pub fn no_segments(alloc: Global) -> Result<OwnSegments, NoMemory>
     Ok(own)
 }
 
-/// The table of a rank that has no segment.
+/// A table with no segment: 32 times None.
 fn no_extents(alloc: Global) -> Result<Extents, NoMemory>
     ensures { IfOk result (λ own. own ≡ replicate 32 None) }
 {
     Ok(Sequence::from_vec(vec![in alloc; None; 32]?))
 }
 
-/// Nothing was made known of so many ranks.
+/// For each of `ranks` ranks a table with no segment.
 fn no_known(alloc: Global, ranks: u32) -> Result<Sequence<Extents>, NoMemory>
     ensures { IfOk result (λ known. known ≡ replicate ranks (replicate 32 None)) }
 {
@@ -37,8 +37,7 @@ fn no_known(alloc: Global, ranks: u32) -> Result<Sequence<Extents>, NoMemory>
     Ok(known)
 }
 
-/// The table of a rank that has no segment and knows none of so many ranks. The first segment of each number has generation
-/// 0.
+/// The table of a rank that has no segment and knows none of `ranks` ranks. The next generation of each id is 0.
 pub fn nothing_known(alloc: Global, ranks: u32) -> Result<SegmentTable, NoMemory>
     ensures { IfOk result (λ table. table ≡ nothing_known ranks) }
 {
@@ -49,7 +48,7 @@ pub fn nothing_known(alloc: Global, ranks: u32) -> Result<SegmentTable, NoMemory
     })
 }
 
-/// As many zeros as there are bytes in a room, in that room.
+/// The list `room` with all its bytes set to zero. It takes no memory.
 pub fn zeroed(room: Bytes) -> Bytes
     ensures { result ≡ replicate (length room) 0 }
 {
@@ -58,7 +57,7 @@ pub fn zeroed(room: Bytes) -> Bytes
     Sequence::from_vec(bytes)
 }
 
-/// Checks that a segment is there (`NoSegment`).
+/// Checks that an own segment is there (`NoSegment`).
 pub fn check_delete(own: &Extents, seg: u64) -> Result<(), Refusal>
     ensures { result ≡ delete_checks own.now seg }
 {
@@ -66,8 +65,8 @@ pub fn check_delete(own: &Extents, seg: u64) -> Result<(), Refusal>
     Ok(())
 }
 
-/// Checks a word of an own segment: that the segment is there (`Unregistered`), the word's place (`BadRange`), that it is
-/// divisible by 8 (`BadAlign`).
+/// Checks a memory word of an own segment: the segment is there (`Unregistered`), the word lies in it (`BadRange`), and the offset
+/// is divisible by 8 (`BadAlign`).
 pub fn check_own_word(own: &Extents, seg: u64, offset: u64) -> Result<(), Refusal>
     ensures { result ≡ own_word_checks own.now seg offset }
 {

@@ -1,4 +1,5 @@
-//! The words of a segment: numbers of 64 bits in eight bytes, the lowest byte first. (GASPI: atomics)
+//! Memory words: numbers of 64 bits in eight bytes, the lowest byte first; to check, read and change one in a list of bytes.
+//! (GASPI: atomics)
 
 ghost use Rattle.std.specs.Prelude.{◌≡◌, ◌+◌, ◌%◌, ◌^◌};
 ghost use Rattle.gaspi_types.specs.SegmentWords.{word_checks, word_at, with_word, with_sum, with_swap};
@@ -7,7 +8,7 @@ use crate::ranges::{is_within, set_range};
 use byteorder::{ByteOrder, LittleEndian};
 use gaspi_types::{Bytes, Refusal};
 
-/// Checks the place of a word in a segment of `whole` bytes (`BadRange`), then that it is divisible by 8 (`BadAlign`).
+/// Checks that a memory word lies in a segment of `whole` bytes (`BadRange`), and that its offset is divisible by 8 (`BadAlign`).
 pub fn check_word(whole: u32, offset: u64) -> Result<(), Refusal>
     ensures { result ≡ word_checks whole offset }
 {
@@ -20,7 +21,7 @@ pub fn check_word(whole: u32, offset: u64) -> Result<(), Refusal>
     Ok(())
 }
 
-/// The word at an offset: 8 bytes, the lowest first. Where they do not stand there, 0.
+/// The number in the eight bytes at an offset, the lowest first; 0 where there are no such eight bytes.
 pub fn word_at(bytes: &[u8], offset: u64) -> u64
     ensures { result ≡ word_at bytes.now offset }
 {
@@ -31,7 +32,7 @@ pub fn word_at(bytes: &[u8], offset: u64) -> u64
     }
 }
 
-/// Writes a word over the 8 bytes from an offset on, where they stand there.
+/// Writes a number over the eight bytes at an offset. Where there are no such eight bytes nothing changes.
 fn set_word(bytes: &mut Bytes, offset: u64, value: u64)
     ensures { bytes.new ≡ with_word bytes.old offset value }
 {
@@ -40,7 +41,7 @@ fn set_word(bytes: &mut Bytes, offset: u64, value: u64)
     set_range(bytes, offset, &word);
 }
 
-/// Adds a value to the word at an offset. Sums wrap. (GASPI: atomic_fetch_add)
+/// Adds a value to the memory word at an offset; sums wrap. Where there is no such word nothing changes. (GASPI: atomic_fetch_add)
 pub fn add_to_word(bytes: &mut Bytes, offset: u64, value: u64)
     ensures { bytes.new ≡ with_sum bytes.old offset value }
 {
@@ -48,7 +49,8 @@ pub fn add_to_word(bytes: &mut Bytes, offset: u64, value: u64)
     set_word(bytes, offset, old.wrapping_add(value));
 }
 
-/// Writes a new word at an offset, where the comparator stands there. (GASPI: atomic_compare_swap)
+/// Puts a new value into the memory word at an offset, where the word is the comparator; else nothing changes.
+/// (GASPI: atomic_compare_swap)
 pub fn swap_word(bytes: &mut Bytes, offset: u64, comparator: u64, new: u64)
     ensures { bytes.new ≡ with_swap bytes.old offset comparator new }
 {

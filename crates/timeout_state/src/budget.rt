@@ -1,4 +1,4 @@
-//! How many looks a call may take yet. (GASPI: timeouts)
+//! The looks that a call may still have, of its timeout. (GASPI: timeouts)
 
 ghost use Rattle.std.specs.Prelude.{◌≡◌};
 ghost use Rattle.timeout_state.specs.declared.budget.Look.TheVariants.{More};
@@ -6,18 +6,19 @@ ghost use Rattle.timeout_state.specs.declared.budget.Look.TheVariants.{More};
 use gaspi_types::Timeout;
 use std::marker::Model;
 
-/// Whether a look is the last that a call may take. (GASPI: timeouts)
+/// Whether a look is the last that a call may have. (GASPI: timeouts)
 #[derive(Clone, Copy, Debug, PartialEq, Eq)]
 pub enum Look {
-    /// There may be others after it.
+    /// Others may follow.
     More,
     /// It is the last.
     Final,
 }
 
-/// How many looks a call may take yet. Contracts see that number, or none where there is no end to them.
+/// How many looks a call may still have. Contracts see that number, or none where they have no end.
 #[derive(Debug, Drop)]
 pub struct Budget {
+    /// That number; None for `Block`.
     left: Option<u32>,
 }
 
@@ -44,7 +45,8 @@ impl Budget {
         Budget { left }
     }
 
-    /// One look: `Final` where it is the last, which of `Block` none is. After `Final` there is no other. (GASPI: timeouts)
+    /// Uses up one look, and says which it is: `Final` where it is the last, else `More`; of `Block` none is the last. There is a
+    /// look left; after `Final` there is none. (GASPI: timeouts)
     pub fn next(&mut self) -> Look
         requires { HasLook self.old }
         ensures answer { result ≡ answer_of self.old }

@@ -1,8 +1,7 @@
-//! What a rank keeps of collectives that wait, and how many looks a call may take yet. (GASPI: timeouts)
+//! The pending collectives of one rank, and how many looks a call may still have.
 //!
-//! Contracts see a `Pending` as the list of what is pending on each group, by the group's number, and a `Budget` as the number of
-//! looks that are left, or none where there is no end to them. Only `Pending::new` takes memory; arguments are moved in and out,
-//! and no call copies them.
+//! Contracts see a `Pending` as the list of the pending collectives by group id, and a `Budget` as the number of looks that are
+//! left, or none for `Block`. Only `Pending::new` takes memory; arguments are moved in and out, and never copied. (GASPI: timeouts)
 #![tactic(auto)]
 
 mod budget;

@@ -1,4 +1,4 @@
-//! The collectives of a rank that are pending. (GASPI: timeouts)
+//! The pending collectives of one rank as a store: at most one on each group. (GASPI: timeouts)
 
 ghost use Rattle.std.specs.Prelude.{◌≡◌, None, Some, IfOk, option_copied, replicate, slice_set};
 ghost use Rattle.gaspi_types.specs.Collectives.{resume};
@@ -8,10 +8,11 @@ use gaspi_types::{Args, GroupId, NoMemory, Refusal, Resume, Sequence, ThreadId};
 use std::alloc::Global;
 use std::marker::Model;
 
-/// The collectives of one rank that a thread has joined and whose answer it has not got: at most one on each group. Contracts see
-/// the list of them by the groups' numbers, 0 to 7.
+/// The pending collectives of one rank: those that have joined and are not completed, at most one on each group. Contracts see the
+/// list of them by group id, 0 to 7.
 #[derive(Debug, Drop)]
 pub struct Pending {
+    /// For each group its pending collective, if there is one.
     table: Sequence<Option<gaspi_types::PendingCollective>>,
 }
 
@@ -29,7 +30,7 @@ impl Model for Pending {
 impl Pending {
     ghost use Rattle.timeout_state.specs.Pendings.{IsOfThread};
 
-    /// Nothing is pending. All room is taken here, and no memory after.
+    /// None is pending on any group. All memory is taken here.
     pub fn new(alloc: Global) -> Result<Pending, NoMemory>
         ensures { IfOk result (λ pending. pending ≡ replicate 8 None) }
     {
@@ -40,14 +41,15 @@ impl Pending {
         Ok(Pending { table })
     }
 
-    /// What is pending on a group, lent: the thread that joined it, and its arguments. None exactly where none is. (GASPI: timeouts)
+    /// The collective that is pending on a group, lent, with its thread and its arguments; None exactly where none is.
+    /// (GASPI: timeouts)
     pub fn on(&self, group: GroupId) -> Option<&gaspi_types::PendingCollective>
         ensures { option_copied result ≡ item_at self.now group }
     {
         self.table.at(group.index()).as_ref()
     }
 
-    /// What is pending on the group with a number, lent: as `on`, and None of a number that no group has. (GASPI: timeouts)
+    /// As `on`, for any number; None for a number over 7. (GASPI: timeouts)
     pub fn named(&self, group: u64) -> Option<&gaspi_types::PendingCollective>
         ensures { option_copied result ≡ item_at self.now group }
     {
@@ -57,9 +59,9 @@ impl Pending {
         }
     }
 
-    /// What a collective of a thread meets on a group: `Fresh` where none is pending there, `Same` where it is the one that is. Else
-    /// `ActiveCollective` where that is another thread's, or `ResumeOther` where it differs in kind, arguments or values.
-    /// (GASPI: timeouts)
+    /// Whether a collective of a thread is fresh or the same on a group: `Fresh` where none is pending there, `Same` where this very
+    /// one is. Else `ActiveCollective` where that of another thread is pending, or `ResumeOther` where the pending one has other
+    /// arguments. Nothing changes. (GASPI: timeouts)
     pub fn state(&self, group: GroupId, thread: ThreadId, args: &Args) -> Result<Resume, Refusal>
         ensures { result ≡ resume (item_at self.now group) thread (Some args.now) }
     {
@@ -75,8 +77,8 @@ impl Pending {
         *self.table.at_mut(group.index()) = Some(gaspi_types::PendingCollective { thread, args });
     }
 
-    /// Takes out the collective that is pending on a group, which is this thread's, and gives its arguments. It takes no memory.
-    /// (GASPI: collectives)
+    /// Removes the collective that is pending on a group, which is this thread's, and gives its arguments. None is pending there
+    /// then. It takes no memory. (GASPI: collectives)
     pub fn take_out(&mut self, group: GroupId, thread: ThreadId) -> Args
         requires { IsOfThread (item_at self.old group) thread }
         ensures taken { item_at self.old group ≡ Some (record { thread = thread; args = result }) }

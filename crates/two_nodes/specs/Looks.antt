@@ -14,18 +14,18 @@ use Rattle.gaspi_model.specs.declared.states.State.{State}
 use Rattle.two_nodes.specs.declared.stops.CallStop.{CallStop}
 use Rattle.two_nodes.specs.declared.stops.CallStop.TheVariants.{NoMemory, EventLimit}
 
--- No collective has joined, or one that a look found that it may has joined: the state comes of the other by these events.
+-- No collective has joined, or the one that a look found may join has joined: these events lead from one state to the other.
 abbrev pub MayHaveJoined : State → CallerId → Call → List Event → State → Type 0
 MayHaveJoined s c call joins t =
     ((joins ≡ []) × (t ≡ s))
     ⊎ ((args : Args) × (joins ≡ join_event c call args ∷ []) × (answer_in s c.rank c.thread call ≡ Some (ready.Join args)) × (step s (join_event c call args) ≡ Ok t))
 
--- a call is answered and recorded with the reply that it has, or it is not ready
+-- a call has a reply and is recorded with it, or it is not ready
 abbrev pub IsTold : State → CallerId → Call → Option Reply → List Event → State → Type 0
 IsTold s c call (Some reply) calls t = (calls ≡ Called c call reply ∷ []) × (answer_in s c.rank c.thread call ≡ Some (ready.Reply reply)) × (step s (Called c call reply) ≡ Ok t)
 IsTold s c call None calls t = (calls ≡ []) × (answer_in s c.rank c.thread call ≡ Some ready.NotReady) × (t ≡ s)
 
--- A call had room; it joined, where a look found that it may; then it was told.
+-- A call had room; it joined, where a look found that it may join; then it had a reply and was recorded, or was not ready.
 pub record IsLooked (s : State) (c : CallerId) (call : Call) (told : Option Reply) (events : List Event) (t : State) : Type 0 where
   pub room : lacks_room_in s c call ≡ false
   pub joins : List Event
@@ -35,13 +35,13 @@ pub record IsLooked (s : State) (c : CallerId) (call : Call) (told : Option Repl
   pub joined : MayHaveJoined s c call joins between
   pub told_as : IsTold between c call told calls t
 
--- what one look at a call does in a state: these events, by which another comes of it
+-- what one look at a call does in a state: these events, which lead to another state
 abbrev pub Looks : State → CallerId → Call → Result (Option Reply) CallStop → List Event → State → Type 0
 Looks s c call (Ok told) events t = IsLooked s c call told events t
 Looks s c call (Err EventLimit) events t = (lacks_room_in s c call ≡ true) × (events ≡ []) × (t ≡ s)
 Looks s c call (Err NoMemory) events t = (lacks_room_in s c call ≡ false) × (events ≡ []) × (t ≡ s)
 
--- the events that a rank owns, of some that come one after another from a place on
+-- the events of a list that a rank owns, each with its place; the first of the list has the place `place`
 abbrev pub placed_of : ℕ → ℕ → List Event → List PlacedEvent
 placed_of rank place [] = []
 placed_of rank place (e ∷ events) =

@@ -1,4 +1,4 @@
--- One transfer by the nodes that are lent for it, and in a world of two ranks. (GASPI: one-sided communication)
+-- One transfer on the nodes that are lent for it, and in a world of two ranks. (GASPI: one-sided communication)
 use Rattle.std.specs.Prelude.{◌≡◌, ℕ, ◌+◌, Bool, true, false, [], ◌∷◌, ◌++◌, Option, Some, Ok, slice_get}
 use Rattle.gaspi_types.specs.declared.events.Transfer.{Transfer}
 use Rattle.gaspi_model.specs.Sound.{IsSound}
@@ -13,7 +13,7 @@ use Rattle.two_nodes.specs.Looks.{placed_of, KeepsCallers}
 use Rattle.two_nodes.specs.Worlds.{ArePartsOf, IsWorldOf, AreRecorded}
 use Rattle.two_nodes.specs.declared.two_nodes.TwoNodes.{TwoNodes}
 
--- the nodes are those of a sound state that a transfer reaches
+-- the nodes are those that a transfer reaches in a sound state
 pub record AreLentToMove (s : State) (t : Transfer) (own : Node) (peer : Option Node) (group : Option GroupNode) : Type 0 where
   pub sound : IsSound s
   pub lends : LendsForTransfer s t own peer group
@@ -21,7 +21,7 @@ pub record AreLentToMove (s : State) (t : Transfer) (own : Node) (peer : Option 
 abbrev pub MayMove : Transfer → Node → Option Node → Option GroupNode → Type 0
 MayMove t own peer group = (s : State) × AreLentToMove s t own peer group
 
--- The transfer was made, as the machine makes it: the nodes are lent of the state after it, and the origin's rank journal has it.
+-- The transfer was made with the machine's outcome: the nodes are those of the state after it, and the origin's rank journal has it.
 pub record HaveMoved (s : State) (t : Transfer) (place next : ℕ) (old own : Node) (old_peer peer : Option Node) (group : Option GroupNode) : Type 0 where
   pub after : State
   pub is_step : step s (transfer_event s t) ≡ Ok after
@@ -41,11 +41,11 @@ pub record IsTransferred (s : State) (me other place next : ℕ) (old own old_pe
   pub journal : own.posts.journal ≡ old.posts.journal ++ placed_of me place (transfer_event s transfer ∷ [])
   pub peer_journal : peer.posts.journal ≡ old_peer.posts.journal ++ placed_of other place (transfer_event s transfer ∷ [])
 
--- none of a rank is permitted
+-- no transfer of a rank is enabled
 abbrev pub HasNoTransfer : State → ℕ → Type 0
 HasNoTransfer s rank = (t : Transfer) (k : ℕ) → slice_get (transfers s.limits s.posts) k ≡ Some t → ¬ (t.origin ≡ rank)
 
--- Nothing was done, since none of the rank is permitted.
+-- Nothing was done, since no transfer of the rank is enabled.
 pub record IsIdle (s : State) (me place next : ℕ) (old own old_peer peer : Node) : Type 0 where
   pub none : HasNoTransfer s me
   pub own_kept : own ≡ old
@@ -66,7 +66,7 @@ pub record HasTransferredIn (s : State) (rank : ℕ) (old new : TwoNodes) : Type
   pub recorded : AreRecorded (transfer_event s transfer ∷ []) old new
   pub callers : KeepsCallers s after
 
--- or none of the rank is permitted, and nothing was done
+-- or no transfer of the rank is enabled, and nothing was done
 abbrev pub Transfers : State → ℕ → Bool → TwoNodes → TwoNodes → Type 0
 Transfers s rank true old new = HasTransferredIn s rank old new
 Transfers s rank false old new = HasNoTransfer s rank × (new ≡ old)

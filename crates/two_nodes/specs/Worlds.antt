@@ -20,7 +20,7 @@ use Rattle.two_nodes.specs.Looks.{Looks, placed_of, KeepsCallers}
 use Rattle.two_nodes.specs.declared.stops.CallStop.{CallStop}
 use Rattle.two_nodes.specs.declared.two_nodes.TwoNodes.{TwoNodes}
 
--- The nodes are those of the two ranks of a sound state, by their numbers, and of group 0; so many events are recorded.
+-- The nodes are those of the two ranks of a sound state, by their numbers, and of group 0; `places` events are recorded.
 pub record ArePartsOf (s : State) (me other : ℕ) (own peer : Node) (group : GroupNode) (places : ℕ) : Type 0 where
   pub sound : IsSound s
   pub two : s.limits.ranks ≡ 2
@@ -31,16 +31,17 @@ pub record ArePartsOf (s : State) (me other : ℕ) (own peer : Node) (group : Gr
   pub group_node : IsGroupOf s 0 group
   pub counted : places + events_left s ≡ 2 * s.limits.events
 
--- of ranks 0 and 1
+-- the same, for ranks 0 and 1
 abbrev pub IsWorldOf : State → TwoNodes → Type 0
 IsWorldOf s d = ArePartsOf s 0 1 d.first d.second d.group d.places
 
--- of the groups no other than group 0 is reached
+-- a call is driven here: it reaches no group but group 0
 abbrev pub reaches_group_0 : DeclaredFootprint → Bool
 reaches_group_0 (GroupOf id) = (id == 0) || nat_le 8 id
 reaches_group_0 (GroupAndMemory id) = (id == 0) || nat_le 8 id
 reaches_group_0 declaration = true
 
+-- the same of a call
 abbrev pub is_driven : Call → Bool
 is_driven call = reaches_group_0 (row_of call).footprint
 
@@ -69,7 +70,7 @@ pub record HasLookedAt (s : State) (c : CallerId) (call : Call) (result : Result
   pub recorded : AreRecorded events old new
   pub callers : KeepsCallers s after
 
--- The nodes at the start, with nothing recorded: those of the opening state of a world.
+-- The nodes are those of the opening state of a world, and nothing is recorded.
 pub record IsAtStart (w : ShapeValue) (d : TwoNodes) : Type 0 where
   pub world : IsWorldOf (opening w) d
   pub places : d.places ≡ 0
@@ -77,7 +78,7 @@ pub record IsAtStart (w : ShapeValue) (d : TwoNodes) : Type 0 where
   pub second : d.second.posts.journal ≡ []
   pub callers : (rank thread : ℕ) → list_any (is_caller rank thread) w.callers ≡ true → is_declared (opening w) rank thread ≡ true
 
--- Thread 0 of each rank has a section, in a state whose nodes these are.
+-- Thread 0 of each rank has a section, in some state of which these are the nodes.
 pub record HasTwoCallers (d : TwoNodes) : Type 0 where
   pub state : State
   pub world : IsWorldOf state d

@@ -1,4 +1,4 @@
-//! A call of one of two ranks, by the nodes that it reaches.
+//! A look at a call of one of two ranks: chooses by the footprint of the call which nodes are lent for it.
 
 ghost use Rattle.std.specs.Prelude.{◌≡◌, ℕ, true};
 ghost use Rattle.gaspi_model.specs.Step.{is_declared};
@@ -11,7 +11,9 @@ use gaspi_types::{Footprint, Invocation, Reply};
 use rank_node::{GroupNode, Node};
 use std::alloc::Global;
 
-/// One look at a call of the first rank of two.
+/// Makes one look at a call of the rank of `own`: where the call has a reply it is recorded, and where it may join it joins first.
+/// None where it is not ready; then a collective may have joined. `EventLimit` where its rank lacks room, and `NoMemory`; then
+/// nothing changes. The call is no collective on the groups 1 to 7 (clause `driven`).
 pub(crate) fn call_of(
     own: &mut Node,
     peer: &mut Node,

@@ -1,4 +1,5 @@
-//! Nodes lent for one call or one transfer, and given back.
+//! Lends nodes for one look or one transfer, and ends the loan after it. `_alone` lends the own node only, `_between` that of the
+//! peer too, and `_on_group` that of group 0. The results are those of `look` and `move_front`.
 
 ghost use Rattle.std.specs.Prelude.{◌≡◌, ◌+◌, ◌<◌, ◌^◌, true, None, Some};
 ghost use Rattle.gaspi_model.specs.declared.states.State.{State};
@@ -13,14 +14,14 @@ use gaspi_types::{Invocation, Reply, Transfer};
 use rank_node::{GroupNode, Lent, Node};
 use std::alloc::Global;
 
-/// Ends what was lent of a rank.
+/// Ends the loan of a node; nothing changes.
 fn give_back(own: &mut Node)
     ensures { own.new ≡ own.old }
 {
     let _ = own.room();
 }
 
-/// Ends what was lent of two ranks.
+/// Ends the loan of two nodes; nothing changes.
 fn give_back_two(own: &mut Node, peer: &mut Node)
     ensures own { own.new ≡ own.old }
     ensures peer { peer.new ≡ peer.old }
@@ -28,7 +29,7 @@ fn give_back_two(own: &mut Node, peer: &mut Node)
     let _ = (own.room(), peer.room());
 }
 
-/// Ends what was lent of a rank and a group.
+/// Ends the loan of a node and of that of a group; nothing changes.
 fn give_back_group(own: &mut Node, group: &mut GroupNode)
     ensures own { own.new ≡ own.old }
     ensures group { group.new ≡ group.old }
@@ -36,7 +37,7 @@ fn give_back_group(own: &mut Node, group: &mut GroupNode)
     let _ = (own.room(), group.meeting.members());
 }
 
-/// One look at a call that reaches its own rank alone.
+/// One look at a call that reaches its own rank only.
 pub(crate) fn look_alone<'a>(
     own: &'a mut Node,
     alloc: Global,
@@ -59,7 +60,7 @@ pub(crate) fn look_alone<'a>(
     told
 }
 
-/// One look at a call that reaches another rank.
+/// One look at a call that reaches the other rank.
 pub(crate) fn look_between<'a>(
     own: &'a mut Node,
     peer: &'a mut Node,
@@ -86,7 +87,7 @@ pub(crate) fn look_between<'a>(
     told
 }
 
-/// One look at a call that reaches a group.
+/// One look at a collective on group 0.
 pub(crate) fn look_on_group<'a>(
     own: &'a mut Node,
     group: &'a mut GroupNode,
@@ -113,7 +114,7 @@ pub(crate) fn look_on_group<'a>(
     told
 }
 
-/// A transfer that is the front of its lane and reaches its origin alone.
+/// Makes a transfer that is the front of its lane and reaches its origin only. It takes no memory.
 pub(crate) fn transfer_alone<'a>(own: &'a mut Node, places: &mut u64, transfer: Transfer)
     requires front { IsFront own.old.posts transfer }
     requires lent { MayMove transfer own.old None None }
@@ -130,7 +131,7 @@ pub(crate) fn transfer_alone<'a>(own: &'a mut Node, places: &mut u64, transfer: 
     give_back(own);
 }
 
-/// A transfer that is the front of its lane and reaches another rank.
+/// Makes a transfer that is the front of its lane and reaches the other rank. It takes no memory.
 pub(crate) fn transfer_between<'a>(
     own: &'a mut Node,
     peer: &'a mut Node,

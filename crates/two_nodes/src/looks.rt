@@ -1,4 +1,5 @@
-//! One look at a call by the nodes that are lent for it.
+//! One look at a call on the nodes that are lent for it, with the events that follow from it. Each event gets the next place.
+//! Clauses `own`, `peer` and `group` say that the same nodes are still lent.
 
 ghost use Rattle.std.specs.Prelude.{◌≡◌, ℕ, ◌+◌, ◌<◌, ◌^◌, Some, Ok, IfOk, IsErr};
 ghost use Rattle.std.specs.Option.{unwrap_or};
@@ -17,7 +18,8 @@ use gaspi_types::{Args, Call, CallRow, CallerId, GroupId, Invocation, NoMemory, 
 use rank_node::{Lent, Room};
 use std::alloc::Global;
 
-/// Records a call with the reply that a look found, and gives an equal reply. All memory is taken before anything changes.
+/// Records a call with the reply of its look, and gives an equal reply. All memory is taken first; where it runs out nothing
+/// changes.
 fn settle(
     lent: &mut Lent<'_>,
     alloc: Global,
@@ -43,7 +45,8 @@ fn settle(
     Ok(told)
 }
 
-/// Records a collective that has joined, with the reply that a look found, and gives an equal reply. It takes no memory.
+/// Records a collective that has joined with the reply of its second look, and gives an equal reply. It takes no memory but what
+/// `room` has.
 fn complete(
     lent: &mut Lent<'_>,
     places: &mut u64,
@@ -71,7 +74,7 @@ fn complete(
     told
 }
 
-/// The group that a row names, where it is one of the eight.
+/// The group of a row, whose number is below 8.
 fn named_group(row: &CallRow) -> GroupId
     requires { unwrap_or row.now.group 0 < 8 }
     ensures { result ≡ unwrap_or row.now.group 0 }
@@ -79,7 +82,7 @@ fn named_group(row: &CallRow) -> GroupId
     GroupId::of(row.group.unwrap_or(0) as u32)
 }
 
-/// A collective joins. It takes no memory: its room has what it needs.
+/// Makes the join of a collective. It takes no memory but what `room` has; the lists for its reply stay there.
 fn join_once(
     lent: &mut Lent<'_>,
     places: &mut u64,
@@ -114,7 +117,8 @@ fn join_once(
     *places += 1;
 }
 
-/// A collective joins, is looked at again, and is recorded where it is ready. It takes no memory.
+/// Makes the join of a collective, looks at it again, and records it where it is ready; else None. It takes no memory but what
+/// `room` has.
 fn join_with(
     lent: &mut Lent<'_>,
     places: &mut u64,
@@ -145,8 +149,8 @@ fn join_with(
     }
 }
 
-/// A collective that may join joins, is looked at again, and is recorded where it is ready. All memory is taken before anything
-/// changes.
+/// Makes the join of a collective that may join, looks at it again, and records it where it is ready; else None. All memory is taken
+/// first; where it runs out nothing changes.
 fn join(
     lent: &mut Lent<'_>,
     alloc: Global,
@@ -168,8 +172,8 @@ fn join(
     Ok(join_with(lent, places, invocation, args, call, room))
 }
 
-/// One look at a call: where its rank has room for it, a collective joins where it may, and the call is recorded where it is answered.
-/// None where it is not ready. `NoMemory` leaves everything as it was.
+/// One look at a call: where the call has a reply it is recorded, and where it may join it joins first. None where it is not ready;
+/// then a collective may have joined. `EventLimit` where its rank lacks room for it, and `NoMemory`; then nothing changes.
 pub(crate) fn look(
     lent: &mut Lent<'_>,
     alloc: Global,

@@ -1,4 +1,5 @@
-//! One transfer by the nodes that are lent for it. (GASPI: one-sided communication)
+//! One transfer on the nodes that are lent for it. Clauses `own`, `peer` and `group` say that the same nodes are still lent.
+//! (GASPI: one-sided communication)
 
 ghost use Rattle.std.specs.Prelude.{◌≡◌, ◌<◌, ◌^◌};
 ghost use Rattle.gaspi_model.specs.declared.states.State.{State};
@@ -9,7 +10,7 @@ ghost use Rattle.two_nodes.specs.Transfers.{AreLentToMove, MayMove, HaveMoved};
 use gaspi_types::Transfer;
 use rank_node::{Lent, fronts_are_steps};
 
-/// Makes a transfer that is the front of its lane. It takes no memory.
+/// Makes a transfer that is the front of its lane, with its outcome, at the next place. It takes no memory.
 pub(crate) fn move_front(lent: &mut Lent<'_>, places: &mut u64, transfer: Transfer)
     requires front { IsFront lent.old.own.now.posts transfer }
     requires lent { MayMove transfer lent.old.own.now (behind lent.old.peer) (behind lent.old.group) }

@@ -1,10 +1,10 @@
-//! Why a call was not made.
+//! Why a call recorded nothing.
 
-/// Why a call was not made: the state of the world is as it was.
+/// Why a call recorded nothing: the world is as it was.
 #[derive(Clone, Copy, Debug, PartialEq, Eq)]
 pub enum CallStop {
-    /// There was no memory.
+    /// Out of memory.
     NoMemory,
-    /// The caller's rank has no room for the events that the call needs.
+    /// The caller's rank lacks room for the events that the call needs.
     EventLimit,
 }

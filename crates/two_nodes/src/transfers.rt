@@ -1,4 +1,5 @@
-//! A transfer of one of two ranks, by the nodes that it reaches. (GASPI: one-sided communication)
+//! The next transfer of one of two ranks: chooses it, and by its footprint the nodes that are lent for it.
+//! (GASPI: one-sided communication)
 
 ghost use Rattle.std.specs.Prelude.{◌≡◌, ℕ, IfSome, IfNone};
 ghost use Rattle.gaspi_model.specs.declared.states.State.{State};
@@ -14,7 +15,7 @@ use crate::clients::{transfer_alone, transfer_between};
 use gaspi_types::{Footprint, QueueId, RankId, Transfer};
 use rank_node::{GroupNode, Node, front_footprints, movable_lanes_have_fronts};
 
-/// The front of the first movable lane of a rank. None where no lane is movable.
+/// The front of the first movable lane of a rank; None where no lane is movable.
 fn first_front(own: &Node) -> Option<Transfer>
     requires { (s : State) × (me other : ℕ) × (peer : Node) × (group : GroupNode) × (places : ℕ) × ArePartsOf s me other own.now peer group places }
     ensures front { IfSome result (IsFront own.now.posts) }
@@ -30,7 +31,7 @@ fn first_front(own: &Node) -> Option<Transfer>
     }
 }
 
-/// What a transfer reaches that is the front of its lane, in a world of two ranks.
+/// The footprint of a transfer that is the front of its lane, in a world of two ranks.
 fn front_footprint(own: &Node, transfer: &Transfer) -> Footprint
     requires { IsFront own.now.posts transfer.now }
     ensures { IfSome (front_entry own.now.posts transfer.now) (λ (e : Entry). result ≡ transfer_footprint 2 transfer.now e.kind) }
@@ -44,7 +45,8 @@ fn front_footprint(own: &Node, transfer: &Transfer) -> Footprint
     declaration.footprint(2, transfer.origin)
 }
 
-/// The next transfer of the first rank of two, if it has one.
+/// Makes the next transfer of the rank of `own`: the front of its first movable lane. False where no transfer of the rank is
+/// enabled; then nothing changes.
 pub(crate) fn transfer_of(
     own: &mut Node,
     peer: &mut Node,

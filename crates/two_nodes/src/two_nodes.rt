@@ -1,4 +1,5 @@
-//! The nodes of a world of two ranks.
+//! The world of two ranks as other code has it: its nodes, its start, looks, transfers and rank journals; and which shapes and calls
+//! it is for.
 
 ghost use Rattle.std.specs.Prelude.{◌≡◌, ◌<◌, true, IfOk};
 ghost use Rattle.std.specs.List.{list_any};
@@ -21,10 +22,13 @@ use std::alloc::Global;
 /// The nodes of ranks 0 and 1, and that of group 0.
 #[derive(Drop)]
 pub struct TwoNodes {
+    /// The node of rank 0.
     pub first: Node,
+    /// The node of rank 1.
     pub second: Node,
+    /// The node of group 0.
     pub group: GroupNode,
-    /// How many events there were: the place of the next one.
+    /// How many events were recorded: the place of the next one.
     pub places: u64,
 }
 
@@ -37,7 +41,7 @@ fn has_first_thread(callers: &[CallerId], rank: u32) -> bool
         .any(|c| c.rank.number() == rank && c.thread.number() == 0)
 }
 
-/// Whether a world has two ranks, with thread 0 of each as a caller.
+/// Whether a shape has two ranks, with thread 0 of each as a caller.
 pub fn has_two_callers(shape: &Shape) -> bool
     ensures { result ≡ has_two_callers shape.now }
 {
@@ -46,7 +50,7 @@ pub fn has_two_callers(shape: &Shape) -> bool
         && has_first_thread(shape.callers(), 1)
 }
 
-/// Whether a call reaches no other group than group 0.
+/// Whether a call may be made here: it is no collective on the groups 1 to 7, for which there are no nodes.
 pub fn is_driven(call: &Call) -> bool
     ensures { result ≡ is_driven call.now }
 {
@@ -58,7 +62,7 @@ pub fn is_driven(call: &Call) -> bool
 }
 
 impl TwoNodes {
-    /// The nodes of a world of two ranks at the start.
+    /// The nodes of a world of two ranks in the opening state.
     pub fn new(alloc: Global, shape: &Shape) -> Result<TwoNodes, NoMemory>
         requires { shape.now.limits.ranks ≡ 2 }
         ensures start { IfOk result (λ nodes. IsAtStart shape.now nodes) }
@@ -74,9 +78,9 @@ impl TwoNodes {
         })
     }
 
-    /// One look at a call of a caller: where its rank has room for it, a collective joins where it may, and the call is recorded
-    /// where it is answered. None where it is not ready; a collective may have joined. Required is that the call is no collective on
-    /// the groups 1 to 7 (`is_driven`).
+    /// Makes one look at a call of a caller, which has a section: where the call has a reply it is recorded, and where it may join
+    /// it joins first. None where it is not ready; then a collective may have joined. `EventLimit` where its rank lacks room, and
+    /// `NoMemory`; then nothing changes. The call is no collective on the groups 1 to 7 (`is_driven`).
     pub fn call(
         &mut self,
         alloc: Global,
@@ -111,8 +115,8 @@ impl TwoNodes {
         }
     }
 
-    /// The next transfer of a rank: the front of its first movable lane, which is made. False where none of the rank is permitted;
-    /// then nothing changes. (GASPI: one-sided communication)
+    /// Makes the next transfer of a rank: the front of its first movable lane. False where no transfer of the rank is enabled; then
+    /// nothing changes. (GASPI: one-sided communication)
     pub fn transfer(&mut self, rank: RankId) -> bool
         requires rank { rank < 2 }
         requires world { (s : State) × IsWorldOf s self.old }
@@ -136,7 +140,7 @@ impl TwoNodes {
         }
     }
 
-    /// The journals of ranks 0 and 1, each event with its place.
+    /// The rank journals of ranks 0 and 1. The rest of the nodes is dropped.
     pub fn into_journals(self) -> (Buffer<PlacedEvent>, Buffer<PlacedEvent>)
         ensures first { result.0.items ≡ self.first.posts.journal }
         ensures second { result.1.items ≡ self.second.posts.journal }
