@@ -1,4 +1,4 @@
-//! Tests alone: whole runs of the command that no text of `tests/` can show, and the texts of single calls, replies and events.
+//! Tests alone: whole runs of the program that no text of `tests/` can show, and the texts of single calls, replies and events.
 #![tactic(auto)]
 
 #[cfg(test)]

@@ -1,4 +1,5 @@
-//! The parts of the command, called one by one.
+//! The functions of which a command is made, called one by one: a schedule, its transcripts, and what a command answers. `front` is
+//! what a text has before the transcripts are appended; `told` is what was written or made.
 
 ghost use Rattle.std.specs.Prelude.{◌≡◌, map};
 
@@ -16,15 +17,18 @@ use std::sync::Wait;
 use std::test::Fail;
 use std::thread::Threads;
 
-/// What a schedule gave of a text: how many events, how many callers that ended, and what was told behind a front.
+/// What a schedule of a text gave, and the transcripts after a front.
 #[derive(Drop)]
 struct RunText {
+    /// How many events its history has.
     events: usize,
+    /// How many callers came past the last line of their scripts.
     ended: usize,
+    /// The front, and the transcripts after it.
     text: Bytes,
 }
 
-/// What is told of a journal behind a front.
+/// The front, and the transcripts of a journal after it. The only failure is out of memory.
 fn text_of(
     alloc: Global,
     front: &[u8],
@@ -37,7 +41,8 @@ fn text_of(
     Ok(text)
 }
 
-/// Schedules scripts with seed 0. Nothing is claimed of it, so that what the test proves does not hold the text.
+/// Schedules scripts with seed 0, and makes their text. It promises nothing, so that the proof of a test does not have the text in it.
+/// The only failure is out of memory.
 fn run_text_of(
     alloc: Global,
     front: &[u8],
@@ -61,18 +66,19 @@ fn run_text_of(
     })
 }
 
-/// The same of a world text.
+/// Reads a world text, and schedules its scripts as `run_text_of` does.
 fn scheduled(alloc: Global, text: &[u8], front: &[u8]) -> Result<RunText, ScriptFault> {
     let (shape, scripts) = read_world(alloc, text)?;
     Ok(run_text_of(alloc, front, &shape, &scripts)?)
 }
 
-/// Whether six calls, two ends, two takes and two puts came of the first world, and its transcripts stand behind the front.
+/// Whether six calls, two ends, two takes and two puts came of the first world, `TWO_RANKS`, and its transcripts come after the front.
 fn is_first_world(told: &RunText, front: &[u8]) -> bool {
     let text = told.text.as_slice().strip_prefix(front);
     told.events == 12 && told.ended == 2 && text == Some(TOLD.as_bytes())
 }
 
+// A schedule gives the transcripts of the first world, and they are appended to what was there.
 #[test]
 fn a_schedule_is_told(rt: HostRuntime) -> Result<(), Fail> {
     let front = b"before\n".as_slice();
@@ -81,7 +87,8 @@ fn a_schedule_is_told(rt: HostRuntime) -> Result<(), Fail> {
     Ok(())
 }
 
-/// What the command without threads answers with seed 0. Nothing is claimed of it.
+/// What `step --brief` answers with seed 0, by `run_command`. It promises nothing, so that the proof of a test does not have the
+/// answer in it.
 fn stepped(alloc: Global, source: &mut SureSource, sink: &mut SureSink) -> Answer {
     let command = Command::Step {
         seed: 0,
@@ -91,12 +98,13 @@ fn stepped(alloc: Global, source: &mut SureSource, sink: &mut SureSink) -> Answe
     run_command(alloc, command, source, sink)
 }
 
-/// Whether it answers the first world with status 0 and its journal, and tells its transcripts.
+/// Whether it answers the first world with status 0 and its journal, and writes its transcripts.
 fn is_answered(alloc: Global, source: &mut SureSource, sink: &mut SureSink) -> bool {
     let answer = stepped(alloc, source, sink);
     answer.status == 0 && answer.journal.len() == 12 && sink.bytes() == TOLD.as_bytes()
 }
 
+// A command that needs no threads answers with its journal.
 #[test]
 fn a_command_answers_with_its_journal(rt: HostRuntime) -> Result<(), Fail> {
     let mut source = source_of(rt.alloc(), TWO_RANKS)?;
@@ -105,13 +113,13 @@ fn a_command_answers_with_its_journal(rt: HostRuntime) -> Result<(), Fail> {
     Ok(())
 }
 
-/// What is told of a journal of a world text.
+/// The transcripts of a journal in the world of a text. The error is a fault of the text, or out of memory.
 fn transcripts_of(alloc: Global, text: &[u8], journal: &Journal) -> Result<Bytes, ScriptFault> {
     let (shape, scripts) = read_world(alloc, text)?;
     Ok(text_of(alloc, b"", &shape, &scripts, journal)?)
 }
 
-/// Whether that of an answer's journal was told, and the answer is of a run on threads that went well.
+/// Whether an answer is that of a run on threads that ended well, and what was written are the transcripts of its journal.
 fn is_of_its_journal(alloc: Global, answer: &Answer, told: &[u8]) -> bool {
     match transcripts_of(alloc, TWO_RESETS.as_bytes(), &answer.journal) {
         Ok(text) => answer.status == 0 && answer.tally.is_some() && text.as_slice() == told,
@@ -119,7 +127,7 @@ fn is_of_its_journal(alloc: Global, answer: &Answer, told: &[u8]) -> bool {
     }
 }
 
-/// Whether the world of two resets is so answered on threads.
+/// Whether the world of two resets is answered so on threads.
 fn writes_its_journal<R: Threads + Wait + Sync + Abort>(
     rt: &R,
     alloc: Global,
@@ -130,6 +138,7 @@ fn writes_its_journal<R: Threads + Wait + Sync + Abort>(
     is_of_its_journal(alloc, &answer, sink.bytes())
 }
 
+// A run on threads writes the transcripts of the journal that it answers.
 #[test]
 fn a_run_on_threads_tells_its_own_journal(rt: HostRuntime) -> Result<(), Fail> {
     let mut source = source_of(rt.alloc(), TWO_RESETS)?;

@@ -1,4 +1,5 @@
-//! Sources that give little at once, and sources and sinks that fail.
+//! Sources that give few bytes at once, and sources and sinks that fail, under `step --brief` of the first world. A `piece` is the
+//! most bytes of one read or write.
 
 ghost use Rattle.std.specs.Prelude.{◌<◌};
 
@@ -10,7 +11,8 @@ use std::sync::Wait;
 use std::test::Fail;
 use std::thread::Threads;
 
-/// A source of the first world, which gives at most so many bytes a read, and fails at these reads.
+/// A source of the first world, which gives at most `piece` bytes a read, and fails at the reads with these numbers, from 0. The only
+/// failure is out of memory.
 fn source_in_pieces(alloc: Global, piece: usize, failing: &[u64]) -> Result<MemSource, NoMemory>
     requires { 0 < piece }
 {
@@ -21,7 +23,8 @@ fn source_in_pieces(alloc: Global, piece: usize, failing: &[u64]) -> Result<MemS
     Ok(source)
 }
 
-/// A sink that takes at most so many bytes a write, and fails at these writes.
+/// A sink that takes at most `piece` bytes a write, and fails at the writes with these numbers, from 0. The only failure is out of
+/// memory.
 fn sink_in_pieces(alloc: Global, piece: usize, failing: &[u64]) -> Result<MemSink, NoMemory>
     requires { 0 < piece }
 {
@@ -32,7 +35,7 @@ fn sink_in_pieces(alloc: Global, piece: usize, failing: &[u64]) -> Result<MemSin
     Ok(sink)
 }
 
-/// Whether a schedule of what the source gives has this status and writes this, and whether its answer has a journal.
+/// Whether a schedule of what the source gives has this status and writes this text; and whether its answer has a journal.
 fn told<R: Threads + Wait + Sync>(
     rt: &R,
     alloc: Global,
@@ -46,7 +49,7 @@ fn told<R: Threads + Wait + Sync>(
     (is_told, !answer.journal.is_empty())
 }
 
-/// Whether all of it is written where it is read and written in pieces of a size.
+/// Whether all transcripts are written where input and output go in pieces of a size.
 fn is_told_in_pieces<R: Threads + Wait + Sync>(
     rt: &R,
     alloc: Global,
@@ -59,6 +62,7 @@ fn is_told_in_pieces<R: Threads + Wait + Sync>(
     Ok(told(rt, alloc, &mut source, &mut sink, 0, TOLD.as_bytes()).0)
 }
 
+// The size of the pieces changes nothing.
 #[test]
 fn pieces_of_each_size_are_one_text(rt: HostRuntime) -> Result<(), Fail> {
     for piece in [1, 2, 7, 184, 185] {
@@ -70,7 +74,7 @@ fn pieces_of_each_size_are_one_text(rt: HostRuntime) -> Result<(), Fail> {
     Ok(())
 }
 
-/// Whether nothing is written, and there is no journal, where one read fails.
+/// Whether the status is 5, nothing is written, and there is no journal, where the read with this number fails.
 fn fails_at_read<R: Threads + Wait + Sync>(
     rt: &R,
     alloc: Global,
@@ -103,7 +107,7 @@ fn each_read_fails_in_turn(rt: HostRuntime) -> Result<(), Fail> {
     Ok(())
 }
 
-/// Whether, where one write fails, all is written that the writes before it took.
+/// Whether the status is 6, and just the first `before` bytes are written, where the write with this number fails.
 fn fails_at_write<R: Threads + Wait + Sync>(
     rt: &R,
     alloc: Global,

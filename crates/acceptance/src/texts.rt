@@ -1,4 +1,4 @@
-//! Calls, replies and events as whole texts. The commands read the words of a line instead, by the same code.
+//! Calls, replies and events read as whole texts. The commands read the words of a line instead, by the same code.
 
 use gaspi_texts::{read_call, read_event, read_reply};
 use gaspi_types::{Call, Event, NoMemory, Reply, Reset};
@@ -13,6 +13,7 @@ fn is_reset(alloc: Global, text: &[u8]) -> Result<bool, NoMemory> {
     }
 }
 
+// A call may have blanks and leading zeros; an `end` is no call of a text.
 #[test]
 fn calls_are_read(rt: HostRuntime) -> Result<(), Fail> {
     assert!(rt; is_reset(rt.alloc(), b"\treset 01 2 ")?);
@@ -28,6 +29,7 @@ fn is_list(alloc: Global, text: &[u8]) -> Result<bool, NoMemory> {
     }
 }
 
+// A reply may have blanks, leading zeros and a sign at zero; its numbers must be in the range of their type.
 #[test]
 fn replies_are_read_in_any_spelling(rt: HostRuntime) -> Result<(), Fail> {
     assert!(rt; is_list(rt.alloc(), b" list\tLONG -07  -0 ")?);
@@ -35,7 +37,7 @@ fn replies_are_read_in_any_spelling(rt: HostRuntime) -> Result<(), Fail> {
     Ok(())
 }
 
-/// The reply with which a text says that a caller ended, where it says so.
+/// The reply with which a text says that a caller ended; none where it says no such event.
 fn end_reply(alloc: Global, text: &[u8]) -> Result<Option<Reply>, NoMemory> {
     match read_event(alloc, text)? {
         Some(Event::Called(_, Call::End, reply)) => Ok(Some(reply)),
@@ -48,6 +50,7 @@ fn is_end(alloc: Global, text: &[u8]) -> Result<bool, NoMemory> {
     Ok(matches!(end_reply(alloc, text)?, Some(Reply::Value(5))))
 }
 
+// An event has one spelling.
 #[test]
 fn events_are_read_in_one_spelling(rt: HostRuntime) -> Result<(), Fail> {
     assert!(rt; is_end(rt.alloc(), b"called 1.2 end -> value 5")?);

@@ -1,8 +1,8 @@
-//! A measure of the commit table, for whoever times this program: two threads raise counters so many times each, which is
-//! a take, a look, a commit and a give-back each time.
+//! A measure of the commit table, for whoever times this program: two threads raise counters, as often as the words say. Each time is
+//! a take of a shard, a look, a commit and a give-back.
 //!
-//! The words are `own` or `one`, whether each thread has a counter of its own, and the number of times. The number of
-//! events in the closed history is written.
+//! The words are `own` or `one`, which say whether each thread has a counter of its own, and the number of times. The number of events
+//! in the closed history is written.
 #![tactic(auto)]
 
 ghost use Rattle.std.specs.Prelude.{◌<◌, IfSome};
@@ -13,17 +13,19 @@ use std::env;
 use std::process::ExitCode;
 use std::rt::Env;
 
-/// The statuses where the words are others, where the answer could not be written, and where memory is wanting.
+/// The status where the words are not so.
 const WORDS: u8 = 1;
 
+/// The status where the answer could not be written.
 const NOT_WRITTEN: u8 = 6;
 
+/// The status where memory ran out.
 const NO_MEMORY: u8 = 7;
 
 /// The most times that a thread raises a counter, since both may raise the same, which goes to 1,000,000.
 const MOST: u64 = 500_000;
 
-/// The second thread's counter, and the number of times, that two words give.
+/// The counter of the second thread, and the number of times, which two words give; none where the words are not so.
 fn asked(words: &[String]) -> Option<(u32, u64)>
     ensures { IfSome result (λ found. found.0 < 2) }
 {
@@ -42,6 +44,7 @@ fn asked(words: &[String]) -> Option<(u32, u64)>
     Some((counter, times))
 }
 
+/// The words after the program's name; no words where one of them is no text. The only failure is out of memory.
 fn given_words<R: Env + Alloc<A = Global>>(rt: &R) -> Result<Vec<String>, AllocError> {
     let alloc = rt.alloc();
     match env::args(rt) {
@@ -50,6 +53,7 @@ fn given_words<R: Env + Alloc<A = Global>>(rt: &R) -> Result<Vec<String>, AllocE
     }
 }
 
+/// Reads the words, lets the threads raise their counters, and writes the number of events.
 fn main(rt: HostRuntime) -> ExitCode {
     let Ok(words) = given_words(&rt) else {
         return ExitCode::from(NO_MEMORY);

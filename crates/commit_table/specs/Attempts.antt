@@ -1,4 +1,4 @@
--- What an attempt on the counters tells, of all its steps at once.
+-- What an attempt came to, of all its atomic steps at once.
 use Rattle.std.specs.Prelude.{◌≡◌, ℕ, ◌≤◌, Some, List, [], ◌∷◌, ◌++◌, length}
 use mathlib.Core.List.{IsPrefix}
 use Rattle.commit_table.specs.declared.views.PassView.{PassView}
@@ -10,8 +10,8 @@ use Rattle.commit_table.specs.LockHistory.{holder_in, lock_operations_by, Extend
 use Rattle.commit_table.specs.Views.{mine_after}
 
 module _ {S X E : Type 0} (m : Machine X E) where
-  -- the event was committed, once, after one look, behind a history that goes on from what was seen. The look was at no less
-  -- than had been seen, and before the event's place
+  -- the event was committed, once, after one look, and after a history that goes on from what was seen. The look was at no less than
+  -- had been seen, and before the event's place
   pub record IsCommittedOnce (v : PassView S E) (e : E) (place : ℕ) (w : PassView S E) : Type 0 where
     pub before : List E
     pub seen : w.seen ≡ before ++ e ∷ []
@@ -32,9 +32,9 @@ module _ {S X E : Type 0} (m : Machine X E) where
     pub shard : ℕ
     pub may : May shard
     pub missed : w.missed ≡ v.missed ++ shard ∷ []
-    -- of the lock operations of all passes that were told, this miss is the newest. Those before it go on from what the pass's last miss told,
-    -- have of its party just its own lock operations, `earlier` of this attempt among them, and in them another party holds the shard. The
-    -- attempt's own lock operations after the miss are `later`
+    -- of the lock operations of all passes up to this miss, the miss is the newest. Those before it go on from what the pass's last
+    -- miss showed, have of its party just its own lock operations, `earlier` of this attempt among them, and in them another party
+    -- holds the shard. The attempt's own lock operations after the miss are `later`
     pub has_party : (p : ℕ) × (v.party ≡ Some p)
     pub before : List LockRecord
     pub first : (p : ℕ) → v.party ≡ Some p → w.lock_history ≡ record { shard = shard; party = p; op = lock_op.Missed } ∷ before

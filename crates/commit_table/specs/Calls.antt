@@ -1,4 +1,4 @@
--- What the calls of a commit table ask and tell.
+-- What the calls of a commit table ask and promise.
 use Rattle.std.specs.Prelude.{◌≡◌, ℕ, ◌+◌, ◌*◌, ◌-◌, ◌^◌, ◌<◌, true, eqb, List, [], ◌∷◌, ◌++◌, length, min, slice_get, slice_index, count_by, Option, None, Some}
 use Rattle.std.specs.List.{list_any}
 use mathlib.Core.List.{IsPrefix}
@@ -10,7 +10,7 @@ use Rattle.commit_table.specs.LockHistory.{holder_in, lock_operations_by, Extend
 use Rattle.commit_table.specs.Machine.{Machine, events_by, IsOwn}
 use Rattle.commit_table.specs.Views.{held_at, after_look, after_commit}
 
--- a table: which one it is, the start that it was told, and how many passes it made
+-- a table: which one it is, the start that it was made with, and how many passes it made
 pub record TableValue (S : Type 0) : Type 0 where
   pub table : TableId
   pub start : S
@@ -21,17 +21,18 @@ pub record PassValue (S E : Type 0) : Type 0 where
   pub table : TableId
   pub known : PassView S E
 
--- what a closed table is known for: the start that it was told, the whole history, and what each pass knew, in the order in which they were given
+-- what is known of a closed table: its start, the whole history, and what each pass knew, in the order in which the passes were given
 pub record TallyValue (S E : Type 0) : Type 0 where
   pub start : Option S
   pub journal : List E
   pub passes : List (PassView S E)
 
--- The journal word is word 0. Words of the table stand apart, so that no two are on one line of a processor's cache, nor are two
--- slots: the word of a shard, and its slot
+-- The journal word is word 0. Words and slots that are used are apart, so that no two are on one line of a processor's cache: the
+-- index of a shard's word
 abbrev pub word_of : ℕ → ℕ
 word_of i = (i + 1) * 16
 
+-- the index of a shard's slot
 abbrev pub slot_of : ℕ → ℕ
 slot_of i = i * 8
 
@@ -45,7 +46,7 @@ module _ {X : Type 0} where
 abbrev pub IsSized : TableId → ℕ → Type 0
 IsSized id shards = (id.words ≡ word_of shards) × (id.slots ≡ slot_of shards)
 
--- how often a shard was missed, as far as 64 bits tell
+-- how often a shard was missed, or the largest number of 64 bits where it was more often
 abbrev pub misses_in : List ℕ → ℕ → ℕ
 misses_in missed i = min (count_by (λ j. eqb j i) missed) (2 ^ 64 - 1)
 
@@ -58,11 +59,12 @@ module _ {S E : Type 0} where
   abbrev pub IsOf : TableValue S → PassValue S E → Type 0
   IsOf t p = (p.table ≡ t.table) × (p.known.start ≡ Some t.start)
 
+  -- a pass holds no shard
   abbrev pub HoldsNone : PassView S E → Type 0
   HoldsNone v = (i : ℕ) → held_at v.held i ≡ None
 
-  -- a shard was missed: of the lock operations of all passes, this miss is the newest. Those before it go on from what the pass's last miss told,
-  -- have of its party just its own lock operations, and in them another party holds the shard
+  -- a shard was missed: of the lock operations of all passes, this miss is the newest. Those before it go on from what the pass's last
+  -- miss showed, have of its party just its own lock operations, and in them another party holds the shard
   pub record MissWitness (v : PassView S E) (i : ℕ) (records : List LockRecord) : Type 0 where
     pub has_party : (p : ℕ) × (v.party ≡ Some p)
     pub before : List LockRecord
@@ -90,7 +92,7 @@ module _ {S X E : Type 0} (m : Machine X E) where
     pub legal : m.Legal g
     pub stands : m.Stands i x g
 
-  -- the history so far was seen, and its length told. It is legal and goes on from what was seen before, its events of the
+  -- the history so far was seen, and its length is the number. It is legal and goes on from what was seen before, its events of the
   -- pass's party are the pass's own, and on each shard that the pass holds it is as it was when the shard was taken
   pub record Looked (v : PassView S E) (number : ℕ) (h : List E) (w : PassView S E) : Type 0 where
     pub is : w ≡ after_look v h
@@ -107,9 +109,9 @@ module _ {S X E : Type 0} (m : Machine X E) where
     pub legal : m.Legal (v.seen ++ e ∷ [])
     pub held : (i : ℕ) → list_any (eqb i) (m.shards_of v.seen e) ≡ true → (g : List E) × (held_at v.held i ≡ Some g) × m.Agree i v.seen g
 
-  -- the event was committed at a place, behind the history h, which goes on from what was seen and agrees with it on the
-  -- event's shards. The pass has seen all that, and the events of its party there are its own. On each shard that it holds,
-  -- of the event or not, what it has seen is as it holds the shard: so it may commit an event of another without a look
+  -- the event was committed at a place, after the history h, which goes on from what was seen and agrees with it on the event's
+  -- shards. The pass has seen all that, and the events of its party there are its own. On each shard that it holds, of the event or
+  -- not, what it has seen is as it holds the shard: so it may commit an event of another shard without a look
   pub record Committed (v : PassView S E) (e : E) (place : ℕ) (h : List E) (w : PassView S E) : Type 0 where
     pub is : w ≡ after_commit v h e (m.party e) (m.shards_of v.seen e)
     pub place_is : place ≡ length h
@@ -119,8 +121,8 @@ module _ {S X E : Type 0} (m : Machine X E) where
     pub own : IsOwn m v.party (h ++ e ∷ []) w.mine
     pub held : (i : ℕ) (g : List E) → held_at w.held i ≡ Some g → IsPrefix g (h ++ e ∷ []) × m.Agree i g (h ++ e ∷ [])
 
-  -- the history is whole: it is legal, each pass has seen a beginning of it, the events of a pass's party are the pass's
-  -- own, and no other party has any
+  -- the history is whole: it is legal, each pass has seen a prefix of it, the events of a pass's party are the pass's own, and no
+  -- other party has any
   pub record Closed (journal : List E) (passes : List (PassView S E)) : Type 0 where
     pub legal : m.Legal journal
     pub seen : (k : ℕ) (v : PassView S E) → slice_get passes k ≡ Some v → IsPrefix v.seen journal

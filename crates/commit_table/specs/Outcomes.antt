@@ -1,4 +1,4 @@
--- What each outcome of an attempt on the counters tells.
+-- What each outcome of an attempt on the counters says.
 use Rattle.std.specs.Prelude.{◌≡◌, ℕ, List, [], ◌∷◌, ◌++◌, length}
 use mathlib.Core.List.{IsPrefix}
 use Rattle.commit_table.specs.declared.views.PassView.{PassView}

@@ -1,4 +1,4 @@
--- Where each event is noted in its owner's part, in a list that nothing else changes, the parts' lists are the history cut by owner.
+-- Where each event is noted in its owner's projection, in a list that nothing else changes, these lists are the history cut by owner.
 use Rattle.std.proofs.Common.{◌≡◌, ◌≢◌, ℕ, zero, suc, Bool, true, false, cond, eqb, eq-eqb, ne_eqb, List, [], ◌∷◌, ◌++◌, append_assoc, append-nil, set, slice_get, Option, Some, refl, ap, sym, subst, ◌∙◌}
 use Rattle.std.specs.List.{list_any}
 use mathlib.Core.Logic.{dite}
@@ -12,7 +12,7 @@ cut owner i place [] = []
 cut owner i place (e ∷ es) = cond (eqb i (owner e)) ((place, e) ∷ cut owner i (suc place) es) (cut owner i (suc place) es)
 
 module _ {P X E : Type 0} (a : ProjectedMachine P X E) (list : P → List (ℕ × E)) where
-  -- each part has a list, which only a note in it changes
+  -- each projection has a list, which only a note in it changes
   pub record Lists : Type 0 where
     pub first : (i : ℕ) (p : P) → slice_get a.first i ≡ Some p → list p ≡ []
     pub notes : (place : ℕ) (e : E) (p : P) → list (a.noted place e p) ≡ list p ++ (place, e) ∷ []
@@ -22,7 +22,7 @@ module _ {P X E : Type 0} (a : ProjectedMachine P X E) (list : P → List (ℕ �
     -- no event has its owner as a peer
     pub apart : (own : P) (e : E) → list_any (eqb (a.owner e)) (a.peers own e) ≡ false
 
-  -- new parts of some shards have the lists that the old ones had
+  -- new projections of some shards have the lists that the old ones had
   abbrev Same : List P → List ℕ → List P → Type 0
   Same ps is qs = (k j : ℕ) (q : P) → slice_get is k ≡ Some j → slice_get qs k ≡ Some q → (x : P) × (slice_get ps j ≡ Some x) × (list q ≡ list x)
 
@@ -82,6 +82,6 @@ module _ {P X E : Type 0} (a : ProjectedMachine P X E) (list : P → List (ℕ �
       let added : List (ℕ × E) = cond (eqb i (a.owner x)) ((place, x) ∷ []) [] in
       (rest.0, rest.1, rest.2 ∙ (ap (λ z. z ++ cut a.owner i (suc place) h) one.2 ∙ (append_assoc (list p) added (cut a.owner i (suc place) h) ∙ ap (λ z. list p ++ z) (cut_first i place x h (eqb i (a.owner x))))))
 
-  -- after a history, the list of each part is the history cut by owner
+  -- after a history, the list of each projection is the history cut by owner
   pub lists_are_cut : Lists → (h : List E) (ps : List P) → projections_of a h ≡ Some ps → (i : ℕ) (p : P) → slice_get a.first i ≡ Some p → (r : P) × (slice_get ps i ≡ Some r) × (list r ≡ cut a.owner i zero h)
   lists_are_cut l h ps e i p at = let r = run_noted l zero a.first h ps e i p at in (r.0, r.1, r.2 ∙ ap (λ z. z ++ cut a.owner i zero h) (l.first i p at))

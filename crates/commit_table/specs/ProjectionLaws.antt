@@ -1,4 +1,4 @@
--- A machine of parts keeps the laws of a machine whose state lies in shards.
+-- A machine of projections keeps the laws of a machine whose state lies in shards.
 use Rattle.std.proofs.Common.{◌≡◌, ◌≢◌, ℕ, zero, suc, ◌+◌, ◌^◌, ◌<◌, ◌≤◌, true, false, ◌||◌, eqb, eq-eqb, ne_eqb, List, [], ◌∷◌, ◌++◌, length, set, slice_get, Option, None, Some, refl, ap, sym, subst, ◌∙◌, arith}
 use mathlib.Core.Logic.{dite}
 use native.Mathlib.Decide.{ℕ_discrete}
@@ -64,7 +64,7 @@ module _ {P : Type 0} where
   get_set_here (x ∷ xs) zero p q e = refl
   get_set_here (x ∷ xs) (suc i) p q e = get_set_here xs i p q e
 
-  -- where the parts of shards were found, each is in its place
+  -- where the projections of shards were found, each is in its place
   pub parts_found : (ps : List P) (is : List ℕ) (others : List P) (k j : ℕ) → projections_at ps is ≡ Some others → slice_get is k ≡ Some j → (x : P) × (slice_get others k ≡ Some x) × (slice_get ps j ≡ Some x)
   parts_found ps [] others k j e at = absurd cc
   parts_found ps (i ∷ is) others k j e at =
@@ -76,7 +76,7 @@ module _ {P : Type 0} where
         | suc n ↦ λ later. let r = parts_found ps is y.0 n j y.1 later in (r.0, ap (λ (z : List P). slice_get z (suc n)) (sym whole) ∙ r.1, r.2)
       ] at
 
-  -- each shard that is named once has its new part
+  -- each shard that is named once has its new projection
   pub with_there : (ps : List P) (is : List ℕ) (qs : List P) (k j : ℕ) (p was : P) → AreApart is → slice_get is k ≡ Some j → slice_get qs k ≡ Some p → slice_get ps j ≡ Some was → slice_get (with_projections ps is qs) j ≡ Some p
   with_there ps [] qs k j p was once at part there = absurd cc
   with_there ps (i ∷ is) [] k j p was once at part there = absurd cc
@@ -107,7 +107,7 @@ module _ {P X E : Type 0} (a : ProjectedMachine P X E) where
       let z = chained (λ (new : P × List P). Some (with_projections (set ps (a.owner e) (a.noted place e new.0)) (a.peers own e) new.1)) (a.act place e own y.0) after y.2 in
       record { own = own; own_there = x.1; others = y.0; others_there = y.1; new = z.0; acts = z.1; is = let e = z.2 in cc }
 
-  -- an event may happen where its parts are those with which it may
+  -- an event may happen where its projections are those with which it may
   pub may : (place : ℕ) (ps : List P) (e : E) (own : P) (others : List P) (new : P × List P) → slice_get ps (a.owner e) ≡ Some own → projections_at ps (a.peers own e) ≡ Some others
       → a.act place e own others ≡ Some new → (after : List P) × (stepped a place ps e ≡ Some after)
   may place ps e own others new here there acts = (
@@ -137,7 +137,7 @@ module _ {P X E : Type 0} (a : ProjectedMachine P X E) where
       let x = chained (λ qs. stepped a (zero + length h) qs e) (projections_of a h) after (sym (run_last zero a.first h e) ∙ s) in
       (x.0, x.1, did (zero + length h) x.0 e after x.2)
 
-  -- the part of a shard, of all parts
+  -- the projection of a shard, of all projections
   pub part_there : (h : List E) (ps : List P) (i : ℕ) → projections_of a h ≡ Some ps → projection_of a i h ≡ slice_get ps i
   part_there h ps i e = chain_at (λ (ps : List P). slice_get ps i) (projections_of a h) ps e
 
@@ -163,7 +163,7 @@ module _ {P X E : Type 0} (a : ProjectedMachine P X E) where
       let s = may (zero + length k) there.0 e r.own r.others later.0 here peers later.1 in
       (s.0, run_last zero a.first k e ∙ (chain_at (λ qs. stepped a (zero + length k) qs e) (projections_of a k) there.0 there.1 ∙ s.1))
 
-  -- a machine of parts is lawful, where its histories are bounded, and places are not tested
+  -- a machine of projections is lawful, where its histories are bounded, and places are not tested
   pub projection_laws : Lasts a → ((h : List E) (ps : List P) → projections_of a h ≡ Some ps → length h < 2 ^ 64) → Laws M
   projection_laws lasts bounded = record {
     bounded = λ h legal. bounded h legal.0 legal.1;
@@ -179,7 +179,7 @@ module _ {P X E : Type 0} (a : ProjectedMachine P X E) where
     same_shards = λ h k e legal there agree. ap (λ o. a.owner e ∷ peers_of a o e) agree;
   }
 
-  -- histories are bounded where each event adds weight, and what the parts can weigh is bounded
+  -- histories are bounded where each event adds weight, and what the projections can weigh is bounded
   pub weighed : (Ok : List P → Type 0) (weight : List P → ℕ) → ((place : ℕ) (ps : List P) (e : E) (qs : List P) → Ok ps → stepped a place ps e ≡ Some qs → Ok qs × (weight ps < weight qs))
       → (place : ℕ) (ps : List P) (h : List E) (after : List P) → Ok ps → run a place ps h ≡ Some after → Ok after × (weight ps + length h ≤ weight after)
   weighed Ok weight grows place ps [] after ok e = let is : ps ≡ after = cc in (subst Ok is ok, subst (λ z. weight ps + 0 ≤ weight z) is (omega arith))
@@ -189,7 +189,7 @@ module _ {P X E : Type 0} (a : ProjectedMachine P X E) where
       let r = weighed Ok weight grows (suc place) s.0 h after g.0 s.2 in
       let lt = g.1 in let le = r.1 in (r.0, omega arith)
 
-  -- after an event, its owner's part and those of its peers are the new ones
+  -- after an event, its owner's projection and those of its peers are the new ones
   pub new_own : (h : List E) (e : E) (own : P) (others : List P) (new : P × List P) → M.Legal (h ++ e ∷ []) → projection_of a (a.owner e) h ≡ Some own
       → ((ps : List P) → projections_of a h ≡ Some ps → projections_at ps (a.peers own e) ≡ Some others) → a.act (zero + length h) e own others ≡ Some new → list_any (eqb (a.owner e)) (a.peers own e) ≡ false
       → projection_of a (a.owner e) (h ++ e ∷ []) ≡ Some (a.noted (zero + length h) e new.0)
@@ -206,7 +206,7 @@ module _ {P X E : Type 0} (a : ProjectedMachine P X E) where
       ∙ (with_apart (set d.0 (a.owner e) (a.noted (zero + length h) e r.new.0)) (a.peers r.own e) r.new.1 (a.owner e) off
       ∙ (get_set_here d.0 (a.owner e) r.own (a.noted (zero + length h) e r.new.0) r.own_there ∙ ap (λ (z : P × List P). Some (a.noted (zero + length h) e z.0)) is)))
 
-  -- the parts of these shards are those of the list
+  -- the projections of these shards are those of the list
   pub parts_there : (h : List E) (ps : List P) (is : List ℕ) (others : List P) → projections_of a h ≡ Some ps → ArePartsOf a h is others → projections_at ps is ≡ Some others
   parts_there h ps [] [] at there = refl
   parts_there h ps [] (q ∷ others) at there = absurd there
@@ -235,7 +235,7 @@ module _ {P X E : Type 0} (a : ProjectedMachine P X E) where
       ∙ (ap (λ z. slice_get (with_projections ps' z r.new.1) j) peers
       ∙ (ap (λ (z : P × List P). slice_get (with_projections ps' (a.peers own e) z.1) j) is ∙ with_there ps' (a.peers own e) new.1 k j p was.0 once peer part kept)))
 
-  -- an event may follow where its parts let it
+  -- an event may follow where its projections let it
   pub may_follow : (h : List E) (e : E) (own : P) (others : List P) (new : P × List P) → M.Legal h → projection_of a (a.owner e) h ≡ Some own
       → ((ps : List P) → projections_of a h ≡ Some ps → projections_at ps (a.peers own e) ≡ Some others) → a.act (zero + length h) e own others ≡ Some new → M.Legal (h ++ e ∷ [])
   may_follow h e own others new legal here there acts =

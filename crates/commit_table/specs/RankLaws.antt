@@ -1,4 +1,4 @@
--- The two ranks are a lawful machine: each event is one more in its owner's part of the journal, and there it has room.
+-- The two ranks are a lawful machine: each event is one more in its owner's journal, and there is room for it there.
 use Rattle.std.proofs.Common.{eqb, ◌≡◌, ℕ, zero, suc, ◌+◌, ◌^◌, ◌<◌, ◌≤◌, Bool, true, false, cond, ltb, ◌||◌, ne_eqb, List, [], ◌∷◌, length, map, slice_get, Option, None, Some, refl, ap, sym, subst, ◌∙◌, arith, length-append}
 use Rattle.std.proofs.lemmas.List.{map-append}
 use Rattle.std.specs.Prelude.{option_and_then}
@@ -27,7 +27,7 @@ weight (a ∷ (b ∷ rest)) = count a + count b
 one_more : (place : ℕ) (e : RankEvent) (p : RankProjection) → count (rank_event_placed place e p) ≡ count p + 1
 one_more place e p = length-append p.journal (record { place = place; act = e } ∷ [])
 
--- where there was room, the parts are the new ones
+-- where there was room, the projections are the new ones
 roomy : (own new : RankProjection) (rest : List RankProjection) (b : Bool) (f : RankProjection × List RankProjection → List RankProjection) (qs : List RankProjection) → b ≡ ltb (count own) most_events
     → option_and_then (λ (z : RankProjection × List RankProjection). Some (f z)) (cond b (Some (new, rest)) None) ≡ Some qs → (qs ≡ f (new, rest)) × (count own < most_events)
 roomy own new rest true f qs is e = (let a : f (new, rest) ≡ qs = cc in sym a, ltb-true (count own) most_events (sym is))
@@ -96,7 +96,7 @@ lasts place later (Post rank) own (other ∷ (more ∷ rest)) new le acts = absu
 pub ranks_lawful : Laws ranks
 ranks_lawful = projection_laws rank_projections lasts bounded
 
--- each rank's part of the journal, as pairs of a place and an event
+-- each rank's journal, as pairs of a place and an event
 abbrev pub noted_acts : RankProjection → List (ℕ × RankEvent)
 noted_acts p = map (λ n. (n.place, n.act)) p.journal
 
@@ -152,7 +152,7 @@ rank_lists = record {
   apart = rank_apart;
 }
 
--- each rank's part of the journal is the history cut by owner
+-- each rank's journal is the history cut by owner
 pub rank_journals : (h : List RankEvent) (ps : List RankProjection) → projections_of rank_projections h ≡ Some ps → (i : ℕ) (p : RankProjection) → slice_get rank_projections.first i ≡ Some p
     → (r : RankProjection) × (slice_get ps i ≡ Some r) × (noted_acts r ≡ cut rank_event_owner i zero h)
 rank_journals = lists_are_cut rank_projections noted_acts rank_lists

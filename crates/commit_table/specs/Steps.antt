@@ -1,5 +1,5 @@
--- What each step on the table tells: of the step, the seat before, the number found, and the seat after.
--- `of` is the machine of a start.
+-- What each atomic step on the table says: of the step, the seat before, the number found, and the seat after. `of` is the machine of
+-- a start.
 use Rattle.std.specs.Prelude.{eqb, ◌≡◌, ℕ, ◌+◌, ◌<◌, ◌⊎◌, true, List, [], ◌∷◌, ◌++◌, length, Option, Some}
 use Rattle.std.specs.List.{list_any}
 use mathlib.Core.Option.{some}
@@ -42,7 +42,7 @@ module _ {S X E : Type 0} (of : S → Machine X E) where
   abbrev pub LooksOnce : ℕ → PassView S E → List E → ℕ → Me (Option X) (SeatView S E) → Type 0
   LooksOnce n v heard found after = (h : List E) × (after ≡ (at_rest (after_look v h), [])) × Of v (λ m. SeesHistory m v heard found h) × ((p : ℕ) → v.party ≡ Some p → p < n)
 
-  -- An addition to the journal word: the event stands behind the history so far
+  -- An addition to the journal word: the event follows the history so far
   pub record AddsEvent (m : Machine X E) (v : PassView S E) (e : E) (found : ℕ) (h : List E) (w : PassView S E) : Type 0 where
     pub is : w ≡ after_commit v h e (m.party e) (m.shards_of v.seen e)
     pub number : found ≡ length h
@@ -53,6 +53,7 @@ module _ {S X E : Type 0} (of : S → Machine X E) where
     -- on each shard that is held then, the event's and others, the history is as the seat holds it
     pub held : (i : ℕ) (g : List E) → held_at w.held i ≡ Some g → IsPrefix g (h ++ e ∷ []) × m.Agree i g (h ++ e ∷ [])
 
+  -- a commit: the event was added after some history
   abbrev pub CommitsEvent : PassView S E → E → ℕ → Me (Option X) (SeatView S E) → Type 0
   CommitsEvent v e found after = (h : List E) × (w : PassView S E) × (after ≡ (at_rest w, [])) × Of v (λ m. AddsEvent m v e found h w)
 
@@ -63,27 +64,34 @@ module _ {S X E : Type 0} (of : S → Machine X E) where
     pub own : (k : ℕ) (v : PassView S E) → get_elem? passes k ≡ some v → IsOwn m v.party h v.mine
     pub others : (p : ℕ) → ((k : ℕ) (v : PassView S E) → get_elem? passes k ≡ some v → ¬ (v.party ≡ Some p)) → events_by m.party p h ≡ []
 
-  -- The steps as the base takes them
+  -- The atomic steps as `atomic_table` takes them: a take of a shard, or a miss
   abbrev pub takes : Step (Option X) → Me (Option X) (SeatView S E) → ℕ → Me (Option X) (SeatView S E) → Type 0
   takes step me found after = (i : ℕ) → step.word ≡ word_of i → TakesShard i me.0.known found after
 
+  -- the slot of a held shard goes home
   abbrev pub returns_slot : Step (Option X) → Me (Option X) (SeatView S E) → ℕ → Me (Option X) (SeatView S E) → Type 0
   returns_slot step me found after = after ≡ (at_rest me.0.known, [])
 
+  -- the slot of a held shard goes out with the seat
   abbrev pub fetches_slot : Step (Option X) → Me (Option X) (SeatView S E) → ℕ → Me (Option X) (SeatView S E) → Type 0
   fetches_slot step me found after = (i : ℕ) → step.word ≡ word_of i → FetchesSlot i me.0.known after
 
+  -- a give-back
   abbrev pub frees_word : Step (Option X) → Me (Option X) (SeatView S E) → ℕ → Me (Option X) (SeatView S E) → Type 0
   frees_word step me found after = (i : ℕ) → step.word ≡ word_of i → after ≡ (at_rest (after_give_back me.0.known i), [])
 
+  -- a look, of a table with n passes
   abbrev pub looks : ℕ → Step (Option X) → Me (Option X) (SeatView S E) → ℕ → Me (Option X) (SeatView S E) → Type 0
   looks n step me found after = LooksOnce n me.0.known me.0.note_history found after
 
+  -- a commit of the one event of the list
   abbrev pub commits : List E → Step (Option X) → Me (Option X) (SeatView S E) → ℕ → Me (Option X) (SeatView S E) → Type 0
   commits told step me found after = (e : E) × (told ≡ e ∷ []) × CommitsEvent me.0.known e found after
 
+  -- a new seat is made, which is to take in all passes
   abbrev pub opens_closer : Step (Option X) → Me (Option X) (SeatView S E) → ℕ → Me (Option X) (SeatView S E) → Type 0
   opens_closer step me found after = after ≡ (record me.0 { first_party = 0; end_party = 0; is_closer = true }, [])
 
+  -- the last look of that seat
   abbrev pub looks_last : Step (Option X) → Me (Option X) (SeatView S E) → ℕ → Me (Option X) (SeatView S E) → Type 0
   looks_last step me found after = (s : S) → me.0.known.start ≡ Some s → (h : List E) × (after ≡ (closed_seat s h me.0.joined_passes, [])) × (found ≡ length h) × EndsTable (of s) me.0.joined_passes h

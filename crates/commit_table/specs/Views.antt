@@ -20,6 +20,7 @@ module _ {E : Type 0} where
   abbrev pub longer : List E → List E → List E
   longer xs ys = cond (ltb (length xs) (length ys)) ys xs
 
+  -- of two histories the other one
   abbrev pub shorter : List E → List E → List E
   shorter xs ys = cond (ltb (length xs) (length ys)) xs ys
 
@@ -33,7 +34,7 @@ module _ {S E : Type 0} where
   abbrev pub new_pass : S → Option ℕ → List E → PassView S E
   new_pass start party seen = record { start = Some start; party = party; seen = seen; mine = []; commits = []; looks = []; held = []; missed = []; lock_operations = []; lock_history = [] }
 
-  -- what a note of a pass tells: what it has seen, and no more
+  -- what a note of a pass knows: what the pass has seen, and no more
   abbrev pub noted : PassView S E → PassView S E
   noted v = record { start = v.start; party = None; seen = v.seen; mine = []; commits = []; looks = []; held = []; missed = []; lock_operations = []; lock_history = [] }
 
@@ -41,13 +42,15 @@ module _ {S E : Type 0} where
   abbrev pub also_seen : PassView S E → List E → PassView S E
   also_seen v s = record v { seen = longer v.seen s }
 
-  -- a shard was taken, whose value stands for g; it was missed, as these lock operations tell; it was given back
+  -- what a pass knows after it took a shard, whose value stands for g
   abbrev pub after_take : PassView S E → ℕ → List E → PassView S E
   after_take v i g = record v { held = (i, Some g) ∷ v.held; lock_operations = (i, lock_op.Took) ∷ v.lock_operations }
 
+  -- after it missed a shard, with the lock operations of all passes up to that miss
   abbrev pub after_miss : PassView S E → ℕ → List LockRecord → PassView S E
   after_miss v i met = record v { missed = v.missed ++ i ∷ []; lock_operations = (i, lock_op.Missed) ∷ v.lock_operations; lock_history = met }
 
+  -- after it gave a shard back
   abbrev pub after_give_back : PassView S E → ℕ → PassView S E
   after_give_back v i = record v { held = (i, None) ∷ v.held; lock_operations = (i, lock_op.GaveBack) ∷ v.lock_operations }
 
@@ -55,7 +58,7 @@ module _ {S E : Type 0} where
   abbrev pub after_look : PassView S E → List E → PassView S E
   after_look v h = record v { seen = h; looks = v.looks ++ length h ∷ [] }
 
-  -- the event e of a party was committed behind h, on these shards
+  -- the event e of a party was committed after h, on these shards
   abbrev pub after_commit : PassView S E → List E → E → Option ℕ → List ℕ → PassView S E
   after_commit v h e party shards = record v { seen = h ++ e ∷ []; mine = mine_after party v.mine e; commits = v.commits ++ length h ∷ []; held = holds_all shards (h ++ e ∷ []) v.held }
 
@@ -67,11 +70,11 @@ module _ {S E : Type 0} where
   abbrev pub with_slot_out : PassView S E → ℕ → SeatView S E
   with_slot_out v i = record (at_rest v) { slot_out = Some i }
 
-  -- a history is remembered; and so it is where the seat took in a note that had seen s: of the two histories the longer is now
-  -- what the seat has seen, and it remembers the other
+  -- a seat that remembers a history beside what it has seen
   abbrev pub with_kept_history : PassView S E → List E → SeatView S E
   with_kept_history v h = record (at_rest v) { note_history = h }
 
+  -- a seat that took in a note which had seen s: of the two histories it has seen the longer, and remembers the other
   abbrev pub with_note : PassView S E → List E → SeatView S E
   with_note v s = with_kept_history (also_seen v s) (shorter v.seen s)
 
@@ -79,10 +82,11 @@ module _ {S E : Type 0} where
   abbrev pub splitting_seat : S → ℕ → ℕ → SeatView S E
   splitting_seat start k n = record (at_rest (new_pass start None [])) { first_party = k; end_party = n }
 
-  -- the seat that takes in all passes to close the table, when it has seen a history; and then the same when it has looked last
+  -- the seat that takes in all passes to close the table, when it has seen a history
   abbrev pub closing_seat : S → List E → List (PassView S E) → SeatView S E
   closing_seat start seen passes = record (at_rest (new_pass start None seen)) { is_closer = true; joined_passes = passes }
 
+  -- the same, when it has looked last
   abbrev pub closed_seat : S → List E → List (PassView S E) → SeatView S E
   closed_seat start h passes = record (closing_seat start h passes) { closed = true }
 

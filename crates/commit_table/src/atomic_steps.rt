@@ -1,4 +1,5 @@
-//! What each step on the table tells. The types are for proofs alone.
+//! A type for each atomic step, which says in proofs what the step makes of what its seats know (`specs/Steps`, `specs/Views`). No
+//! value of them is made.
 ghost use Rattle.std.specs.Prelude.{ℕ, List, [], ◌∷◌, ◌+◌, ◌++◌, Some};
 ghost use Rattle.commit_table.specs.Steps.{takes, returns_slot, fetches_slot, frees_word, looks, commits, opens_closer, looks_last};
 ghost use Rattle.commit_table.specs.Views.{at_rest, noted, with_note, with_pass, tally_of, joined_seat};
@@ -8,7 +9,7 @@ use crate::views::SeatView;
 use atomic_table::{Join, Play, Split};
 use std::marker::{Brand, PhantomData};
 
-/// The event that a step adds. The call picks it, since an addition announces no value.
+/// Which event a commit adds: `told` is the list of that one. The call picks it, since the addition itself does not show it.
 pub trait CommittedEvent<E> {
     ghost told: { List E };
 }
@@ -17,31 +18,35 @@ impl<E> CommittedEvent<E> for Brand {
     ghost told = { [] };
 }
 
+/// A take of a shard, or a miss.
 pub struct TakeWord;
 
 impl<M: Sharded> Play<Option<M::Shard>, SeatView<M, M::Event>> for TakeWord {
     ghost then = { takes M.machine };
 }
 
+/// The slot of a held shard goes home.
 pub struct ReturnSlot;
 
 impl<M: Sharded> Play<Option<M::Shard>, SeatView<M, M::Event>> for ReturnSlot {
     ghost then = { returns_slot M.machine };
 }
 
+/// The slot of a held shard goes out with the seat.
 pub struct FetchSlot;
 
 impl<M: Sharded> Play<Option<M::Shard>, SeatView<M, M::Event>> for FetchSlot {
     ghost then = { fetches_slot M.machine };
 }
 
+/// A give-back of a shard, after its value is in the slot.
 pub struct FreeWord;
 
 impl<M: Sharded> Play<Option<M::Shard>, SeatView<M, M::Event>> for FreeWord {
     ghost then = { frees_word M.machine };
 }
 
-/// How many passes there are. The call says it, since a step cannot read what the table was told.
+/// How many passes there are. The call picks it, since a step cannot read the key of the table.
 pub trait PassCount {
     ghost passes: { ℕ };
 }
@@ -50,6 +55,7 @@ impl PassCount for Brand {
     ghost passes = { 0 };
 }
 
+/// A look, of a table with the count of passes of `N`.
 pub struct Look<N> {
     count: PhantomData<N>,
 }
@@ -58,6 +64,7 @@ impl<M: Sharded, N: PassCount> Play<Option<M::Shard>, SeatView<M, M::Event>> for
     ghost then = { looks M.machine N.passes };
 }
 
+/// The commit of the event of `J`.
 pub struct Commit<J> {
     event: PhantomData<J>,
 }
@@ -67,19 +74,21 @@ impl<M: Sharded, J: CommittedEvent<M::Event>> Play<Option<M::Shard>, SeatView<M,
     ghost then = { commits M.machine J.told };
 }
 
+/// A new seat is made for `close`.
 pub struct OpenCloser;
 
 impl<M: Sharded> Play<Option<M::Shard>, SeatView<M, M::Event>> for OpenCloser {
     ghost then = { opens_closer M.machine };
 }
 
+/// The last look, of the closing seat.
 pub struct LastLook;
 
 impl<M: Sharded> Play<Option<M::Shard>, SeatView<M, M::Event>> for LastLook {
     ghost then = { looks_last M.machine };
 }
 
-/// The next pass is made.
+/// The seat of the next pass is made from the first seat.
 pub struct SplitPass;
 
 impl<S, E> Split<SeatView<S, E>> for SplitPass {
@@ -88,7 +97,7 @@ impl<S, E> Split<SeatView<S, E>> for SplitPass {
     ghost right = { λ v. at_rest (record (noted v.known) { party = Some v.first_party }) };
 }
 
-/// A note is made.
+/// The seat of a note is made from that of a pass.
 pub struct SplitNote;
 
 impl<S, E> Split<SeatView<S, E>> for SplitNote {
@@ -97,7 +106,7 @@ impl<S, E> Split<SeatView<S, E>> for SplitNote {
     ghost right = { λ v. at_rest (noted v.known) };
 }
 
-/// What the seat that closes the table knows is kept.
+/// The seat of the tally is made from the closing seat.
 pub struct SplitTally;
 
 impl<S, E> Split<SeatView<S, E>> for SplitTally {
@@ -106,7 +115,7 @@ impl<S, E> Split<SeatView<S, E>> for SplitTally {
     ghost right = { tally_of };
 }
 
-/// A note is taken in.
+/// A pass's seat takes in that of a note.
 pub struct JoinNote;
 
 impl<S, E> Join<SeatView<S, E>> for JoinNote {
@@ -115,7 +124,7 @@ impl<S, E> Join<SeatView<S, E>> for JoinNote {
     ghost spent = { joined_seat };
 }
 
-/// A pass is taken in, to close the table.
+/// The closing seat takes in that of a pass.
 pub struct JoinPass;
 
 impl<S, E> Join<SeatView<S, E>> for JoinPass {

@@ -1,11 +1,11 @@
 //! How a thread passes the time between two tries of what another thread may make possible. (own choice)
 //!
-//! It spins and gives its processor away, as `crossbeam_utils`' `Backoff` does, and where that was in vain for long it sleeps for
-//! moments, which become longer. Threads that spin or yield keep the processors busy, and where there are more of them than
-//! processors one of them may run in place of the one that they wait for.
+//! It spins and gives its processor away, as `crossbeam_utils`' `Backoff` does, and after many pauses in vain it sleeps for moments,
+//! which become longer. Threads that spin or yield keep the processors busy, and where there are more of them than processors, one of
+//! them may run instead of the one that they wait for.
 //!
 //! A loop that tries makes one `BackOff`, calls `pause` after each try that was in vain, and `reset` after each that made progress.
-//! Where the threads that may make a try worth while tell so in `Changes`, it calls `pause_watching`, which ends early then.
+//! Where other threads count in `Changes` what may make a try worth while, the loop calls `pause_watching`, which ends early then.
 
 ghost use Rattle.std.specs.Prelude.{◌≤◌};
 
@@ -16,29 +16,30 @@ use std::sync::atomic::AtomicU64;
 use std::time::Duration;
 use std::{hint, thread};
 
-/// How often a thread looks for what it watches for before it gives its processor away, where it has not waited for long.
+/// How often a thread that has not slept yet checks what it watches for, before it gives its processor away.
 const SPINS: u32 = 100;
 
 /// How often a thread gives its processor away before it sleeps for the first time.
 const YIELDS_AT_FIRST: u32 = 400;
 
-/// How often it does so after its first sleep.
+/// How often it does so between its first sleep and its second.
 const YIELDS_BETWEEN: u32 = 16;
 
 /// How long its first sleep is.
 const SLEEP_MICROS: u64 = 50;
 
-/// How often a sleep is twice as long as the one before, with twice as many yields behind it: so a wait takes about the same small
-/// part of a processor however long it is, and no sleep is longer than 0.8 milliseconds.
+/// How often the length of a sleep is doubled, and with it the number of yields after it. So a wait takes about the same small share
+/// of a processor, however long it is, and no sleep is longer than 0.8 milliseconds.
 const MOST_DOUBLINGS: u32 = 4;
 
 /// The pauses of one thread between its tries.
 #[derive(Drop)]
 pub struct BackOff {
+    /// The first pauses: spins and yields.
     backoff: Backoff,
     /// How often the thread will give its processor away before it sleeps.
     yields: u32,
-    /// How often the next sleep was doubled.
+    /// How often the length of the next sleep was doubled.
     doublings: u32,
     /// Nobody else knows this word, so a sleep on it lasts its time.
     word: AtomicU64,
@@ -46,7 +47,7 @@ pub struct BackOff {
 }
 
 impl BackOff {
-    /// Pauses that begin short.
+    /// A back-off whose first pauses are short.
     pub fn new() -> BackOff {
         BackOff {
             backoff: Backoff::new(),
@@ -63,7 +64,7 @@ impl BackOff {
         self.doublings = 0;
     }
 
-    /// Pauses once, after a try that was in vain.
+    /// Pauses once, after a try that was in vain: spins, gives the processor away, or sleeps.
     pub fn pause<R: Wait>(&mut self, rt: &R) {
         if !self.backoff.is_completed() {
             self.backoff.snooze();
@@ -72,7 +73,7 @@ impl BackOff {
         }
     }
 
-    /// Pauses once, after a try that was in vain, and ends early where what is watched for has come. Whether it had come.
+    /// Pauses once, after a try that was in vain, and ends early where what is watched for has come. True where it has come.
     pub fn pause_watching<R: Wait, W: Watched>(&mut self, rt: &R, watched: &W) -> bool {
         let spins = if self.doublings == 0 { SPINS } else { 1 };
         for _ in 0..spins {
@@ -85,7 +86,7 @@ impl BackOff {
         watched.has_come()
     }
 
-    /// Gives the processor away, or sleeps where that was in vain for long.
+    /// Gives the processor away, or sleeps where that was done as often as `yields` says: the longer pauses of both kinds of `pause`.
     fn give_way<R: Wait>(&mut self, rt: &R) {
         if self.yields > 0 {
             self.yields -= 1;
@@ -95,7 +96,7 @@ impl BackOff {
         }
     }
 
-    /// Sleeps once.
+    /// Sleeps once, for `give_way`; the next sleep is twice as long, up to the most doublings.
     fn sleep<R: Wait>(&mut self, rt: &R) {
         let time = Duration::from_micros(SLEEP_MICROS << self.doublings);
         self.word.park_timeout(rt, 0, time);

@@ -5,15 +5,17 @@ use std::alloc::{AllocError, Global};
 use std::sync::atomic::AtomicU64;
 use std::sync::atomic::Ordering::SeqCst;
 
-/// For each of so many things how often it was changed, modulo 2^64, as far as threads counted it. A count says only when another try
-/// may be worth while: what has changed, and whether all changes were counted, it does not. Each lies on a line of a processor's cache of its own.
+/// How often threads counted a change of each thing, modulo 2^64. A thing is a number from 0 on, to which the user of the counts gives a
+/// meaning. A count says only that another try may be worth while: not what has changed, nor that all changes were counted. Each count
+/// has a line of a processor's cache of its own.
 #[derive(Drop)]
 pub struct Changes {
+    /// The counts, by thing.
     counts: Vec<CachePadded<AtomicU64>>,
 }
 
 impl Changes {
-    /// The counts of so many things, none of which was changed.
+    /// The counts of the things 0 to `things` - 1, all 0. The only failure is out of memory.
     pub fn new(alloc: Global, things: usize) -> Result<Changes, AllocError> {
         let mut counts = Vec::with_capacity(alloc, things)?;
         for _ in 0..things {
@@ -22,14 +24,14 @@ impl Changes {
         Ok(Changes { counts })
     }
 
-    /// Counts a change of a thing.
+    /// Counts a change of a thing. Of a number that is no thing nothing is counted.
     pub fn count_change(&self, thing: u32) {
         if let Some(count) = self.counts.get(thing as usize) {
             count.fetch_add(1, SeqCst);
         }
     }
 
-    /// How often that was counted. Of what is no thing, never.
+    /// How often a change of the thing was counted; 0 of a number that is no thing.
     pub fn count(&self, thing: u32) -> u64 {
         match self.counts.get(thing as usize) {
             Some(count) => count.load(SeqCst),
@@ -44,17 +46,21 @@ pub trait Watched {
     fn has_come(&self) -> bool;
 }
 
-/// A change of a thing, or of either of two, since this was made.
+/// Whether a change of a thing, or of either of two, was counted since this was made: to be watched by a `BackOff`.
 #[derive(Drop)]
 pub struct Change<'a> {
+    /// The counts.
     changes: &'a Changes,
+    /// The thing.
     one: u32,
+    /// The second thing, where there is one.
     other: Option<u32>,
+    /// The sum of their counts when this was made.
     seen: u64,
 }
 
 impl<'a> Change<'a> {
-    /// From now on, of a thing, and of another where there is one.
+    /// A change from now on, of a thing, and of another where there is one.
     pub fn of(changes: &'a Changes, one: u32, other: Option<u32>) -> Change<'a> {
         let seen = sum(changes, one, other);
         Change {
@@ -67,12 +73,13 @@ impl<'a> Change<'a> {
 }
 
 impl Watched for Change<'_> {
+    /// Whether a change was counted since this was made.
     fn has_come(&self) -> bool {
         sum(self.changes, self.one, self.other) != self.seen
     }
 }
 
-/// How often a change of a thing was told, or of the other.
+/// The sum of the counts of a thing and of the other, where there is one, modulo 2^64.
 fn sum(changes: &Changes, one: u32, other: Option<u32>) -> u64 {
     match other {
         Some(other) => changes.count(one).wrapping_add(changes.count(other)),

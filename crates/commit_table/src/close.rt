@@ -1,4 +1,5 @@
-//! A table that no thread uses any more gives its shards and what is known of its history.
+//! The end of a table that no thread uses any more: a new seat takes in all passes and looks last, the shard values leave their slots,
+//! and the tally keeps what is known.
 ghost use Rattle.std.specs.Prelude.{◌≡◌, ℕ, ◌+◌, ◌%◌, ◌<◌, ◌≤◌, false, IsTrue, Option, Some, None, List, [], ◌∷◌, ◌++◌, map, length, slice_get, slice_set, slice_index_or, vec_len, vec_capacity};
 ghost use Rattle.commit_table.specs.Views.{closing_seat, closed_seat, tally_of};
 ghost use Rattle.commit_table.specs.Steps.{EndsTable};
@@ -16,10 +17,13 @@ use crate::table::CommitTable;
 use std::alloc::Global;
 use std::marker::Model;
 
-/// What is known of a closed table's history. Its length is known when the program runs, the rest in proofs.
+/// What is known of a closed table: its history, and what each pass knew. A running program has the length of the history, and proofs
+/// have the rest.
 #[derive(Drop)]
 pub struct Tally<M: Sharded> {
+    /// The seat that was split off at the close: it has seen the whole history, and remembers all passes.
     seat: TableSeat<M>,
+    /// The length of that history.
     length: u64,
 }
 
@@ -35,7 +39,7 @@ impl<M: Sharded> Model for Tally<M> {
 }
 
 impl<M: Sharded> Tally<M> {
-    /// How many events there are.
+    /// How many events the history has.
     pub fn events(&self) -> u64
         ensures { result ≡ length self.now.journal }
     {
@@ -43,15 +47,16 @@ impl<M: Sharded> Tally<M> {
     }
 }
 
-/// A table that was closed.
+/// What remains of a table that was closed.
 #[derive(Drop)]
 pub struct ClosedTable<M: Sharded> {
     /// The values of all shards, in order.
     pub shards: Vec<M::Shard>,
+    /// What is known of its history.
     pub tally: Tally<M>,
 }
 
-// Takes in all passes, in order.
+// A new seat that has taken in all passes of the table, in order, for `close`.
 fn join_all<M: Sharded>(board: &SharedTable<M>, passes: Vec<Pass<M>>) -> TableSeat<M>
     requires size { IsSized board.now.table_id (M.machine board.now.key.start).shards }
     requires whole { AreWhole (record { table = board.now.table_id; start = board.now.key.start; passes = board.now.key.passes }) passes.items }
@@ -65,6 +70,8 @@ fn join_all<M: Sharded>(board: &SharedTable<M>, passes: Vec<Pass<M>>) -> TableSe
     seat
 }
 
+/// Takes the value of a shard out of its slot, for `move_value`. The slot with index `i` must be filled, and have a value. Other slots
+/// stay.
 fn take_value<X: Drop>(closed: &mut atomic_table::Closed<Option<X>, Global>, i: usize) -> X
     requires place { (i < slots_len closed.old.slots) × IsTrue (slice_index_or (slots_filled closed.old.slots) i false) }
     requires value { (x : X) × (get_elem? (slots_items closed.old.slots) i ≡ some (Some x)) }
@@ -77,7 +84,8 @@ fn take_value<X: Drop>(closed: &mut atomic_table::Closed<Option<X>, Global>, i: 
     }
 }
 
-// Moves the value of a slot into the room, where it is a shard's.
+// Empties the slot with index `i`, for `move_values`: the value of a shard goes to the end of `room`, which must have capacity for it;
+// a slot between two shards has no value, and nothing is appended.
 fn move_value<X: Drop>(
     closed: &mut atomic_table::Closed<Option<X>, Global>,
     room: &mut Vec<X>,
@@ -98,7 +106,8 @@ fn move_value<X: Drop>(
     }
 }
 
-// Moves the values into the room, in order. What lies between their slots goes.
+// Moves the values of all shards into `room`, in order, and frees the table, for `values_of`. The room is empty and has capacity for
+// all.
 fn move_values<X: Drop>(
     mut closed: atomic_table::Closed<Option<X>, Global>,
     mut room: Vec<X>,
@@ -120,7 +129,8 @@ fn move_values<X: Drop>(
     room
 }
 
-// Closes the table that the seat looked at last, with nothing of it held.
+// Closes the table by the seat that took in all passes and looked last, and gives the values of all shards, in order. The room is
+// empty and has capacity for all.
 fn values_of<M: Sharded>(
     table: OwnedTable<M>,
     seat: TableSeat<M>,
@@ -136,7 +146,7 @@ fn values_of<M: Sharded>(
 }
 
 impl<M: Sharded> CommitTable<M> {
-    /// Closes the table, with all its passes. It takes no memory.
+    /// Closes the table, with all its passes, none of which holds a shard. It cannot fail, and takes no memory.
     pub fn close(self, passes: Vec<Pass<M>>) -> ClosedTable<M>
         requires { AreWhole self passes.items }
         ensures passes { result.tally.passes ≡ map (λ p. p.known) passes.items }

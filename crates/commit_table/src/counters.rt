@@ -1,4 +1,5 @@
-//! Two counters that threads raise: the smallest machine for a table, for tests and as an example.
+//! Two counters that threads raise: the smallest machine for a table, for tests and as an example. Functions named `_held` ask that
+//! the pass holds the counters, whose values they are given; the others take the counters first. All give them back.
 ghost use Rattle.std.specs.Prelude.{◌≡◌, ◌≢◌, ℕ, ◌<◌, List, Some, None, MatchOption};
 ghost use Rattle.commit_table.specs.declared.counters.CounterEvent.{CounterEvent};
 ghost use Rattle.commit_table.specs.declared.counters.CounterEvent.TheVariants.{Raise, Carry};
@@ -12,19 +13,19 @@ use crate::pass::Pass;
 use crate::sharded::Sharded;
 use crate::table::CommitTable;
 
-/// No counter goes beyond it.
+/// The greatest value of a counter.
 const MOST: u64 = 1_000_000;
 
 /// An event of the counters.
 #[derive(Drop)]
 pub enum CounterEvent {
-    /// A party raises a counter by 1.
+    /// The party of the first number raises the counter of the second number by 1.
     Raise(u32, u32),
-    /// 1 goes from the first counter to the second. No party is named, so any pass may do it.
+    /// 1 goes from the first counter to the second. No party is named, so any pass may commit it.
     Carry,
 }
 
-/// Two counters, which start at 0.
+/// The start of the machine: two counters, which are 0.
 #[derive(Drop)]
 pub struct Counters;
 
@@ -41,7 +42,8 @@ impl Sharded for Counters {
     ghost lawful = { λ start. counters_lawful };
 }
 
-/// Raises a counter that the pass holds, and gives it back. The place of the event is answered.
+/// Raises a counter that the pass holds by 1, after a look, and gives it back. `value` is the value of the counter, and below
+/// 1,000,000. The place of the event is answered.
 pub fn raise_held(
     table: &CommitTable<Counters>,
     pass: &mut Pass<Counters>,
@@ -64,20 +66,20 @@ pub fn raise_held(
     place
 }
 
-/// What an attempt came to.
+/// What an attempt to raise a counter, or to carry, came to. No counter is held after it.
 #[derive(Drop)]
 pub enum CounterAnswer {
-    /// The event stands at this place.
+    /// The event was committed at this place.
     Done(u64),
-    /// Another pass held one of the attempt's counters, which was missed: of a raise the counter that it raises, of a carry
-    /// either. Nothing else was done, and what was taken before was given back as it was.
+    /// A counter of the attempt was missed, since another pass held it: of a raise the one to be raised, of a carry either. No look
+    /// was made, and what was taken before was given back as it was.
     Busy,
-    /// No such event may follow what was seen: of a raise the counter stands at 1,000,000, of a carry the first at 0 or the
-    /// second at 1,000,000. Nothing was done but a look, while the attempt's counters were held.
+    /// No such event may follow what was seen: of a raise the counter is at 1,000,000, of a carry the first is at 0 or the second at
+    /// 1,000,000. Nothing was done but a look, while the counters were held.
     Stuck,
 }
 
-/// Raises a counter.
+/// Takes a counter, raises it by 1 where it is below 1,000,000, and gives it back.
 pub fn raise(
     table: &CommitTable<Counters>,
     pass: &mut Pass<Counters>,
@@ -101,8 +103,9 @@ pub fn raise(
     CounterAnswer::Stuck
 }
 
-/// Raises both counters, which the pass holds, and gives them back. One look serves both events, since a commit leaves the
-/// other counter as it is held. The place of the second event is answered.
+/// Raises both counters by 1, which the pass holds, and gives them back. `first` and `second` are their values, both below 1,000,000.
+/// One look serves both events, since the first commit leaves the other counter as it is held. The place of the second event is
+/// answered.
 pub fn raise_both_held(
     table: &CommitTable<Counters>,
     pass: &mut Pass<Counters>,
@@ -127,7 +130,8 @@ pub fn raise_both_held(
     place
 }
 
-/// Carries 1 from the first counter to the second, which the pass holds both, and gives them back.
+/// Carries 1 from the first counter, which is above 0, to the second, which is below 1,000,000, after a look, and gives both back: for
+/// `carry`. `first` and `second` are their values. The place of the event is answered.
 fn carry_held(
     table: &CommitTable<Counters>,
     pass: &mut Pass<Counters>,
@@ -150,7 +154,7 @@ fn carry_held(
     place
 }
 
-/// Carries 1 from the first counter to the second. Where the second is missed, the first is given back.
+/// Takes both counters, carries 1 from the first to the second where that is possible, and gives them back.
 pub fn carry(table: &CommitTable<Counters>, pass: &mut Pass<Counters>) -> CounterAnswer
     requires pass { IsOf table.now pass.old }
     requires free { HoldsNone pass.old.known }

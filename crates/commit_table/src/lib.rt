@@ -1,15 +1,16 @@
 //! One history under locks, committed by one addition.
 //!
-//! The state of a machine lies in shards. Threads share a `CommitTable` of them, and each holds a `Pass`: it takes the
-//! shards of an event, looks, commits the event by one atomic addition, and gives the shards back. What they commit is one
-//! legal history, which exists in proofs alone. A contract sees a pass as what it knows (`PassView`): the history as it was
-//! seen, its own events, its looks, and the shards that it holds.
+//! The state of a machine lies in shards. Threads share a `CommitTable` of them, and each has a `Pass`, by which it takes the shards
+//! of an event, looks, commits the event by one atomic addition, and gives the shards back. What they commit is one legal history,
+//! which exists in proofs alone. A contract sees a pass as what it knows (`PassView`): the history as it was seen, its own events, its
+//! looks, and the shards that it holds. A shard value *stands for* a history where it is what the shard has after that history
+//! (`Stands`).
 //!
-//! `specs/Machine.antt` says what a machine has to be, `specs/Rule.antt` what holds between any two steps, and
-//! `specs/Calls.antt` what each call tells. No call of the table waits, and `CommitTable::new` alone takes memory.
+//! `specs/Machine.antt` says what a machine has to be, `specs/Rule.antt` what holds between any two atomic steps, and
+//! `specs/Calls.antt` what each call asks and promises. No call of the table waits, and `CommitTable::new` alone takes memory.
 //!
-//! A thread that missed a shard waits by a `BackOff`, which can watch `Changes` of other threads. Two machines of counters serve tests and
-//! measures; `raised_by_two` lets two threads race for one.
+//! A thread that missed a shard waits by a `BackOff`, which can watch `Changes` of other threads. Two machines, `Counters` and
+//! `TwoRanks`, serve tests, measures and proofs; `raised_by_two` lets two threads raise counters of one table.
 #![tactic(auto)]
 
 mod atomic_steps;

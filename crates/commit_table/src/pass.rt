@@ -1,4 +1,5 @@
-//! What the holder of a pass has, and notes that passes send to one another.
+//! Passes and notes: seats at the table, with what a pass needs beside its seat. A function that `CommitTable` has too does its work
+//! here, for the pass, on the shared table, which is `board`.
 ghost use Rattle.std.specs.Prelude.{◌≡◌, ℕ, ◌+◌, ◌-◌, ◌^◌, ◌<◌, Option, Some, None, List, [], ◌∷◌, length, min, slice_index, slice_set, vec_len, IfOk, IfSome, IfNone};
 ghost use Rattle.commit_table.specs.declared.views.LockRecord.{LockRecord};
 ghost use Rattle.commit_table.specs.Views.{at_rest, held_at, new_pass, noted, after_take, after_miss, after_give_back};
@@ -13,11 +14,14 @@ use crate::steps::look_word;
 use std::alloc::{AllocError, Global};
 use std::marker::Model;
 
-/// The right to act as one party of a machine. It may move to another thread, and it holds what that thread knows.
+/// The right to act as one party of a table. It may move to another thread, and what it knows moves with it.
 #[derive(Drop)]
 pub struct Pass<M: Sharded> {
+    /// The seat at the table.
     seat: TableSeat<M>,
+    /// The number of the pass.
     party: u32,
+    /// By shard, how often the pass missed it, up to the largest `u64`.
     misses: Vec<u64>,
 }
 
@@ -33,9 +37,10 @@ impl<M: Sharded> Model for Pass<M> {
     ghost invariant = { λ p. (p.seat.me ≡ (at_rest p.seat.me.0.known, [])) × (p.seat.me.0.known.party ≡ Some p.party) × (slot_of (vec_len p.misses) ≡ p.seat.table_id.slots) × (slot_of (length p.misses.items) ≡ p.seat.table_id.slots) × Counts p.misses.items p.seat.me.0.known.missed };
 }
 
-/// What a pass has seen, to be told to another pass. It has no party.
+/// What a pass has seen, for another pass of the same table. It has no party, and holds no shard.
 #[derive(Drop)]
 pub struct Note<M: Sharded> {
+    /// The seat at the table.
     seat: TableSeat<M>,
 }
 
@@ -52,6 +57,7 @@ impl<M: Sharded> Model for Note<M> {
 }
 
 impl<M: Sharded> Pass<M> {
+    /// The pass of a party with this seat, which has seen nothing; its table has this many shards. The only failure is out of memory.
     pub(crate) fn new(
         alloc: Global,
         seat: TableSeat<M>,
@@ -69,6 +75,7 @@ impl<M: Sharded> Pass<M> {
         })
     }
 
+    /// The seat of a pass that is used up, for `close`. What it knows stays in the seat; its counts of misses are dropped.
     pub(crate) fn into_seat(self) -> TableSeat<M>
         ensures seat { (result.table_id ≡ self.table) × (result.me ≡ (at_rest self.known, [])) }
         ensures party { (p : ℕ) × (self.known.party ≡ Some p) }
@@ -82,6 +89,7 @@ impl<M: Sharded> Pass<M> {
         seat
     }
 
+    /// How often the pass missed a shard.
     pub(crate) fn misses(&self, shard: u32) -> u64
         requires { slot_of shard < self.now.table.slots }
         ensures { result ≡ misses_in self.now.known.missed shard }
@@ -89,12 +97,14 @@ impl<M: Sharded> Pass<M> {
         self.misses[shard as usize]
     }
 
+    /// The party of the pass.
     pub(crate) fn number(&self) -> u32
         ensures { self.now.known.party ≡ Some result }
     {
         self.party
     }
 
+    /// Counts one more miss of a shard, up to the largest `u64`, for `try_take`.
     fn count_miss(misses: &mut Vec<u64>, shard: u32)
         requires { shard < vec_len misses.old }
         ensures len { vec_len misses.new ≡ vec_len misses.old }
@@ -103,6 +113,7 @@ impl<M: Sharded> Pass<M> {
         misses[shard as usize] = misses[shard as usize].saturating_add(1);
     }
 
+    /// Takes a shard that the pass does not hold, and gives its value. None is a miss, which is counted.
     pub(crate) fn try_take(&mut self, board: &SharedTable<M>, shard: u32) -> Option<M::Shard>
         requires table { (self.old.table ≡ board.now.table_id) × (self.old.known.start ≡ Some board.now.key.start) }
         requires size { IsSized board.now.table_id (M.machine board.now.key.start).shards }
@@ -119,6 +130,7 @@ impl<M: Sharded> Pass<M> {
         Some(value)
     }
 
+    /// Makes a look, and answers the length of the history.
     pub(crate) fn look(&mut self, board: &SharedTable<M>) -> u64
         requires table { (self.old.table ≡ board.now.table_id) × (self.old.known.start ≡ Some board.now.key.start) }
         requires size { IsSized board.now.table_id (M.machine board.now.key.start).shards }
@@ -129,6 +141,7 @@ impl<M: Sharded> Pass<M> {
         look_word(board, &mut self.seat)
     }
 
+    /// Commits an event, and answers its place.
     pub(crate) fn commit(&mut self, board: &SharedTable<M>, event: &M::Event) -> u64
         requires table { (self.old.table ≡ board.now.table_id) × (self.old.known.start ≡ Some board.now.key.start) }
         requires size { IsSized board.now.table_id (M.machine board.now.key.start).shards }
@@ -139,6 +152,7 @@ impl<M: Sharded> Pass<M> {
         add_event(board, &mut self.seat, event)
     }
 
+    /// Gives a held shard back with its value.
     pub(crate) fn give_back(&mut self, board: &SharedTable<M>, shard: u32, value: M::Shard)
         requires table { self.old.table ≡ board.now.table_id }
         requires size { IsSized board.now.table_id (M.machine board.now.key.start).shards }
@@ -149,6 +163,7 @@ impl<M: Sharded> Pass<M> {
         give_back_shard(board, &mut self.seat, shard, value);
     }
 
+    /// A note of what the pass has seen. The pass stays as it was.
     pub(crate) fn note(&mut self, board: &SharedTable<M>) -> Note<M>
         requires table { self.old.table ≡ board.now.table_id }
         requires size { IsSized board.now.table_id (M.machine board.now.key.start).shards }
@@ -159,6 +174,7 @@ impl<M: Sharded> Pass<M> {
         Note { seat }
     }
 
+    /// Uses up a note of the same table, and makes one look.
     pub(crate) fn learn(&mut self, board: &SharedTable<M>, note: Note<M>)
         requires table { (self.old.table ≡ board.now.table_id) × (self.old.known.start ≡ Some board.now.key.start) × (note.table ≡ board.now.table_id) }
         requires size { IsSized board.now.table_id (M.machine board.now.key.start).shards }

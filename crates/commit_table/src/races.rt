@@ -1,4 +1,4 @@
-//! Two threads that raise counters over one table.
+//! Two threads that raise counters of one table.
 
 ghost use Rattle.std.specs.Prelude.{◌≡◌, ◌<◌, length, IfOk};
 ghost use Rattle.commit_table.specs.Counters.{counters};
@@ -12,7 +12,7 @@ use std::alloc::{AllocError, Global};
 use std::sync::Wait;
 use std::thread::{Threads, join, yield_now};
 
-/// Raises a counter so many times, or until it has no room, and tries again where it is missed.
+/// Raises a counter `times` times, or until it is at its greatest value, and tries again after each miss. The pass is given back.
 pub fn raise_often<R: Wait>(
     rt: &R,
     table: &CommitTable<Counters>,
@@ -38,7 +38,8 @@ pub fn raise_often<R: Wait>(
     pass
 }
 
-/// Two threads raise a counter each, which may be the same, so many times; then the table is closed.
+/// A new table of counters: its two passes, on two threads, raise a counter each, which may be the same one, `times` times. Then the
+/// table is closed. The only failure is out of memory.
 pub fn raised_by_two<R: Threads + Wait + Sync>(
     rt: &R,
     alloc: Global,

@@ -1,5 +1,5 @@
-//! Two ranks that post to one another: the smallest machine of a runtime's shape. Which shards a post has follows from the
-//! owner's part, and each rank has its part of the journal.
+//! Two ranks that send messages to one another, as an example: the smallest machine in which the shards of an event depend on its
+//! owner's shard, and each shard keeps the events that its rank owns. Here a post is one event, and has no entry.
 
 ghost use Rattle.std.specs.Prelude.{◌≡◌, ℕ, zero, List, [], ◌∷◌, slice_get, Some};
 ghost use Rattle.commit_table.specs.ProjectionJournals.{cut};
@@ -11,7 +11,7 @@ ghost use Rattle.commit_table.specs.declared.ranks.RankEvent.TheVariants.{Link, 
 use crate::sharded::Sharded;
 use std::collections::LinkedList;
 
-/// An event of the ranks. Each is a rank's own.
+/// An event of the ranks, with the number of the rank that owns it.
 #[derive(Drop)]
 pub enum RankEvent {
     /// The rank may post from now on.
@@ -20,24 +20,29 @@ pub enum RankEvent {
     Post(u32),
 }
 
-/// An event at its place in the journal.
+/// An event with its place in the history.
 #[derive(Drop)]
 pub struct PlacedRankEvent {
+    /// The place.
     pub place: u64,
+    /// The event.
     pub act: RankEvent,
 }
 
-/// What lies in a rank's shard.
+/// The value of a rank's shard.
 #[derive(Drop)]
 pub struct RankProjection {
+    /// Whether the rank may post.
     pub linked: bool,
+    /// How many messages were posted to the rank.
     pub messages: u64,
-    /// The place in the journal of the last post to the rank, or 0.
+    /// The place of the last post to the rank, or 0.
     pub latest: u64,
+    /// The rank's own events, in order.
     pub journal: LinkedList<PlacedRankEvent>,
 }
 
-/// Two ranks, neither of which is linked.
+/// The start of the machine: two ranks, neither of which is linked.
 #[derive(Drop)]
 pub struct TwoRanks;
 
@@ -54,8 +59,8 @@ impl Sharded for TwoRanks {
     ghost lawful = { λ start. ranks_lawful };
 }
 
-/// After a history the part of the journal that a rank has noted is the history cut by owner: all its own events, each with
-/// its place, and no others. There are such histories: a rank links, and posts.
+/// A law: after a history the shard of a rank has just the events that the rank owns, each with its place (`parts`). There are
+/// histories in which a rank links and posts (`some`).
 pub fn parts_are_the_history()
     ensures parts { (history : List RankEvent) (parts : List RankProjection) → projections_of rank_projections history ≡ Some parts
         → (rank : ℕ) (first : RankProjection) → slice_get rank_projections.first rank ≡ Some first

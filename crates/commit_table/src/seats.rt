@@ -1,4 +1,5 @@
-//! Seats are made and joined, each by a load that changes no word.
+//! Seats are made, split off and joined here for passes, notes and `close`, and the closing seat makes its last look: each by one
+//! load, which changes no word. `board` is the shared table; the clauses `told` and `new` say what a seat knows then.
 ghost use Rattle.std.specs.Prelude.{◌≡◌, ℕ, ◌+◌, ◌<◌, Option, Some, None, List, [], ◌∷◌, ◌++◌, length};
 ghost use Rattle.commit_table.specs.Views.{held_at, at_rest, with_note, noted, new_pass, splitting_seat, closing_seat, with_pass, closed_seat, tally_of};
 ghost use Rattle.commit_table.specs.Rule.{RemembersParty};
@@ -11,7 +12,7 @@ use crate::atomic_steps::{
 use crate::sharded::Sharded;
 use crate::shared_table::{SharedTable, TableSeat};
 
-// Split: the first seat gives its next party to a new seat.
+// Split: a new seat for the pass of a party, from the first seat of the table, which has made the passes of all parties below.
 pub fn split_pass<M: Sharded>(
     board: &SharedTable<M>,
     seat: &mut TableSeat<M>,
@@ -27,7 +28,7 @@ pub fn split_pass<M: Sharded>(
     board.split_seat::<SplitPass>(seat)
 }
 
-// Split: a new seat has seen what this one has, and has no party.
+// Split: a new seat for a note, which has seen what this seat has, and has no party. This seat stays as it was.
 pub fn split_note<M: Sharded>(board: &SharedTable<M>, seat: &mut TableSeat<M>) -> TableSeat<M>
     requires table { seat.old.table_id ≡ board.now.table_id }
     requires size { IsSized board.now.table_id (M.machine board.now.key.start).shards }
@@ -38,7 +39,8 @@ pub fn split_note<M: Sharded>(board: &SharedTable<M>, seat: &mut TableSeat<M>) -
     board.split_seat::<SplitNote>(seat)
 }
 
-// Join: this seat has seen the longer of both histories and remembers the other one, and the other seat is spent.
+// Seat join: the seat of a note is used up. This seat has then seen the longer of both histories, and remembers the other one until it
+// looks.
 pub fn join_note<M: Sharded>(board: &SharedTable<M>, seat: &mut TableSeat<M>, note: TableSeat<M>)
     requires table { (seat.old.table_id ≡ board.now.table_id) × (note.table_id ≡ board.now.table_id) }
     requires size { IsSized board.now.table_id (M.machine board.now.key.start).shards }
@@ -50,7 +52,7 @@ pub fn join_note<M: Sharded>(board: &SharedTable<M>, seat: &mut TableSeat<M>, no
     board.join_seat::<JoinNote>(seat, note);
 }
 
-// A new seat, which is to take in all passes.
+// A new seat for `close`, which has seen nothing and taken in no pass yet.
 pub fn open_closer<M: Sharded>(board: &SharedTable<M>) -> TableSeat<M>
     requires size { IsSized board.now.table_id (M.machine board.now.key.start).shards }
     ensures new { (result.table_id ≡ board.now.table_id) × (result.me ≡ (closing_seat board.now.key.start [] [], [])) }
@@ -58,7 +60,8 @@ pub fn open_closer<M: Sharded>(board: &SharedTable<M>) -> TableSeat<M>
     board.load_new_seat::<OpenCloser>(0).1
 }
 
-// Join: a pass is taken in, and remembered. The seat has seen the longer of both histories.
+// Seat join: the seat of a pass that holds no shard is used up. The closing seat has then seen the longer of both histories, and
+// remembers what the pass knew.
 pub fn join_pass<M: Sharded>(board: &SharedTable<M>, seat: &mut TableSeat<M>, pass: TableSeat<M>)
     requires table { (seat.old.table_id ≡ board.now.table_id) × (pass.table_id ≡ board.now.table_id) }
     requires size { IsSized board.now.table_id (M.machine board.now.key.start).shards }
@@ -71,7 +74,7 @@ pub fn join_pass<M: Sharded>(board: &SharedTable<M>, seat: &mut TableSeat<M>, pa
     board.join_seat::<JoinPass>(seat, pass);
 }
 
-// The last look: all passes were taken in, so the history is whole.
+// The last look, of the closing seat, which has taken in all passes: so the history that it sees is whole. Its length is answered.
 pub fn last_look<M: Sharded>(board: &SharedTable<M>, seat: &mut TableSeat<M>) -> u64
     requires table { seat.old.table_id ≡ board.now.table_id }
     requires size { IsSized board.now.table_id (M.machine board.now.key.start).shards }
@@ -83,7 +86,7 @@ pub fn last_look<M: Sharded>(board: &SharedTable<M>, seat: &mut TableSeat<M>) ->
     board.load::<LastLook>(seat, 0)
 }
 
-// Split: what the seat that closes the table knows is kept by another.
+// Split: a new seat for the tally, with what the closing seat has seen and remembers. The closing seat stays as it was.
 pub fn split_tally<M: Sharded>(board: &SharedTable<M>, seat: &mut TableSeat<M>) -> TableSeat<M>
     requires table { seat.old.table_id ≡ board.now.table_id }
     requires size { IsSized board.now.table_id (M.machine board.now.key.start).shards }

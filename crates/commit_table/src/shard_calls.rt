@@ -1,4 +1,5 @@
-//! A shard's value leaves its slot and comes back, each within one call.
+//! The calls of a pass that are made of several atomic steps, a take with its value and a give-back; and the commit. The steps
+//! themselves are in `steps`. `board` is the shared table; the clause `told` says what the seat knows then.
 ghost use Rattle.std.specs.Prelude.{◌≡◌, ℕ, ◌+◌, ◌<◌, Option, Some, None, List, [], ◌∷◌, IfSome, IfNone};
 ghost use mathlib.Core.List.{IsPrefix};
 ghost use Rattle.commit_table.specs.declared.views.LockRecord.{LockRecord};
@@ -11,10 +12,10 @@ use crate::shared_table::{SharedTable, TableSeat};
 use crate::steps::{add_told, fetch_slot, free_word, return_slot, take_word};
 use std::marker::Brand;
 
-// From the slot of a shard to the next, as with words.
+// From the slot of one shard to that of the next: no two are on one line of a processor's cache.
 const SLOTS_APART: usize = 8;
 
-// Takes the value out of the slot that is out with the seat, and lets the slot go home.
+// Takes the value of a held shard out of its slot, which is out with the seat, and returns the slot to the table: for `take_shard`.
 fn empty_slot<M: Sharded>(board: &SharedTable<M>, seat: &mut TableSeat<M>, shard: u32) -> M::Shard
     requires table { seat.old.table_id ≡ board.now.table_id }
     requires size { IsSized board.now.table_id (M.machine board.now.key.start).shards }
@@ -32,7 +33,7 @@ fn empty_slot<M: Sharded>(board: &SharedTable<M>, seat: &mut TableSeat<M>, shard
     }
 }
 
-// Takes a shard with its value, or misses it.
+// Takes a shard that the seat does not hold, and gives its value. None is a miss: then nothing is taken.
 pub fn take_shard<M: Sharded>(
     board: &SharedTable<M>,
     seat: &mut TableSeat<M>,
@@ -55,7 +56,8 @@ pub fn take_shard<M: Sharded>(
     Some(empty_slot(board, seat, shard))
 }
 
-// Gives a shard back with a value: first the value is in its slot, then the word is 0.
+// Gives a held shard back: first the value is in its slot, then the word is 0. The value must stand for the history with which the
+// shard is held.
 pub fn give_back_shard<M: Sharded>(
     board: &SharedTable<M>,
     seat: &mut TableSeat<M>,
@@ -75,7 +77,7 @@ pub fn give_back_shard<M: Sharded>(
     free_word(board, seat, shard);
 }
 
-// Adds an event, and says its place.
+// Commits an event, and answers its place: `add_told`, with the event filled in.
 pub fn add_event<M: Sharded>(
     board: &SharedTable<M>,
     seat: &mut TableSeat<M>,

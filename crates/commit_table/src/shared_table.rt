@@ -1,18 +1,21 @@
-//! The table that the threads share, and its rule.
+//! The types by which `atomic_table` keeps this table: its key, its rule, and short names for the shared table, the owned table and a
+//! seat.
 use crate::sharded::Sharded;
 use crate::views::SeatView;
 use atomic_table::{Seat, Shared, Table, TableRule};
 use std::alloc::Global;
 use std::marker::PhantomData;
 
-/// What a table is told when it is made: the machine's start, and how many passes there are.
+/// What the rule of a table depends on: the machine's start, and how many passes there are.
 #[derive(Drop)]
 pub struct TableKey<M> {
+    /// The start of the machine.
     pub start: M,
+    /// How many passes there are.
     pub passes: u32,
 }
 
-/// The rule of `specs/Rule.antt`, for a machine.
+/// The rule of `specs/Rule.antt`, for the machines of `M`. No value of it is made.
 pub struct CommitRule<M> {
     machine: PhantomData<M>,
 }
@@ -27,6 +30,7 @@ impl<M: Sharded> TableRule<Option<M::Shard>, SeatView<M, M::Event>, TableKey<M>>
     ghost first = { λ key. splitting_seat key.start 0 key.passes };
 }
 
+/// The table as threads share it by `&`. In this crate it is the parameter `board`.
 pub type SharedTable<M> = Shared<
     Option<<M as Sharded>::Shard>,
     SeatView<M, <M as Sharded>::Event>,
@@ -34,6 +38,7 @@ pub type SharedTable<M> = Shared<
     CommitRule<M>,
 >;
 
+/// The table as `CommitTable` owns it, with the shared table inside.
 pub type OwnedTable<M> = Table<
     Option<<M as Sharded>::Shard>,
     SeatView<M, <M as Sharded>::Event>,
@@ -42,4 +47,5 @@ pub type OwnedTable<M> = Table<
     Global,
 >;
 
+/// A seat at such a table: of a pass, of a note, or the one that `close` makes.
 pub type TableSeat<M> = Seat<Option<<M as Sharded>::Shard>, SeatView<M, <M as Sharded>::Event>>;

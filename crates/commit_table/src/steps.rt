@@ -1,5 +1,6 @@
-//! The atomic steps on the words, each in a function of its own, whose clause says what the step told. Between two of
-//! them other threads take theirs.
+//! The atomic steps on the words that passes take, each in a function of its own; its clause `told` says what the seat knows after it.
+//! Between two of them other threads may take theirs. `board` is the shared table. The slot of a held shard is *out* while the seat
+//! may exchange its value, and otherwise at home in the table.
 ghost use Rattle.std.specs.Prelude.{◌≡◌, ℕ, ◌+◌, ◌<◌, Option, Some, None, List, [], ◌∷◌};
 ghost use Rattle.commit_table.specs.Views.{held_at, at_rest, with_slot_out, with_kept_history, after_give_back};
 ghost use Rattle.commit_table.specs.Steps.{TakesShard, FetchesSlot, LooksOnce, CommitsEvent};
@@ -12,12 +13,14 @@ use crate::sharded::Sharded;
 use crate::shared_table::{SharedTable, TableSeat};
 use std::marker::Brand;
 
+/// The index of the journal word.
 const JOURNAL: usize = 0;
 
 // From one word that is used to the next. Threads that write two words on one line of a processor's cache wait for one another.
 const WORDS_APART: usize = 16;
 
-// Take, or miss: a compare-exchange from 0 to 1. It found 0 where the shard was free, and 1 where another pass held it.
+// Take, or miss: a compare-exchange of a shard's word from 0 to 1. The old value is answered: 0 where the shard was free and is now
+// held, 1 where another pass held it. After a take the slot is out with the seat.
 pub fn take_word<M: Sharded>(board: &SharedTable<M>, seat: &mut TableSeat<M>, shard: u32) -> u64
     requires table { seat.old.table_id ≡ board.now.table_id }
     requires size { IsSized board.now.table_id (M.machine board.now.key.start).shards }
@@ -31,7 +34,7 @@ pub fn take_word<M: Sharded>(board: &SharedTable<M>, seat: &mut TableSeat<M>, sh
     board.compare_exchange::<TakeWord>(seat, (shard as usize + 1) * WORDS_APART, 0, 1)
 }
 
-// The slot of a held shard goes home, with what is in it.
+// The slot of a held shard goes home, with what is in it: a load of the shard's word.
 pub fn return_slot<M: Sharded>(board: &SharedTable<M>, seat: &mut TableSeat<M>, shard: u32)
     requires table { seat.old.table_id ≡ board.now.table_id }
     requires size { IsSized board.now.table_id (M.machine board.now.key.start).shards }
@@ -44,7 +47,7 @@ pub fn return_slot<M: Sharded>(board: &SharedTable<M>, seat: &mut TableSeat<M>, 
     board.load::<ReturnSlot>(seat, (shard as usize + 1) * WORDS_APART);
 }
 
-// The slot of a held shard goes out with the seat.
+// The slot of a held shard goes out with the seat: a load of the shard's word.
 pub fn fetch_slot<M: Sharded>(board: &SharedTable<M>, seat: &mut TableSeat<M>, shard: u32)
     requires table { seat.old.table_id ≡ board.now.table_id }
     requires size { IsSized board.now.table_id (M.machine board.now.key.start).shards }
@@ -57,7 +60,8 @@ pub fn fetch_slot<M: Sharded>(board: &SharedTable<M>, seat: &mut TableSeat<M>, s
     board.load::<FetchSlot>(seat, (shard as usize + 1) * WORDS_APART);
 }
 
-// Release: a store of 0. The value is in its slot, and stands for the history that the shard is held with.
+// Give-back: a store of 0 to the shard's word. The value must be in the slot, which is out with the seat, and stand for the history
+// with which the shard is held.
 pub fn free_word<M: Sharded>(board: &SharedTable<M>, seat: &mut TableSeat<M>, shard: u32)
     requires table { seat.old.table_id ≡ board.now.table_id }
     requires size { IsSized board.now.table_id (M.machine board.now.key.start).shards }
@@ -69,7 +73,7 @@ pub fn free_word<M: Sharded>(board: &SharedTable<M>, seat: &mut TableSeat<M>, sh
     board.store::<FreeWord>(seat, (shard as usize + 1) * WORDS_APART, 0);
 }
 
-// Look: a load of the journal word.
+// Look: a load of the journal word, whose value is answered. `N` says in proofs how many passes there are.
 pub fn look_counted<M: Sharded, N: PassCount>(
     board: &SharedTable<M>,
     seat: &mut TableSeat<M>,
@@ -84,6 +88,7 @@ pub fn look_counted<M: Sharded, N: PassCount>(
     board.load::<Look<N>>(seat, JOURNAL)
 }
 
+/// Look, as `look_counted`, with the count of passes filled in.
 pub fn look_word<M: Sharded>(board: &SharedTable<M>, seat: &mut TableSeat<M>) -> u64
     requires table { seat.old.table_id ≡ board.now.table_id }
     requires size { IsSized board.now.table_id (M.machine board.now.key.start).shards }
@@ -94,7 +99,8 @@ pub fn look_word<M: Sharded>(board: &SharedTable<M>, seat: &mut TableSeat<M>) ->
     look_counted::<M, Brand>(board, seat)
 }
 
-// Commit: an addition of 1 to the journal word.
+// Commit: an addition of 1 to the journal word, whose old value is answered: the place of the event. `J` says in proofs which event it
+// is.
 pub fn add_told<M: Sharded, J: CommittedEvent<M::Event>>(
     board: &SharedTable<M>,
     seat: &mut TableSeat<M>,

@@ -1,4 +1,5 @@
-//! The table, as its users call it.
+//! The commit table, as its users call it: it is made here with its passes, and each call is handed on to the pass. The functions
+//! before `CommitTable::new` fill the slots and make the passes for it.
 ghost use Rattle.std.specs.Prelude.{◌≡◌, ℕ, ◌+◌, ◌^◌, ◌<◌, ◌≤◌, Option, Some, None, List, [], ◌∷◌, ◌++◌, length, slice_get, replicate, vec_len, vec_capacity, IfOk, IfSome, IfNone};
 ghost use mathlib.Core.List.{IsPrefix};
 ghost use Rattle.commit_table.specs.declared.views.LockRecord.{LockRecord};
@@ -13,12 +14,15 @@ use atomic_table::Table;
 use std::alloc::{AllocError, Global};
 use std::marker::Model;
 
-/// The shards of a machine, and the history of its events, which exists in proofs alone. Threads share it by `&`.
+/// The commit table of a machine: its locks, shard values and journal word. Its history exists in proofs alone. Threads share the
+/// table by `&`.
 #[derive(Drop)]
 pub struct CommitTable<M: Sharded> {
+    /// Words, slots and rule, as `atomic_table` keeps them.
     pub(crate) table: OwnedTable<M>,
+    /// The machine's start, and how many passes there are.
     pub(crate) begin: TableKey<M>,
-    // Room for the shards' values, so that closing takes no memory.
+    // An empty list with capacity for all shard values, so that `close` takes no memory.
     pub(crate) room: Vec<M::Shard>,
 }
 
@@ -33,7 +37,8 @@ impl<M: Sharded> Model for CommitTable<M> {
     ghost invariant = { λ t. (t.table.shared.key ≡ t.begin) × IsSized t.table.shared.table_id (M.machine t.begin.start).shards × (t.room.items ≡ []) × (vec_len t.room ≡ 0) × ((M.machine t.begin.start).shards ≤ vec_capacity t.room) × ((M.machine t.begin.start).shards < 2 ^ 32) };
 }
 
-// Puts a value into the next slot, and leaves those empty that lie before the slot behind it.
+// Appends the slot of one shard with its value, and the seven empty slots before the slot of the next shard, for `fill`. Where memory
+// runs out, some of them may be there already.
 fn fill_next<X: Drop>(slots: &mut Vec<Option<X>>, shard: X) -> Result<(), AllocError>
     ensures { IfOk result (λ _. slots.new.items ≡ slots.old.items ++ spread (shard ∷ [])) }
 {
@@ -48,7 +53,8 @@ fn fill_next<X: Drop>(slots: &mut Vec<Option<X>>, shard: X) -> Result<(), AllocE
     Ok(())
 }
 
-// Puts each value into its slot.
+// Appends for each value its slot and seven empty ones, in order, for `filled`. Where memory runs out, some of them may be there
+// already.
 fn fill<X: Drop>(slots: &mut Vec<Option<X>>, shards: Vec<X>) -> Result<(), AllocError>
     requires { slots.old.items ≡ [] }
     ensures { IfOk result (λ _. slots.new.items ≡ spread shards.items) }
@@ -59,7 +65,7 @@ fn fill<X: Drop>(slots: &mut Vec<Option<X>>, shards: Vec<X>) -> Result<(), Alloc
     Ok(())
 }
 
-// Each shard's value in its slot.
+// New slots for a table, with each shard's value in its slot. The only failure is out of memory.
 fn filled<X: Drop>(alloc: Global, shards: Vec<X>) -> Result<Vec<Option<X>>, AllocError>
     requires few { vec_len shards < 2 ^ 32 }
     ensures values { IfOk result (λ v. v.items ≡ spread shards.items) }
@@ -70,6 +76,8 @@ fn filled<X: Drop>(alloc: Global, shards: Vec<X>) -> Result<Vec<Option<X>>, Allo
     Ok(slots)
 }
 
+/// The passes of the parties 0 to n - 1, in order, each with a seat that is split off the first seat of a table with this many shards,
+/// for `CommitTable::new`. The only failure is out of memory.
 fn make_passes<M: Sharded>(
     alloc: Global,
     board: &SharedTable<M>,
@@ -92,7 +100,8 @@ fn make_passes<M: Sharded>(
 }
 
 impl<M: Sharded> CommitTable<M> {
-    /// Makes a table of a machine's shards, and all its passes: those of the parties 0 to n - 1, in order.
+    /// A table of the machine with this start, and all its passes: those of the parties 0 to n - 1, in order. `shards` are the shard
+    /// values at the start, in order. The only failure is out of memory.
     pub fn new(
         alloc: Global,
         start: M,
@@ -118,8 +127,8 @@ impl<M: Sharded> CommitTable<M> {
         Ok((table, passes))
     }
 
-    /// The value that tells the machine's start. The table has a slot for each shard of that machine, so that `misses` may
-    /// be asked of each.
+    /// The start of the machine, which the table was made with. The contract says also that the table has a slot for each shard, as
+    /// `misses` asks.
     pub fn start(&self) -> &M
         ensures start { result.now ≡ self.now.start }
         ensures slots { self.now.table.slots ≡ slot_of (M.machine self.now.start).shards }
@@ -127,10 +136,9 @@ impl<M: Sharded> CommitTable<M> {
         &self.begin.start
     }
 
-    /// Takes a shard with its value, in one compare-exchange and, where it has it, one exchange and one load. The value
-    /// stands for a legal history. Where it finds that another pass holds the shard, that is a miss, which counts. A miss
-    /// tells the lock operations of all passes so far: their takes, give-backs and misses. It is the newest of them itself, and before it
-    /// that other pass has taken the shard and not given it back.
+    /// Takes a shard that the pass does not hold, and gives its value, which stands for a legal history: one compare-exchange, and
+    /// after a take one load and one exchange. None is a miss, and nothing is taken: another pass has taken the shard and not given it
+    /// back. The pass counts the miss, and knows the lock operations of all passes up to it.
     pub fn try_take(&self, pass: &mut Pass<M>, shard: u32) -> Option<M::Shard>
         requires pass { IsOf self.now pass.old }
         requires shard { shard < (M.machine self.now.start).shards }
@@ -142,7 +150,8 @@ impl<M: Sharded> CommitTable<M> {
         pass.try_take(&self.table.shared, shard)
     }
 
-    /// Sees the history so far, and says its length. The pass's party is one of those for which the table made passes.
+    /// Makes a look: the pass has seen the history so far, and its length is answered. The contract says also that the pass's party is
+    /// below the count of passes.
     pub fn look(&self, pass: &mut Pass<M>) -> u64
         requires pass { IsOf self.now pass.old }
         ensures table { pass.new.table ≡ pass.old.table }
@@ -152,7 +161,8 @@ impl<M: Sharded> CommitTable<M> {
         pass.look(&self.table.shared)
     }
 
-    /// Adds an event behind the history so far, in one addition, and says its place.
+    /// Commits an event after the history so far, in one addition, and answers its place. The pass must hold the shards of the event,
+    /// which may follow what the pass has seen; where the event has a party, it must be the pass's. The shards stay held.
     pub fn commit(&self, pass: &mut Pass<M>, event: &M::Event) -> u64
         requires pass { IsOf self.now pass.old }
         requires may { MayCommit (M.machine self.now.start) pass.old.known event.now }
@@ -162,7 +172,7 @@ impl<M: Sharded> CommitTable<M> {
         pass.commit(&self.table.shared, event)
     }
 
-    /// Gives a shard back, with a value that stands for the history that it is held with.
+    /// Gives a held shard back, with a value that stands for the history with which the pass holds it.
     pub fn give_back(&self, pass: &mut Pass<M>, shard: u32, value: M::Shard)
         requires pass { IsOf self.now pass.old }
         requires shard { shard < (M.machine self.now.start).shards }
@@ -172,7 +182,7 @@ impl<M: Sharded> CommitTable<M> {
         pass.give_back(&self.table.shared, shard, value);
     }
 
-    /// Makes a note of what the pass has seen, for another pass to learn.
+    /// A note of what the pass has seen, for another pass of this table to learn. The pass stays as it was.
     pub fn note(&self, pass: &mut Pass<M>) -> Note<M>
         requires pass { IsOf self.now pass.old }
         ensures same { pass.new ≡ pass.old }
@@ -181,7 +191,7 @@ impl<M: Sharded> CommitTable<M> {
         pass.note(&self.table.shared)
     }
 
-    /// Looks, after what the note tells. It is one look.
+    /// Makes one look, and uses up a note of this table: the history that the pass has then seen begins with what the note has.
     pub fn learn(&self, pass: &mut Pass<M>, note: Note<M>)
         requires pass { IsOf self.now pass.old }
         requires note { note.table ≡ self.now.table }
@@ -191,7 +201,7 @@ impl<M: Sharded> CommitTable<M> {
         pass.learn(&self.table.shared, note);
     }
 
-    /// How often the pass missed a shard. A count that stands at the type's end stays there.
+    /// How often the pass missed a shard of the table, or the largest `u64` where it was more often.
     pub fn misses(pass: &Pass<M>, shard: u32) -> u64
         requires { slot_of shard < pass.now.table.slots }
         ensures { result ≡ misses_in pass.now.known.missed shard }

@@ -1,4 +1,4 @@
--- What the program answers to what was told of an input, to a fault, and to an input that could not be read. (own choice)
+-- What the program answers to what a command made of an input, to a fault, and to an input that was not read. (own choice)
 use Rattle.std.specs.Prelude.{◌≡◌, ◌⊎◌, ℕ, false, List, Option, Result, Ok, Err}
 use Rattle.gaspi_io.specs.Faults.{HasCause}
 use Rattle.gaspi_io.specs.Sink.{with_more, AddsPrefix}
@@ -11,7 +11,7 @@ use Rattle.gaspi_run.specs.Command.{fault_text, HasNoJournal}
 use Rattle.gaspi_run.specs.declared.commands.Answer.{Answer}
 use Rattle.gaspi_run.specs.Results.{ResultValue}
 
--- An output stands here as what its sink held before and after, and how often its writes had failed.
+-- An output is here what its sink had got before and after, and how often its writes had failed.
 
 module _ (held held' : Option (List ℕ)) (faults faults' : ℕ) (answer : Answer) where
   -- a text was written, with that status, or it could not be written whole
@@ -24,7 +24,7 @@ module _ (held held' : Option (List ℕ)) (faults faults' : ℕ) (answer : Answe
   abbrev pub IsSilent : ℕ → Type 0
   IsSilent status = (answer.status ≡ status) × (held' ≡ held) × (faults' ≡ faults)
 
-  -- a fault was told, or there was no memory for its text
+  -- a fault was written, or there was no memory for its text
   abbrev pub AnswersFault : TextFault → Type 0
   AnswersFault fault = (IsWritten 2 (fault_text fault) ⊎ IsSilent 7) × HasNoJournal answer
 
@@ -32,6 +32,7 @@ module _ (held held' : Option (List ℕ)) (faults faults' : ℕ) (answer : Answe
   abbrev pub IsCutShort : ResultValue → Type 0
   IsCutShort told = (told.is_held ≡ false) × ((answer.status ≡ 7) × AddsPrefix told.text held held' × (faults' ≡ faults))
 
+  -- what a command made of an input was written; or a fault of the input; or memory ran out
   abbrev pub AnswersResult : Result ResultValue ScriptFault → Type 0
   AnswersResult (Ok told) = (IsWritten told.status told.text × (answer.journal ≡ told.journal) × (answer.tally ≡ told.tally)) ⊎ (IsCutShort told × HasNoJournal answer)
   AnswersResult (Err (At number line)) = AnswersFault (record { number = number; line = line })

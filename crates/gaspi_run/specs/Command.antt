@@ -31,6 +31,7 @@ use Rattle.gaspi_run.specs.declared.schedule_states.EndedCaller.{EndedCaller}
 use Rattle.gaspi_run.specs.declared.commands.Answer.{Answer}
 use Rattle.gaspi_run.specs.declared.judging.Question.TheVariants as questions
 
+-- the text for words that ask for no command
 abbrev pub refused_text : List ℕ
 refused_text = codes "gaspirun: words refused\n"
 
@@ -46,6 +47,7 @@ is_failed_or_stuck (outcomes.Stuck line) = true
 is_failed_or_stuck (outcomes.Limit line) = false
 is_failed_or_stuck (outcomes.NoMemory line) = false
 
+-- a run that ended at the event limit
 abbrev pub is_limit_outcome : RunOutcome → Bool
 is_limit_outcome outcomes.Ended = false
 is_limit_outcome (outcomes.Failed line) = false
@@ -53,9 +55,11 @@ is_limit_outcome (outcomes.Stuck line) = false
 is_limit_outcome (outcomes.Limit line) = true
 is_limit_outcome (outcomes.NoMemory line) = false
 
+-- the run of one of these callers has failed or is stuck
 abbrev pub has_failed_or_stuck : List EndedCaller → Bool
 has_failed_or_stuck finished = list_any (λ f. is_failed_or_stuck f.outcome) finished
 
+-- the run of one of these callers ended at the event limit
 abbrev pub is_any_limit : List EndedCaller → Bool
 is_any_limit finished = list_any (λ f. is_limit_outcome f.outcome) finished
 
@@ -63,13 +67,13 @@ is_any_limit finished = list_any (λ f. is_limit_outcome f.outcome) finished
 abbrev pub run_status : List EndedCaller → ℕ
 run_status finished = if has_failed_or_stuck finished then 3 else (if is_any_limit finished then 8 else 0)
 
--- the text of a run: what each caller was told, or the journal
+-- the text of a run: the transcripts, or the journal
 abbrev pub run_text : Bool → ShapeValue → List Script → List Event → List ℕ
 run_text true w scripts journal = transcripts w scripts journal
 run_text false w scripts journal = journal_text journal
 
--- What `run` does with its input: the world of the text ran on threads, with so many workers. The text that it writes is the journal, or with `--brief` what the
--- callers were told; its status tells how they ended.
+-- What `run` does with its input: the scripts of the text ran on threads, with this number of workers. The text that it writes is the
+-- journal, or with `--brief` the transcripts; its status says how the callers ended.
 pub record HasRunOnThreads (workers limit : ℕ) (brief : Bool) (input : List ℕ) (journal : List Event) (tally : AnswerTally) (status : ℕ) (text : List ℕ) : Type 0 where
   pub world : ShapeValue
   pub scripts : List Script
@@ -79,26 +83,28 @@ pub record HasRunOnThreads (workers limit : ℕ) (brief : Bool) (input : List �
   pub text_is : text ≡ run_text brief world scripts journal
   pub status_is : status ≡ run_status finished
 
--- What `bench` does, which reads nothing: the world of its seed, of so many ranks and rounds ran on threads. The text that it writes has
--- the numbers of the journal, and at status 0 they are the closed forms; its status tells how the callers ended.
+-- What `bench` does.
 
 -- how many looks a call of `bench` that blocks has
 abbrev pub bench_limit : ℕ
 bench_limit = 100000000
 
+-- the text of the bench numbers
 abbrev pub numbers_text : Numbers4 → List ℕ
 numbers_text n =
     codes "calls " ++ decimal n.calls ++ codes "\ntransfers " ++ decimal n.transfers ++ codes "\nnotifications " ++ decimal n.notifications
     ++ codes "\nsum " ++ decimal n.sum ++ codes "\n"
 
--- What the numbers are where every script ran to its end: each rank makes seven calls in a round, and its end; posts a write and a
--- notification, each of which is taken and put; and finds one notification. The words are the numbers drawn in the last round.
+-- What the numbers are where every script ran to its end: each rank makes seven calls in a bench round, and its end; posts a write and
+-- a notification, each of which is taken and put; and finds one notification. The words are the numbers drawn in the last bench round.
 pub record AreClosed (seed ranks rounds : ℕ) (n : Numbers4) : Type 0 where
   pub calls : n.calls ≡ ranks * (7 * rounds + 1)
   pub transfers : n.transfers ≡ 4 * ranks * rounds
   pub notifications : n.notifications ≡ ranks * rounds
   pub sum : n.sum ≡ draws_until seed ranks (rounds - 1) ranks % 2 ^ 64
 
+-- What `bench` does, which reads nothing: the world of its seed, ranks and bench rounds ran on threads. The text that it writes has
+-- the numbers of the journal, and at status 0 they are the closed forms; its status says how the callers ended.
 pub record HasBenched (seed ranks rounds : ℕ) (journal : List Event) (tally : AnswerTally) (status : ℕ) (text : List ℕ) : Type 0 where
   pub finished : List EndedCaller
   pub ran : HasRunWorld (bench_shape ranks rounds) (bench_scripts seed ranks rounds ranks) 1 bench_limit journal tally finished
@@ -108,10 +114,10 @@ pub record HasBenched (seed ranks rounds : ℕ) (journal : List Event) (tally : 
   pub text_is : text ≡ numbers_text numbers
   pub status_is : status ≡ run_status finished
 
--- What `step` does with its input: the schedule has the seed and the limit of the words. The text that it writes is the
--- journal, or with `--brief` what the callers were told; its status tells how they ended; and its journal is a legal
--- history in which each caller's calls are a run of its script, and after which every caller has ended and all that was
--- posted has arrived, broken queues aside. Its numbers are those of its types, so the journal's text is that of no other.
+-- What `step` does with its input: the schedule has the seed and the limit of the words. The text that it writes is the journal, or
+-- with `--brief` the transcripts; its status says how the callers ended; and its journal is a legal history in which each caller's
+-- calls are a run of its script, and after which every caller has ended and all that was posted has arrived, broken queues aside. Its
+-- numbers are those of its types, so the journal's text is that of no other.
 pub record IsStepped (seed limit : ℕ) (brief : Bool) (input : List ℕ) (journal : List Event) (status : ℕ) (text : List ℕ) : Type 0 where
   pub world : ShapeValue
   pub scripts : List Script
@@ -141,7 +147,7 @@ is_plain Check = true
 is_plain (Why place) = true
 is_plain (Bench seed ranks rounds) = false
 
--- a command whose text is that of its journal, which is not held
+-- a command whose text is that of its journal, which is not in memory
 abbrev pub writes_journal : Command → Bool
 writes_journal (Run workers limit brief) = not brief
 writes_journal (Step seed limit brief) = not brief
@@ -149,8 +155,9 @@ writes_journal Check = false
 writes_journal (Why place) = false
 writes_journal (Bench seed ranks rounds) = false
 
--- What a command tells of an input without a fault, and what it takes the world from.
+-- What a command makes of an input, and where it has its world from.
 
+-- what a command makes of an input without a fault
 abbrev pub IsCommandResult : Command → List ℕ → List Event → AnswerTally → ℕ → List ℕ → Type 0
 IsCommandResult (Run workers limit brief) input journal tally status text = HasRunOnThreads workers limit brief input journal tally status text
 IsCommandResult (Step seed limit brief) input journal tally status text = IsStepped seed limit brief input journal status text × (tally ≡ None)
@@ -158,6 +165,7 @@ IsCommandResult Check input journal tally status text = IsChecked questions.Verd
 IsCommandResult (Why place) input journal tally status text = IsChecked (questions.Writes place) input journal status text × (tally ≡ None)
 IsCommandResult (Bench seed ranks rounds) input journal tally status text = HasBenched seed ranks rounds journal tally status text
 
+-- where a command has its world from: the whole input, the world text of the input, or for bench neither
 abbrev pub world_read : Command → List ℕ → Result WorldReading TextFault
 world_read (Run workers limit brief) input = world_text input
 world_read (Step seed limit brief) input = world_text input
@@ -165,10 +173,9 @@ world_read Check input = checked_world input
 world_read (Why place) input = checked_world input
 world_read (Bench seed ranks rounds) input = Ok (record { world = Some (bench_shape ranks rounds); scripts = bench_scripts seed ranks rounds ranks })
 
--- An input stands here as what its source had left before and after, and an output as what its sink held, where they
--- tell it.
+-- An input is here what its source had left before and after, and an output what its sink had got, where they say so.
 
--- the whole input was read, and the text is what the command tells of it
+-- the whole input was read, and the text is what the command makes of it
 pub record IsResultOf (command : Command) (before after : Option (List ℕ)) (journal : List Event) (tally : AnswerTally) (status : ℕ) (text : List ℕ) : Type 0 where
   pub input : List ℕ
   pub all : ForSome before (λ told. input ≡ told)
@@ -196,14 +203,14 @@ NothingFailed faults faults' sink_faults sink_faults' = (faults' ≡ faults) × 
 abbrev pub HasNoJournal : Answer → Type 0
 HasNoJournal answer = (answer.journal ≡ []) × (answer.tally ≡ None)
 
--- the input was told: status 0, 3 or 8 of a run on threads or on one, 0 or 4 of a journal that was read
+-- what the command made of the input was written: status 0, 3 or 8 of a run on threads or on one, 0 or 4 of a journal that was read
 pub record WroteResult (command : Command) (before after held held' : Option (List ℕ)) (faults faults' sink_faults sink_faults' : ℕ) (answer : Answer) : Type 0 where
   pub text : List ℕ
   pub still : NothingFailed faults faults' sink_faults sink_faults'
   pub told : IsResultOf command before after answer.journal answer.tally answer.status text
   pub written : held' ≡ with_more held text
 
--- a fault was told: status 2
+-- a fault was written: status 2
 pub record IsFaulty (command : Command) (before after held held' : Option (List ℕ)) (faults faults' sink_faults sink_faults' : ℕ) (answer : Answer) : Type 0 where
   pub text : List ℕ
   pub still : NothingFailed faults faults' sink_faults sink_faults'
@@ -260,7 +267,7 @@ AnswersInput command before after faults faults' held held' sink_faults sink_fau
 
 -- The answer of `bench`, which reads nothing.
 
--- the numbers were told: status 0, 3 or 8
+-- the numbers were written: status 0, 3 or 8
 pub record WroteNumbers (seed ranks rounds : ℕ) (held held' : Option (List ℕ)) (sink_faults sink_faults' : ℕ) (answer : Answer) : Type 0 where
   pub text : List ℕ
   pub still : sink_faults' ≡ sink_faults
@@ -283,6 +290,7 @@ pub record BenchOutOfMemory (held held' : Option (List ℕ)) (sink_faults sink_f
   pub status : answer.status ≡ 7
   pub empty : HasNoJournal answer
 
+-- the answer of bench
 abbrev pub AnswersBench : ℕ → ℕ → ℕ → Option (List ℕ) → Option (List ℕ) → ℕ → ℕ → Answer → Type 0
 AnswersBench seed ranks rounds held held' sink_faults sink_faults' answer =
     WroteNumbers seed ranks rounds held held' sink_faults sink_faults' answer
@@ -301,7 +309,7 @@ Answers (Why place) before after faults faults' held held' sink_faults sink_faul
 Answers (Bench seed ranks rounds) before after faults faults' held held' sink_faults sink_faults' answer =
     (after ≡ before) × (faults' ≡ faults) × AnswersBench seed ranks rounds held held' sink_faults sink_faults' answer
 
--- the answer to words that are refused: status 1, or 6 where that could not be written, or 7 where memory is wanting
+-- the answer to words that are refused: status 1, or 6 where that could not be written, or 7 where memory runs out
 pub record Refuses (held held' : Option (List ℕ)) (faults faults' : ℕ) (answer : Answer) : Type 0 where
   pub says : ((answer.status ≡ 1) × (held' ≡ with_more held refused_text) × (faults' ≡ faults))
       ⊎ (((answer.status ≡ 6) × AddsPrefix refused_text held held' × HasCause faults faults')

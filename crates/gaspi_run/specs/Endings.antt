@@ -31,10 +31,11 @@ pub record HasSettled (w : ShapeValue) (journal : List Event) : Type 0 where
   pub leads : reached w journal ≡ Ok state
   pub settled : IsSettled state
 
--- the events of a caller, by its rank and thread
+-- an event is that of a caller, by its rank and thread
 abbrev pub is_own : ℕ → ℕ → Event → Bool
 is_own rank thread e = is_event_of (record { rank = rank; thread = thread }) e
 
+-- the events of a caller in a history, by its rank and thread
 abbrev pub own_events : ℕ → ℕ → List Event → List Event
 own_events rank thread history = events_of (record { rank = rank; thread = thread }) history
 

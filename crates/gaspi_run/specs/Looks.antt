@@ -10,7 +10,7 @@ use Rattle.gaspi_types.specs.declared.shapes.CallerId.{CallerId}
 use Rattle.gaspi_model.specs.Step.{recorded_calls}
 use Rattle.rank_script.specs.Runs.{RunPosition, AtLine, RunEnded, advanced}
 
--- how many looks a call has: one that blocks has so many
+-- how many looks a timeout allows; without end, it allows `limit`
 abbrev pub looks_in : ℕ → Timeout → ℕ
 looks_in limit (Looks looks) = looks
 looks_in limit Block = limit

@@ -56,7 +56,7 @@ module _ (w : ShapeValue) (c : CallerId) (lines : List ScriptLine) where
     pub follows : Follows (at_first_line lines) (recorded_calls c.rank c.thread history) (AtLine line made later)
     pub full : lacks_room_after w c line.call history ≡ true
 
-  -- why the run ended where it was stopped for want of room
+  -- why the run ended, where it was stopped for lack of room
   abbrev pub HasCause : {S : Type 0} → RunOutcome → PassView S Event → Type 0
   HasCause outcomes.Ended n = Unit {0}
   HasCause (outcomes.Failed number) n = Unit {0}
@@ -77,9 +77,10 @@ module _ (w : ShapeValue) (c : CallerId) (lines : List ScriptLine) where
 
   -- The caller ran these lines and ended: its calls, the end among them, are a whole run of the lines with that outcome. Each of its
   -- joins is of the call that it makes next, or of the one before which the run was stopped. Its timeouts came only when the looks of
-  -- their lines were spent, where a call that blocks has so many. It made its looks call by call, those of the call before which it was
-  -- stopped among them, for none more than its line has, and one for its end. Where its rank had no room at one of them for the call of
-  -- the line that it had come to, it was the last before the end's, and the run was stopped there for want of room; and only there.
+  -- their lines were spent, of which a call that blocks has `limit`. It made its looks call by call, those of the call before which it
+  -- was stopped among them, for none more than its line has, and one for its end. Where its rank had no room at one of them for the
+  -- call of the line that it had come to, that look was the last before the end's, and the run was stopped there for lack of room; and
+  -- only there.
   pub record HasRun {S : Type 0} (limit : ℕ) (outcome : RunOutcome) (v n : PassView S Event) : Type 0 where
     pub goes_on : IsExtended w c v n
     pub run : IsRun lines (recorded_calls c.rank c.thread n.mine) outcome

@@ -40,10 +40,11 @@ abbrev pub starting : Option Script → List ActiveCaller
 starting None = []
 starting (Some script) = record { caller = script.caller; cursor = at_first_line script.lines; looks = 0 } ∷ []
 
--- the callers of a rank at their start, by thread
+-- the caller of a rank and thread at its start, where it has a script
 abbrev pub thread_starts : List Script → ℕ → ℕ → List ActiveCaller
 thread_starts scripts rank thread = starting (find (is_script_of (record { rank = rank; thread = thread })) scripts)
 
+-- the callers of a rank at their start, by thread
 abbrev pub rank_starts : List Script → ℕ → List ActiveCaller
 rank_starts scripts rank = flat_map (thread_starts scripts rank) (range_with_len 0 4)
 
@@ -51,6 +52,7 @@ rank_starts scripts rank = flat_map (thread_starts scripts rank) (range_with_len
 abbrev pub starts : ShapeValue → List Script → List ActiveCaller
 starts w scripts = flat_map (rank_starts scripts) (range_with_len 0 w.limits.ranks)
 
+-- what a schedule has before its first iteration
 abbrev pub started : ShapeValue → List Script → ℕ → ScheduleState
 started w scripts seed =
     record { x = seed; state = opening w; active = starts w scripts; ended = []; journal = [] }
@@ -68,7 +70,7 @@ abbrev pub looks_of : ℕ → Timeout → ℕ
 looks_of limit (Looks n) = n
 looks_of limit Block = limit
 
--- the caller at a place of those that wait, changed
+-- the active caller with this index, changed
 abbrev pub with_active : ScheduleState → ℕ → ActiveCaller → ScheduleState
 with_active t place w = record t { active = slice_set t.active place w }
 
@@ -130,14 +132,16 @@ end_iteration t place w outcome =
     made (record t { active = remove t.active place; ended = t.ended ++ record { caller = w.caller; outcome = outcome } ∷ [] })
     (Called w.caller End replies.Done)
 
+-- the iteration of an active caller, by how far its run has come
 abbrev pub run_iteration : ℕ → ScheduleState → ℕ → ActiveCaller → RunPosition → ScheduleState
 run_iteration limit t place w (AtLine line made lines) = active_iteration limit t place w line
 run_iteration limit t place w (RunEnded outcome) = end_iteration t place w outcome
 
+-- the iteration of an active caller
 abbrev pub caller_iteration : ℕ → ScheduleState → ℕ → ActiveCaller → ScheduleState
 caller_iteration limit t place w = run_iteration limit t place w w.cursor
 
--- the iteration of a candidate: the callers that wait come first, then the transfers that may come next
+-- the iteration of a candidate: the active callers come first, then the transfers that may come next
 abbrev pub candidate_iteration : ℕ → ScheduleState → ℕ → ScheduleState
 candidate_iteration limit t candidate = of_caller (slice_get t.active candidate)
   where
@@ -149,9 +153,11 @@ candidate_iteration limit t candidate = of_caller (slice_get t.active candidate)
     of_caller (Some w) = caller_iteration limit t candidate w
     of_caller None = of_transfer (slice_get (transfers t.state.limits t.state.posts) (candidate - length t.active))
 
+-- how many candidates there are
 abbrev pub candidates : ScheduleState → ℕ
 candidates t = length t.active + length (transfers t.state.limits t.state.posts)
 
+-- one more number was drawn
 abbrev pub with_draw : ScheduleState → ScheduleState
 with_draw t = record t { x = drawn t.x }
 
@@ -173,11 +179,11 @@ pub record IsScheduled (w : ShapeValue) (scripts : List Script) (seed limit : �
   pub journal_is : journal ≡ (iterations limit count (started w scripts seed)).journal
   pub finished_is : finished ≡ (iterations limit count (started w scripts seed)).ended
 
--- the callers that wait have sections and have not ended
+-- the active callers have sections and have not ended
 abbrev pub AreActive : ScheduleState → Type 0
 AreActive t = (place : ℕ) (x : ActiveCaller) → slice_get t.active place ≡ Some x → is_active t.state x.caller.rank x.caller.thread ≡ true
 
--- the caller that waits at a place
+-- the active caller with this index
 abbrev pub IsCallerAt : ScheduleState → ℕ → CallerId → Type 0
 IsCallerAt t place c = (w : ActiveCaller) → slice_get t.active place ≡ Some w → w.caller ≡ c
 

@@ -35,13 +35,13 @@ module _ {S : Type 0} (w : ShapeValue) (c : CallerId) (lines : List ScriptLine) 
     pub looked : HasLookAfter history n.looks
     pub full : lacks_room_after w c line.call history ≡ true
 
-  -- the calls that were made lead there, each join is of the call behind it, and the run was not stopped
+  -- the calls that were made lead there, each join is of the call after it, and the run was not stopped
   pub record IsAtPosition (p : RunPosition) (n : PassView S Event) : Type 0 where
     pub follows : Follows (at_first_line lines) (recorded_calls c.rank c.thread n.mine) p
     pub no_limit : (number : ℕ) → p ≡ RunEnded (Limit number) → ⊥
     pub followed : AreJoinsFollowed None n.mine
 
-  -- The calls that were made lead to a line, before which the run was stopped with that outcome. Each join is of the call behind it,
+  -- The calls that were made lead to a line, before which the run was stopped with that outcome. Each join is of the call after it,
   -- and the last one may be of the line's.
   pub record IsStoppedAt (outcome : RunOutcome) (n : PassView S Event) : Type 0 where
     pub line : ScriptLine
@@ -77,6 +77,7 @@ module _ {S : Type 0} (w : ShapeValue) (c : CallerId) (lines : List ScriptLine) 
         → (outcome ≡ Limit number) × (suc k ≡ length (flat_map (λ (ks : List (List Event)). ks) looks))
     pub at_limit : (number : ℕ) → outcome ≡ Limit number → (k : ℕ) × (h : List Event) × (slice_get (flat_map (λ (ks : List (List Event)). ks) looks) k ≡ Some h) × WasFull w c lines h number
 
+  -- the looks so far, of a run that goes on or ended by itself, or of one that was stopped
   abbrev pub LookedSoFar : ℕ → RunPosition → List (List (List Event)) → PassView S Event → Type 0
   LookedSoFar limit p looks n = (HadRoomSoFar limit looks n × ((number : ℕ) → p ≡ RunEnded (Limit number) → ⊥)) ⊎ ((outcome : RunOutcome) × (p ≡ RunEnded outcome) × WasStoppedAfter limit outcome looks n)
 

@@ -1,4 +1,4 @@
--- What the threads of a world need of their passes, and what they make of them. (own choice)
+-- What the bodies of a world's threads need of their passes, and what they did with them. (own choice)
 use Rattle.std.specs.Prelude.{◌≡◌, ℕ, ◌+◌, ◌<◌, Bool, true, false, List, [], ◌∷◌, map, length, slice_get, find, Option, None, Some}
 use Rattle.std.specs.List.{All, flat_map}
 use Rattle.gaspi_types.specs.declared.shapes.CallerId.{CallerId}
@@ -23,7 +23,7 @@ use Rattle.gaspi_run.specs.declared.schedule_states.EndedCaller.{EndedCaller}
 use Rattle.gaspi_run.specs.declared.thread_bodies.ThreadBody.{ThreadBody}
 use Rattle.gaspi_run.specs.declared.thread_bodies.ThreadBody.TheVariants.{Caller, Worker}
 
--- what a part needs of its pass: it is that of its caller, or of a worker, and has done nothing yet
+-- what a body needs of its pass: it is that of its caller, or of a worker, and has done nothing yet
 abbrev pub BodyNeeds : ThreadBody → TableValue Start → PassValue Start Event → Type 0
 BodyNeeds (Caller body) world pass = IsRunnable body.script.now body.limit × IsFresh body.script.now world pass × (body.cursor ≡ at_first_line body.script.now.lines)
 BodyNeeds (Worker turns) world pass = IsOf world pass × HoldsNone pass.known × IsWorkers world.start.shape pass.known
@@ -36,24 +36,26 @@ pub record HasWorked (turns : ℕ) (p q : PassValue Start Event) : Type 0 where
   pub none_left : (start : Start) → p.known.start ≡ Some start → IsDrained start.shape q.known.seen
   pub turned : (start : Start) → p.known.start ≡ Some start → (next : ℕ) × Drains start.shape turns p.known next q.known
 
--- what a part makes of itself and of its pass: a caller's has run its script, a worker's has made transfers
+-- what a caller's body did: it has run its script
 abbrev pub RanScript : ScriptBody → PassValue Start Event → ThreadBody → PassValue Start Event → Type 0
 RanScript body p (Caller next) q = (next.script ≡ body.script) × (next.limit ≡ body.limit) × HasRunScript body.script.now body.limit next.outcome p q
 RanScript body p (Worker turns) q = ⊥
 
+-- what a worker's body did: it has made transfers
 abbrev pub MadeTransfers : ℕ → PassValue Start Event → ThreadBody → PassValue Start Event → Type 0
 MadeTransfers turns p (Caller next) q = ⊥
 MadeTransfers turns p (Worker now) q = HasWorked turns p q
 
+-- what a body did with itself and its pass
 abbrev pub BodyDid : ThreadBody → PassValue Start Event → ThreadBody → PassValue Start Event → Type 0
 BodyDid (Caller body) p next q = RanScript body p next q
 BodyDid (Worker turns) p next q = MadeTransfers turns p next q
 
--- a fact of each item of a list and its place
+-- a fact of each item of a list and its index
 abbrev pub EachAt : {A : Type 0} → (ℕ → A → Type 0) → List A → Type 0
 EachAt {A} P xs = (place : ℕ) (x : A) → slice_get xs place ≡ Some x → P place x
 
--- each part has run with its pass: it is what a part at its place made of itself and of its pass
+-- each body has run with its pass: both are as the body with that index left them
 abbrev pub HaveAllRun : List (Task ThreadBody) → List (Task ThreadBody) → Type 0
 HaveAllRun old new = EachAt (λ place task. (before : Task ThreadBody) × (slice_get old place ≡ Some before) × BodyDid before.body before.pass task.body task.pass) new
 
@@ -66,18 +68,18 @@ abbrev pub AreCallersThere : TableValue Start → Type 0
 AreCallersThere world = (place : ℕ) → place < length world.start.shape.callers → (c : CallerId) × IsPassOf world.start.shape c (made_pass world place).known
 
 module _ (world : TableValue Start) (scripts : List Script) (limit : ℕ) where
-  -- A caller's part has the script of the caller with the number of its pass, before its first line. The workers' parts stand behind those,
-  -- and each begins with the turn of its own number.
+  -- A caller's body has the script of the caller with the number of its pass, before its first line. The workers' bodies come after
+  -- those, and each begins with the turn of its own number.
   abbrev pub IsBodyOf : ℕ → ThreadBody → Type 0
   IsBodyOf place (Caller body) =
       (body.limit ≡ limit) × (find (is_script_of body.script.now.caller) scripts ≡ Some body.script.now) × IsPassOf world.start.shape body.script.now.caller (made_pass world place).known × (body.cursor ≡ at_first_line body.script.now.lines)
   IsBodyOf place (Worker turns) = place ≡ length world.start.shape.callers + turns
 
-  -- a part and its pass, before it runs
+  -- a body and its pass, before it runs
   abbrev pub IsReady : ℕ → Task ThreadBody → Type 0
   IsReady place task = (task.pass ≡ made_pass world place) × IsBodyOf place task.body
 
-  -- What is known of a caller's part once it has run: the script is its caller's, and was run to that outcome.
+  -- What is known of a caller's body once it has run: the script is its caller's, and was run to that outcome.
   pub record HasRunCaller (body : ScriptBody) (v n : PassView Start Event) : Type 0 where
     pub is_script : find (is_script_of body.script.now.caller) scripts ≡ Some body.script.now
     pub caller : IsPassOf world.start.shape body.script.now.caller n
@@ -85,7 +87,7 @@ module _ (world : TableValue Start) (scripts : List Script) (limit : ℕ) where
     pub is_told : body.outcome ≡ Some told
     pub run : HasRun world.start.shape body.script.now.caller body.script.now.lines limit told v n
 
-  -- What is known of a worker's part: it made turns from that of its own number on, and left no transfer.
+  -- What is known of a worker's body: it made turns from that of its own number on, and left no transfer.
   pub record HasRunWorker (place : ℕ) (n : PassView Start Event) : Type 0 where
     pub worker : ℕ
     pub place_is : place ≡ length world.start.shape.callers + worker
@@ -94,11 +96,12 @@ module _ (world : TableValue Start) (scripts : List Script) (limit : ℕ) where
     pub next : ℕ
     pub turned : Drains world.start.shape worker (made_pass world place).known next n
 
+  -- what is known of a body once it has run, by what it is
   abbrev pub HasRunThreadBody : ℕ → ThreadBody → PassView Start Event → Type 0
   HasRunThreadBody place (Caller body) n = HasRunCaller body (made_pass world place).known n
   HasRunThreadBody place (Worker turns) n = HasRunWorker place n
 
-  -- A part has run. Its pass is still one of its world, has its number and holds no shard.
+  -- A body has run. Its pass is still one of its world, has its number and holds no shard.
   pub record HasRunTask (place : ℕ) (task : Task ThreadBody) : Type 0 where
     pub table : task.pass.table ≡ world.table
     pub start : task.pass.known.start ≡ Some world.start
@@ -106,11 +109,12 @@ module _ (world : TableValue Start) (scripts : List Script) (limit : ℕ) where
     pub free : HoldsNone task.pass.known
     pub part : HasRunThreadBody place task.body task.pass.known
 
--- how the caller of a part ended, where it is a caller's
+-- a caller that ended with an outcome, where there is one
 abbrev pub ended_with : CallerId → Option RunOutcome → List EndedCaller
 ended_with caller None = []
 ended_with caller (Some outcome) = record { caller = caller; outcome = outcome } ∷ []
 
+-- how the caller of a body ended; none of a worker's
 abbrev pub ended_caller : ThreadBody → List EndedCaller
 ended_caller (Caller body) = ended_with body.script.now.caller body.outcome
 ended_caller (Worker turns) = []
@@ -127,12 +131,12 @@ is_not_out_of_memory (outcomes.Stuck line) = true
 is_not_out_of_memory (outcomes.Limit line) = true
 is_not_out_of_memory (outcomes.NoMemory line) = false
 
--- a part has come to its end: the run of a caller's did not want memory
+-- a body has come to its end: a caller's did not run out of memory
 abbrev pub IsDone : ThreadBody → Type 0
 IsDone (Caller body) = (told : RunOutcome) × (body.outcome ≡ Some told) × (is_not_out_of_memory told ≡ true)
 IsDone (Worker turns) = Unit {0}
 
--- All parts of a world have run, each to its end: these are their passes, in order, and so its callers ended.
+-- All bodies of a world have run, each to its end: these are their passes, in order, and so its callers ended.
 pub record HaveRun (world : TableValue Start) (scripts : List Script) (limit : ℕ) (passes : List (PassValue Start Event)) (finished : List EndedCaller) : Type 0 where
   pub tasks : List (Task ThreadBody)
   pub ran : EachAt (HasRunTask world scripts limit) tasks

@@ -26,9 +26,9 @@ use Rattle.gaspi_texts.specs.JournalText.{AreInRange}
 use Rattle.gaspi_run.specs.Endings.{HasSettled, HaveEnded}
 use Rattle.gaspi_run.specs.declared.schedule_states.EndedCaller.{EndedCaller}
 
--- The caller of a script had a pass of the world. What it did is in the journal, each call once, in order, with the reply that it got,
--- and so are its joins; what it had seen is a beginning of the journal. None of its timeouts came before the looks of its line were
--- spent: so many for a call that blocks; and no call made more looks than that, which its pass tells call by call, the last one being
+-- The caller of a script had a pass of the world. What it did is in the journal, each call once, in order, with its reply, and so are
+-- its joins; what it had seen is a prefix of the journal. None of its timeouts came before the looks of its line were spent, or
+-- `limit` looks of a call that blocks; and no call made more looks than that: the pass has the looks call by call, the last one being
 -- that of its end. (GASPI: timeouts)
 pub record HadPass (w : ShapeValue) (limit : ℕ) (journal : List Event) (passes : List (PassView Start Event)) (script : Script) : Type 0 where
   pub place : ℕ
@@ -44,8 +44,8 @@ pub record HadPass (w : ShapeValue) (limit : ℕ) (journal : List Event) (passes
   pub by_call : AreByCall script.caller journal looks
   pub within : AreWithin looks (looks_along limit (at_first_line script.lines) (recorded_calls script.caller.rank script.caller.thread journal))
 
--- A worker had a pass of the world, behind those of the callers, and made no calls by it. It made turns, the first of which had the number of
--- the worker, until one through all ranks found that every caller has ended and all that was posted has arrived, broken queues aside.
+-- A worker had a pass of the world, after those of the callers, and made no calls by it. It made turns, the first of which had the
+-- number of the worker, until a full turn found that every caller has ended and all that was posted has arrived, broken queues aside.
 -- What it had seen is a prefix of the journal. (GASPI: one-sided communication)
 pub record HadWorker (start : Start) (journal : List Event) (passes : List (PassView Start Event)) (worker : ℕ) : Type 0 where
   pub pass : PassView Start Event
@@ -56,7 +56,8 @@ pub record HadWorker (start : Start) (journal : List Event) (passes : List (Pass
   pub next : ℕ
   pub turned : Drains start.shape worker (new_pass start (Some (length start.shape.callers + worker)) []) next pass
 
--- A closed world began as this one and has this journal. The callers of these scripts had its passes, and so many workers, and nobody else.
+-- A closed world began as this one and has this journal. The callers of these scripts had its passes, and this number of workers, and
+-- nobody else.
 pub record IsTallyOf (w : ShapeValue) (scripts : List Script) (workers limit : ℕ) (journal : List Event) (tally : TallyValue Start Event) : Type 0 where
   pub start : Start
   pub began : tally.start ≡ Some start
@@ -66,8 +67,8 @@ pub record IsTallyOf (w : ShapeValue) (scripts : List Script) (workers limit : �
   pub count : length tally.passes ≡ length w.callers + workers
   pub workers_had : (worker : ℕ) → worker < workers → HadWorker start journal tally.passes worker
 
--- Each notification came after all earlier writes of its lane: of each write that stood in the lane with a smaller number, and was not
--- purged since, the put stands before that of the notification. (GASPI: notification order)
+-- Each notification came after all earlier writes of its lane: of each write that was in the lane with a smaller number, and was not
+-- purged since, the put is before that of the notification. (GASPI: notification order)
 abbrev pub ComesAfterWrites : ShapeValue → List Event → Type 0
 ComesAfterWrites w journal =
     (earlier later rest : List Event) (origin queue target m n : ℕ) → earlier ++ later ++ Put origin queue target n Applied ∷ rest ≡ journal
@@ -79,12 +80,14 @@ ComesAfterWrites w journal =
 abbrev pub AnswerTally : Type 0
 AnswerTally = Option (TallyValue Start Event)
 
--- The callers of a world ran their scripts by its passes, so many workers made its transfers, and it was then closed. Its journal is one legal history of the machine from
--- the stated start. What is told of the closed world says that each call which a caller completed stands there once, with the reply that
--- the caller got; that what the caller had seen begins the journal; and that no timeout came before its looks were spent. That each call
--- came after what its caller had seen is said where calls are made (`Rank::attempt`). Each caller's calls are a run of its script; every
--- caller has ended, and all that was posted has arrived, broken queues aside. Every notification came after all earlier writes of its
--- lane. No notification value was handed out twice, and nobody gave to a group twice. The numbers of its events are those of their types, so its text is that of no other. How many threads there were is not said.
+-- The callers of a world ran their scripts by its passes, this number of workers made its transfers, and it was then closed. Its
+-- journal is one legal history of the machine from the opening state. The tally says that each call which a caller completed is there
+-- once, with the reply that the caller got; that what the caller had seen begins the journal; and that no timeout came before its
+-- looks were spent. That each call came after what its caller had seen is said where calls are made (`Rank::attempt`). Each caller's
+-- calls are a run of its script; every caller has ended, and all that was posted has arrived, broken queues aside. Every notification
+-- came after all earlier writes of its lane. No notification value was handed out twice, and each rank joined each group once for each
+-- collective. The numbers of its events are those of their types, so its text is that of no other. How many threads there were is not
+-- said.
 pub record HasRunWorld (w : ShapeValue) (scripts : List Script) (workers limit : ℕ) (journal : List Event) (tally : AnswerTally) (finished : List EndedCaller) : Type 0 where
   pub legal : is_legal w journal ≡ true
   pub told : TallyValue Start Event

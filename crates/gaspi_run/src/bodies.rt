@@ -9,12 +9,13 @@ use std::sync::Wait;
 /// A caller that runs its script in a world, and then ends. (own choice)
 #[derive(Drop)]
 pub struct ScriptBody<'a> {
+    /// The script of the caller whose pass the body gets.
     pub script: &'a Script,
-    /// How far the run has come; before the first line at first.
+    /// How far the run has come: before `run` it is before the first line.
     pub cursor: Cursor<'a>,
-    /// How many looks a call may take that blocks.
+    /// How many looks a call that blocks may have, one at least.
     pub limit: u32,
-    /// How the run ended, once it has.
+    /// How the run ended; none before `run`.
     pub outcome: Option<RunOutcome>,
 }
 

@@ -1,4 +1,4 @@
-//! What a command tells of its input.
+//! What a command makes of its input, before it is written.
 
 ghost use Rattle.std.specs.Prelude.{◌≡◌, ◌⊎◌, Some, None, true, false, IfOk, OnErr};
 ghost use Rattle.gaspi_io.specs.Faults.{HasCause};
@@ -13,13 +13,17 @@ use gaspi_world::Tally;
 use std::alloc::Global;
 use std::marker::Model;
 
-/// What a command tells of its input: the history, what is known of the closed world where threads ran it, the status, and the
-/// text. The text of a journal is not held: it is made as it is written.
+/// What a command makes of its input. The text of a journal is not in memory: it is made as it is written. Contracts say of a text
+/// that is in memory that it is held.
 #[derive(Drop)]
 pub struct CommandResult {
+    /// The history of the world that was run, or the journal that was read.
     journal: Journal,
+    /// What is known of the closed world; none where no threads ran one.
     tally: Option<Tally>,
+    /// The exit status, where the text is written whole.
     status: u8,
+    /// The text; none where it is that of the journal.
     text: Option<Bytes>,
 }
 
@@ -32,7 +36,7 @@ impl Model for CommandResult {
 }
 
 impl CommandResult {
-    /// With a text.
+    /// A result whose text is in memory.
     pub(crate) fn with_text(
         journal: Journal,
         tally: Option<Tally>,
@@ -49,7 +53,7 @@ impl CommandResult {
         }
     }
 
-    /// With the text of its journal.
+    /// A result whose text is that of its journal, and not in memory.
     pub(crate) fn with_journal_text(
         journal: Journal,
         tally: Option<Tally>,
@@ -65,8 +69,8 @@ impl CommandResult {
         }
     }
 
-    /// Writes the text, and gives the status: 6 where it could not be written whole. Out of memory comes of a text alone that is not
-    /// held; then a prefix of it was written, which is shorter.
+    /// Writes the text, and gives the status: 6 where the text could not be written whole. It runs out of memory only where the text
+    /// is that of the journal; then a prefix was written, which is shorter than the text.
     pub(crate) fn write<K: Sink>(&self, alloc: Global, sink: &mut K) -> Result<u8, NoMemory>
         ensures written { IfOk result (λ status. ((status ≡ self.now.status) × (K.held sink.new ≡ with_more (K.held sink.old) self.now.text) × (K.faults sink.new ≡ K.faults sink.old))
             ⊎ ((status ≡ 6) × AddsPrefix self.now.text (K.held sink.old) (K.held sink.new) × HasCause (K.faults sink.old) (K.faults sink.new))) }
@@ -85,7 +89,7 @@ impl CommandResult {
         }
     }
 
-    /// The history, and what is known of the closed world.
+    /// The history, and what is known of the closed world. Status and text are dropped.
     pub(crate) fn into_history(self) -> (Journal, Option<Tally>)
         ensures { (result.0 ≡ self.journal) × (result.1 ≡ self.tally) }
     {

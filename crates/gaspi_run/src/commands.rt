@@ -1,4 +1,5 @@
-//! The commands of the program.
+//! The commands of the program: what each reads, writes and answers. All that is written goes to `sink`, and all that is read comes
+//! from `source`; nothing is written before all is read.
 
 ghost use Rattle.std.specs.Prelude.{◌≡◌, ◌⊎◌, true, map, None, Some, Err, IfOk};
 ghost use Rattle.gaspi_io.specs.Faults.{HasCause};
@@ -37,12 +38,15 @@ use std::thread::Threads;
 /// | 8 | a caller ended at the event limit, and none has failed or is stuck |
 #[derive(Drop)]
 pub struct Answer {
+    /// The exit status.
     pub status: u8,
+    /// The history of the world that was run, or the journal that was read; empty where neither came to be.
     pub journal: Journal,
+    /// What is known of the closed world; none where no threads ran one.
     pub tally: Option<Tally>,
 }
 
-/// The line that names a fault.
+/// The text that names a fault of a world text and its line. The only failure is out of memory.
 fn fault_line(alloc: Global, number: u32, line: u64) -> Result<Bytes, NoMemory>
     ensures { IfOk result (λ text. text ≡ fault_text (record { number = number; line = line })) }
 {
@@ -55,7 +59,8 @@ fn fault_line(alloc: Global, number: u32, line: u64) -> Result<Bytes, NoMemory>
     Ok(text)
 }
 
-/// Writes a text, and gives the status: 6 where it could not be written whole.
+/// Writes a text, and gives the status that it is called with, or 6 where the text could not be written whole: then a prefix of it
+/// was.
 fn status_of<K: Sink>(sink: &mut K, text: &[u8], status: u8) -> u8
     ensures { ((result ≡ status) × (K.held sink.new ≡ with_more (K.held sink.old) text.now) × (K.faults sink.new ≡ K.faults sink.old))
         ⊎ ((result ≡ 6) × AddsPrefix text.now (K.held sink.old) (K.held sink.new) × HasCause (K.faults sink.old) (K.faults sink.new)) }
@@ -66,7 +71,7 @@ fn status_of<K: Sink>(sink: &mut K, text: &[u8], status: u8) -> u8
     }
 }
 
-/// An answer with nothing but a status.
+/// An answer with a status alone: no history, and nothing known of a world.
 fn answer_without_journal(alloc: Global, status: u8) -> Answer
     ensures { (result.status ≡ status) × HasNoJournal result }
 {
@@ -77,7 +82,8 @@ fn answer_without_journal(alloc: Global, status: u8) -> Answer
     }
 }
 
-/// Answers a fault of the input.
+/// Writes the line that names a fault of the input, and answers status 2; 6 where it could not be written whole, 7 where there was no
+/// memory for it.
 fn answer_fault<K: Sink>(alloc: Global, sink: &mut K, number: u32, line: u64) -> Answer
     ensures { AnswersFault (K.held sink.old) (K.held sink.new) (K.faults sink.old) (K.faults sink.new) result (record { number = number; line = line }) }
 {
@@ -88,7 +94,7 @@ fn answer_fault<K: Sink>(alloc: Global, sink: &mut K, number: u32, line: u64) ->
     answer_without_journal(alloc, status)
 }
 
-/// Answers what was told of an input, or its fault.
+/// Writes what a command made of its input, or the fault of the input, and answers it. `told` is what the command's function gave.
 fn answer_result<K: Sink>(
     alloc: Global,
     sink: &mut K,
@@ -113,7 +119,8 @@ fn answer_result<K: Sink>(
     }
 }
 
-/// Answers an input that could not be read.
+/// Answers an input that was not read, by why the read stopped: it failed (5), the input is too long (fault S1 at line 0), or out of
+/// memory (7).
 fn answer_stop<K: Sink>(alloc: Global, sink: &mut K, stop: ReadStop) -> Answer
     ensures { AnswersStop (K.held sink.old) (K.held sink.new) (K.faults sink.old) (K.faults sink.new) result stop }
 {
@@ -124,7 +131,7 @@ fn answer_stop<K: Sink>(alloc: Global, sink: &mut K, stop: ReadStop) -> Answer
     }
 }
 
-/// Does what a command that needs no threads asks for with the input that the source has left, and writes what it tells.
+/// Answers a command that needs no threads: reads all that the source has left, and writes what the command makes of it.
 pub fn run_command<S: Source, K: Sink>(
     alloc: Global,
     command: Command,
@@ -146,7 +153,8 @@ pub fn run_command<S: Source, K: Sink>(
     }
 }
 
-/// Runs the input that the source has left on threads, and writes its journal or its transcripts.
+/// Answers `run`: reads all that the source has left, runs its scripts on threads, and writes the journal, or with `brief` the
+/// transcripts.
 pub fn run_threads<R: Threads + Wait + Sync, S: Source, K: Sink>(
     rt: &R,
     alloc: Global,
@@ -169,7 +177,7 @@ pub fn run_threads<R: Threads + Wait + Sync, S: Source, K: Sink>(
     }
 }
 
-/// Runs the world of `bench` on threads, and writes its numbers. It reads nothing.
+/// Answers `bench`: runs its world on threads, and writes the bench numbers. It reads nothing.
 pub fn run_bench<R: Threads + Wait + Sync, K: Sink>(
     rt: &R,
     alloc: Global,
@@ -187,7 +195,7 @@ pub fn run_bench<R: Threads + Wait + Sync, K: Sink>(
     }
 }
 
-/// Does what a command asks for.
+/// Answers a command whose words were read.
 fn answer_command<R: Threads + Wait + Sync, S: Source, K: Sink>(
     rt: &R,
     alloc: Global,
@@ -216,8 +224,8 @@ fn answer_command<R: Threads + Wait + Sync, S: Source, K: Sink>(
     }
 }
 
-/// The program: does what the words after its name ask for with its input, and writes its output. Words that ask for no command are
-/// refused, and then nothing is read. Of the commands `run` and `bench` use threads and wait.
+/// The program: does what the words after its name ask for, with its input, and writes its output. Where the words are refused,
+/// nothing is read, and the status is 1. Of the commands `run` and `bench` use threads and wait.
 pub fn gaspirun<R: Threads + Wait + Sync, S: Source, K: Sink>(
     rt: &R,
     alloc: Global,

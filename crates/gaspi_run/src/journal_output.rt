@@ -1,4 +1,4 @@
-//! A journal written block by block, so that its text is never held whole.
+//! A journal, written block by block, so that its text is never whole in memory.
 
 ghost use Rattle.std.specs.Prelude.{◌≡◌, OnOk, OnErr, IsErrOf};
 ghost use Rattle.gaspi_io.specs.Faults.{HasCause};
@@ -12,7 +12,7 @@ use gaspi_types::{Bytes, NoMemory};
 use std::alloc::Global;
 
 /// Writes the text of a journal. The memory of one block is taken before anything is written; a line that is longer takes more. Where
-/// it stops, a prefix of the text was written, which is shorter than the text.
+/// a write fails or memory runs out, a prefix of the text was written, which is shorter than the text.
 pub(crate) fn write_journal<K: Sink>(
     alloc: Global,
     sink: &mut K,

@@ -1,4 +1,6 @@
-//! What is told of a journal that was read: whether it is legal, or which writes a notification of it stands for.
+//! What `check` and `why` make of an input with a journal: whether the journal is legal, or which writes a notification of it covers.
+//! The texts and statuses of what they find are made here too. `told` is the result; its text is in memory, and it has no tally. Where
+//! a function of this file can fail, out of memory is the only failure, but for `judge_input`.
 
 ghost use Rattle.std.specs.Prelude.{◌≡◌, ◌<◌, ◌≤◌, ◌+◌, ◌++◌, ◌^◌, ℕ, length, true, IfOk, OnOk, IsErrOf, Err, None};
 ghost use Rattle.std.specs.List.{flat_map};
@@ -19,13 +21,13 @@ use std::alloc::Global;
 /// What is asked of a journal.
 #[derive(Clone, Copy, Debug, PartialEq, Eq)]
 pub enum Question {
-    /// Whether it is legal.
+    /// Whether it is legal: `check`.
     Verdict,
-    /// Which writes the notification stands for that was put at that place, from 0.
+    /// Which writes the notification covers that was put at this place: `why`.
     Writes { place: u64 },
 }
 
-/// The word of why an event is no step.
+/// The word for a cause.
 fn why_word(why: Why) -> &'static [u8]
     ensures { result.now ≡ why_word why }
 {
@@ -39,7 +41,7 @@ fn why_word(why: Why) -> &'static [u8]
     }
 }
 
-/// The text that names the first event that is no step.
+/// The text that names the first event that is no step, by its place, and its cause.
 fn illegal_text(alloc: Global, place: u64, why: Why) -> Result<Bytes, NoMemory>
     ensures { IfOk result (λ text. text ≡ illegal_text place why) }
 {
@@ -52,7 +54,7 @@ fn illegal_text(alloc: Global, place: u64, why: Why) -> Result<Bytes, NoMemory>
     Ok(text)
 }
 
-/// The text of a verdict on so many events.
+/// The text of a verdict on a journal of `count` events.
 fn verdict_text(alloc: Global, count: u64, verdict: Verdict) -> Result<Bytes, NoMemory>
     ensures { IfOk result (λ text. text ≡ verdict_text count verdict) }
 {
@@ -68,7 +70,7 @@ fn verdict_text(alloc: Global, count: u64, verdict: Verdict) -> Result<Bytes, No
     }
 }
 
-/// The status of a verdict.
+/// The status of `check` for a verdict.
 fn verdict_status(verdict: Verdict) -> u8
     ensures { result ≡ verdict_status verdict }
 {
@@ -78,7 +80,7 @@ fn verdict_status(verdict: Verdict) -> u8
     }
 }
 
-/// Tells that an input has no journal, and at which of its lines.
+/// The result for an input that has no journal. `line` is the first line of the input that is not as a journal has it.
 fn no_journal_result(alloc: Global, line: u64) -> Result<CommandResult, NoMemory>
     ensures none { IfOk result (λ told. IsNoJournal line told.journal told.status told.text) }
     ensures plain { IfOk result (λ told. (told.tally ≡ None) × (told.is_held ≡ true)) }
@@ -90,7 +92,7 @@ fn no_journal_result(alloc: Global, line: u64) -> Result<CommandResult, NoMemory
     Ok(CommandResult::with_text(Sequence::new(alloc), None, 4, text))
 }
 
-/// Tells the verdict on a journal.
+/// The result of `check` for a journal that was read.
 fn verdict_result(alloc: Global, shape: &Shape, journal: Journal) -> Result<CommandResult, NoMemory>
     ensures verdict { IfOk result (λ told. HasVerdict shape.now told.journal told.status told.text) }
     ensures journal { IfOk result (λ told. told.journal ≡ journal) }
@@ -101,7 +103,8 @@ fn verdict_result(alloc: Global, shape: &Shape, journal: Journal) -> Result<Comm
     Ok(CommandResult::with_text(journal, None, verdict_status(verdict), text))
 }
 
-/// Appends the line of a write: the places of the call that posted it and of its put, and its number between them.
+/// Appends the line of a covered write: the place of the call that posted it, its entry number, and the place of its put. Where memory
+/// runs out, the beginning of the line may be there.
 fn append_write(text: &mut Bytes, write: &CoveredWrite) -> Result<(), NoMemory>
     ensures { OnOk result (text.new ≡ text.old ++ write_line write.now) }
 {
@@ -113,7 +116,7 @@ fn append_write(text: &mut Bytes, write: &CoveredWrite) -> Result<(), NoMemory>
     text.append(b"\n")
 }
 
-/// Appends the lines of writes.
+/// Appends the lines of covered writes, in order. Where memory runs out, some of them may be there.
 fn append_writes(text: &mut Bytes, writes: &[CoveredWrite]) -> Result<(), NoMemory>
     ensures { OnOk result (text.new ≡ text.old ++ flat_map write_line writes.now) }
 {
@@ -123,7 +126,7 @@ fn append_writes(text: &mut Bytes, writes: &[CoveredWrite]) -> Result<(), NoMemo
     Ok(())
 }
 
-/// The text of the writes that the notification put at a place stands for.
+/// The text of the writes that the notification covers which was put at a place.
 fn writes_text(alloc: Global, place: u64, writes: &[CoveredWrite]) -> Result<Bytes, NoMemory>
     ensures { IfOk result (λ text. text ≡ writes_text place writes.now) }
 {
@@ -137,7 +140,7 @@ fn writes_text(alloc: Global, place: u64, writes: &[CoveredWrite]) -> Result<Byt
     Ok(text)
 }
 
-/// The text that tells that no notification was put at a place.
+/// The text for a place at which no notification was put.
 fn no_notification_text(alloc: Global, place: u64) -> Result<Bytes, NoMemory>
     ensures { IfOk result (λ text. text ≡ no_notification_text place) }
 {
@@ -148,7 +151,7 @@ fn no_notification_text(alloc: Global, place: u64) -> Result<Bytes, NoMemory>
     Ok(text)
 }
 
-/// The text of what is known of the notification that was put at a place.
+/// The text of an explanation of a place.
 fn why_text(alloc: Global, place: u64, answer: &Explanation) -> Result<Bytes, NoMemory>
     ensures { IfOk result (λ text. text ≡ why_text place answer.now) }
 {
@@ -159,7 +162,7 @@ fn why_text(alloc: Global, place: u64, answer: &Explanation) -> Result<Bytes, No
     }
 }
 
-/// The status of what is known of a notification.
+/// The status of `why` for an explanation.
 fn why_status(answer: &Explanation) -> u8
     ensures { result ≡ why_status answer.now }
 {
@@ -169,7 +172,7 @@ fn why_status(answer: &Explanation) -> u8
     }
 }
 
-/// Tells which writes the notification stands for that was put at a place of a journal.
+/// The result of `why` for a place of a journal that was read.
 fn writes_result(
     alloc: Global,
     shape: &Shape,
@@ -185,7 +188,7 @@ fn writes_result(
     Ok(CommandResult::with_text(journal, None, why_status(&answer), text))
 }
 
-/// Tells of a journal what is asked.
+/// The result for a journal that was read, by what is asked of it.
 fn question_result(
     alloc: Global,
     shape: &Shape,
@@ -217,7 +220,8 @@ fn line_count(text: &[u8]) -> u64
     count
 }
 
-/// Reads the journal of an input, which begins at a line of that number, and tells of it what is asked.
+/// The result for a text that may be a journal, by what is asked of it. The text comes from an input, where its first line has this
+/// number; where it is no journal, a line of the input is named.
 fn journal_result(
     alloc: Global,
     shape: &Shape,
@@ -236,7 +240,8 @@ fn journal_result(
     }
 }
 
-/// Replays the journal of an input in the world of the text before it, and tells of it what is asked.
+/// The result of `check` or `why` for an input: its world text is read, and then its journal. Where no line begins with `journal`, the
+/// line after the last is named. The error is the first fault of the world text, or out of memory.
 pub fn judge_input(
     alloc: Global,
     input: &[u8],

@@ -1,7 +1,7 @@
 //! The commands of the program, and callers that run their scripts in a world.
 //!
-//! A `ScriptBody` makes the calls of a script one after another through the pass of its caller, and then the caller's end. How the run ended
-//! is its outcome.
+//! A `ScriptBody` makes the calls of a script one after another by the pass of its caller, and then the caller's end. `schedule` does
+//! the same for all scripts of a world on one thread. How a run ended is its outcome.
 #![tactic(auto)]
 
 mod bodies;

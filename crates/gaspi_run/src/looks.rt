@@ -1,11 +1,11 @@
-//! How often the calls of a script look.
+//! How many looks the calls of a script may have.
 
 ghost use Rattle.std.specs.Prelude.{◌≡◌};
 ghost use Rattle.gaspi_run.specs.Looks.{bounded};
 
 use gaspi_types::Timeout;
 
-/// A timeout with an end: a call that blocks may look so often.
+/// A timeout with an end: the line's own, or `limit` looks where the line blocks.
 pub(crate) fn bounded(timeout: Timeout, limit: u32) -> Timeout
     ensures { result ≡ bounded limit timeout }
 {

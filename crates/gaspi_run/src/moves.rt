@@ -1,4 +1,6 @@
-//! What an iteration does: the present call of a caller, its end, or a transfer.
+//! The iterations of a schedule: the look at the present call of an active caller, the caller's end, or a transfer. `index` is that of
+//! an active caller, `limit` how many looks a call that blocks may have. The only failure is out of memory, and after it the schedule
+//! is not used any more.
 
 ghost use Rattle.std.specs.Prelude.{◌≡◌, ℕ, ◌+◌, ◌<◌, ◌≤◌, ◌++◌, ◌∷◌, [], OnOk, IsOk, Ok, Some, true, false, length, slice_get};
 ghost use Rattle.gaspi_types.specs.declared.replies.Ready.{Ready};
@@ -22,7 +24,7 @@ use plain_calls::Evaluation;
 use rank_script::{RunOutcome, RunStop, drawn};
 use std::alloc::Global;
 
-/// The candidate that a draw picks, of so many callers that wait and so many transfers.
+/// The candidate that the drawn number `x` picks, of these numbers of active callers and of transfers, which are not both 0.
 fn picked(x: u32, active: usize, transfers: usize) -> usize
     requires { 0 < active + transfers }
     ensures { result ≡ picked x (active + transfers) }
@@ -35,7 +37,7 @@ fn picked(x: u32, active: usize, transfers: usize) -> usize
     }
 }
 
-/// How many looks a call may have.
+/// How many looks a call with this timeout may have.
 fn looks_of(limit: u32, timeout: Timeout) -> u32
     ensures { result ≡ looks_of limit timeout }
 {
@@ -45,7 +47,7 @@ fn looks_of(limit: u32, timeout: Timeout) -> u32
     }
 }
 
-/// Makes an event. One that is no step is not made.
+/// Makes an event, and appends it to the journal. Where it is no step, nothing changes.
 fn make(schedule: &mut ScheduleState, alloc: Global, event: Event) -> Result<(), NoMemory>
     ensures { OnOk result (schedule.new ≡ made schedule.old event) }
 {
@@ -59,7 +61,8 @@ fn make(schedule: &mut ScheduleState, alloc: Global, event: Event) -> Result<(),
     }
 }
 
-/// Brings the run of an active caller on by what a look at its present call found.
+/// Moves the run of an active caller on after its present call, by the reply that the look found, or else by `timeout`. The next call
+/// has had no look.
 fn bring_on(active: &mut ActiveCaller<'_>, ready: &Ready)
     ensures { active.new ≡ record { caller = active.old.caller; cursor = advanced active.old.cursor (recorded_reply ready.now); looks = 0 } }
 {
@@ -70,7 +73,8 @@ fn bring_on(active: &mut ActiveCaller<'_>, ready: &Ready)
     active.looks = 0;
 }
 
-/// Records a look at the present call of an active caller, which is a step.
+/// Records the present call of an active caller as `look` found it, with the reply or else with `timeout`, and moves its run on.
+/// `look` did not find that it may join.
 fn record_call(
     schedule: &mut ScheduleState,
     alloc: Global,
@@ -94,7 +98,7 @@ fn record_call(
     Ok(())
 }
 
-/// The end of an active caller whose run is over.
+/// Makes the end of an active caller whose run ended with this outcome. It is then among those that have ended.
 fn end_caller(
     schedule: &mut ScheduleState,
     alloc: Global,
@@ -111,7 +115,8 @@ fn end_caller(
     make(schedule, alloc, end)
 }
 
-/// A look at the present call of an active caller that is not ready: at the last one a timeout is recorded, which is a step.
+/// Counts a look at which the present call of an active caller was not ready, so that a later iteration looks again. Where it was the
+/// last look that the call may have, the call is recorded with `timeout`.
 fn look_again(
     schedule: &mut ScheduleState,
     alloc: Global,
@@ -139,7 +144,7 @@ fn look_again(
     Ok(())
 }
 
-/// The arguments with which a look found that a call may join its group.
+/// The arguments of the join, where a look found that the call may join; otherwise none.
 fn join_args(look: Evaluation) -> Option<Args>
     ensures { result ≡ join_args look.ready }
 {
@@ -154,7 +159,8 @@ fn join_args(look: Evaluation) -> Option<Args>
     }
 }
 
-/// The join of the present call of an active caller to its group, where a look found that it may; it is a step. (GASPI: collectives)
+/// Makes the join of the present call of an active caller, where a look found that the call may join. The active callers stay as they
+/// were. (GASPI: collectives)
 fn join_group(
     schedule: &mut ScheduleState,
     alloc: Global,
@@ -175,7 +181,8 @@ fn join_group(
     Ok(())
 }
 
-/// The look at the present call of an active caller goes on, which has joined its group: what it finds is no join, and may be recorded.
+/// Looks at the present call of an active caller after its join, in the same iteration: the call is recorded, or counted as a look at
+/// which it was not ready. It does not join once more.
 fn look_joined(
     schedule: &mut ScheduleState,
     alloc: Global,
@@ -199,7 +206,7 @@ fn look_joined(
     }
 }
 
-/// Whether the rank of an active caller has no room for what its present call needs.
+/// Whether the rank of an active caller has less room than its present call needs.
 fn lacks_room(schedule: &ScheduleState, invocation: &Invocation<'_>) -> bool
     requires active { is_active schedule.now.state invocation.now.caller.rank invocation.now.caller.thread ≡ true }
     ensures room { result ≡ lacks_room_in schedule.now.state invocation.now.caller invocation.now.call.now }
@@ -208,7 +215,7 @@ fn lacks_room(schedule: &ScheduleState, invocation: &Invocation<'_>) -> bool
     schedule.state.lacks_room(invocation)
 }
 
-/// The iteration of an active caller whose script goes on.
+/// The iteration of an active caller that has a present call, which is made into an invocation here.
 fn go_on(
     schedule: &mut ScheduleState,
     alloc: Global,
@@ -227,7 +234,8 @@ fn go_on(
     go_on_with(schedule, alloc, limit, index, &invocation, timeout)
 }
 
-/// The iteration of an active caller whose script goes on, with its present call.
+/// The iteration of an active caller that has a present call. Where its rank lacks room, its run ends before the call. Otherwise it
+/// looks: a reply is recorded; a collective that may join joins, and is looked at again; a call that is not ready is counted.
 fn go_on_with(
     schedule: &mut ScheduleState,
     alloc: Global,
@@ -263,7 +271,7 @@ fn go_on_with(
     }
 }
 
-/// The iteration of an active caller.
+/// The iteration of an active caller: its end, where its run is over, and otherwise that of its present call.
 fn caller_iteration(
     schedule: &mut ScheduleState,
     alloc: Global,
@@ -287,7 +295,7 @@ fn caller_iteration(
     }
 }
 
-/// The iteration of a transfer, with the machine's outcome.
+/// The iteration of a transfer, which is made with the outcome that the machine finds. Where it is no step, nothing changes.
 fn transfer_iteration(
     schedule: &mut ScheduleState,
     alloc: Global,
@@ -305,7 +313,7 @@ fn transfer_iteration(
     }
 }
 
-/// The iteration of a candidate: the callers that wait come first, then the transfers that may come next.
+/// The iteration of the candidate with this index: the active callers come first, then the transfers that may come next.
 fn candidate_iteration(
     schedule: &mut ScheduleState,
     alloc: Global,
@@ -325,7 +333,7 @@ fn candidate_iteration(
     }
 }
 
-/// One iteration: a draw picks the candidate. False where there is none, and then nothing has happened.
+/// One iteration: a draw picks a candidate. False where there is no candidate, and then nothing has changed.
 pub fn iterate(schedule: &mut ScheduleState, alloc: Global, limit: u32) -> Result<bool, NoMemory>
     requires { AreActive schedule.old }
     ensures over { result ≡ Ok false → (candidates schedule.old ≡ 0) × (schedule.new ≡ schedule.old) }

@@ -1,4 +1,5 @@
-//! What the commands tell of their inputs.
+//! What each command makes of its input, as a `CommandResult`: of `check` and `why` it is made in `judging`. The statuses and texts of
+//! runs are made here too. `finished` are callers that have ended, with the outcomes of their runs; `told` is the result.
 
 ghost use Rattle.std.specs.Prelude.{◌≡◌, ◌≤◌, ℕ, IfOk, IsErrOf, Err, None, true, false};
 ghost use Rattle.rank_script.specs.WorldText.{world_text};
@@ -27,7 +28,7 @@ use std::alloc::Global;
 use std::sync::Wait;
 use std::thread::Threads;
 
-/// Whether a caller has failed or is stuck.
+/// Whether the run of one of these callers has failed or is stuck.
 fn is_any_wrong(finished: &[EndedCaller]) -> bool
     ensures { result ≡ has_failed_or_stuck finished.now }
 {
@@ -39,7 +40,7 @@ fn is_any_wrong(finished: &[EndedCaller]) -> bool
     })
 }
 
-/// Whether a caller ended at the event limit.
+/// Whether the run of one of these callers ended at the event limit.
 fn is_any_limit(finished: &[EndedCaller]) -> bool
     ensures { result ≡ is_any_limit finished.now }
 {
@@ -48,7 +49,8 @@ fn is_any_limit(finished: &[EndedCaller]) -> bool
         .any(|f| matches!(f.outcome, RunOutcome::Limit { .. }))
 }
 
-/// The status of a run.
+/// The status of `run`, `bench` and `step`: 3 where a caller has failed or is stuck, or else 8 where one ended at the event limit, or
+/// else 0.
 fn run_status(finished: &[EndedCaller]) -> u8
     ensures { result ≡ run_status finished.now }
 {
@@ -61,7 +63,8 @@ fn run_status(finished: &[EndedCaller]) -> u8
     }
 }
 
-/// What is told of a run: what each caller was told, or the journal. Only the former is held.
+/// The result of `run` or `step`. With `brief` its text is the transcripts, which are in memory; otherwise it is that of the journal.
+/// The only failure is out of memory.
 fn told_of_run(
     alloc: Global,
     brief: bool,
@@ -81,7 +84,8 @@ fn told_of_run(
     Ok(CommandResult::with_text(journal, tally, status, text))
 }
 
-/// Runs a world text on threads, with so many workers and that many looks for a call that blocks.
+/// The result of `run`: the input is a world text, whose scripts run on threads, with 1 to 4 workers and `limit` looks for a call that
+/// blocks. The error is the first fault of the text, or out of memory.
 pub fn run_result<R: Threads + Wait + Sync>(
     rt: &R,
     alloc: Global,
@@ -108,7 +112,7 @@ pub fn run_result<R: Threads + Wait + Sync>(
     Ok(told)
 }
 
-/// The text of the numbers of a journal.
+/// The text of bench numbers.
 fn numbers_text(alloc: Global, numbers: Numbers4) -> Result<Bytes, NoMemory>
     ensures { IfOk result (λ text. text ≡ numbers_text numbers) }
 {
@@ -125,7 +129,7 @@ fn numbers_text(alloc: Global, numbers: Numbers4) -> Result<Bytes, NoMemory>
     Ok(text)
 }
 
-/// The numbers of the journal of a world that ran, which is legal.
+/// The bench numbers of a journal, which is legal, since a world ran it. The only failure is out of memory.
 fn numbers_of(alloc: Global, shape: &Shape, journal: &Journal) -> Result<Numbers4, NoMemory>
     requires { is_legal shape.now journal.now ≡ true }
     ensures { IfOk result (λ numbers. AreNumbers shape.now journal.now numbers) }
@@ -137,8 +141,8 @@ fn numbers_of(alloc: Global, shape: &Shape, journal: &Journal) -> Result<Numbers
     }
 }
 
-/// Runs the world of `bench` on threads, with one worker and 100,000,000 looks for a call that blocks, and tells the numbers of its
-/// journal.
+/// The result of `bench`: its world runs on threads, with one worker and 100,000,000 looks for a call that blocks, and its text has
+/// the bench numbers. The only failure is out of memory.
 pub fn bench_result<R: Threads + Wait + Sync>(
     rt: &R,
     alloc: Global,
@@ -166,7 +170,8 @@ pub fn bench_result<R: Threads + Wait + Sync>(
     Ok(CommandResult::with_text(journal, Some(tally), status, text))
 }
 
-/// Runs a world text on one thread, from a seed and with that many looks for a call that blocks.
+/// The result of `step`: the input is a world text, whose scripts run on one thread, from a seed and with `limit` looks for a call
+/// that blocks. The error is the first fault of the text, or out of memory.
 fn step_result(
     alloc: Global,
     seed: u32,
@@ -188,7 +193,8 @@ fn step_result(
     Ok(told)
 }
 
-/// What a command that needs no threads tells of an input, or the first fault of the world text in it.
+/// The result of a command that needs no threads: of `step`, `check` or `why`. The error is the first fault of the world text in the
+/// input, or out of memory.
 pub fn command_result(
     alloc: Global,
     command: Command,

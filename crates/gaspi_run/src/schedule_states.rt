@@ -1,31 +1,40 @@
-//! The schedule of callers and of transfers on one thread, iteration by iteration.
+//! What a schedule has between two iterations. The iterations are in `moves`.
 
 use gaspi_types::{CallerId, Event, Sequence};
 use plain_machine::Machine;
 use rank_script::{Cursor, RunOutcome};
 
-/// A caller that has not ended: how far its run has come, and how many looks its present call has had.
+/// A caller that has not ended.
 #[derive(Debug, Drop)]
 pub struct ActiveCaller<'a> {
+    /// The caller.
     pub caller: CallerId,
+    /// How far the run of its script has come.
     pub cursor: Cursor<'a>,
+    /// How many looks its present call has had.
     pub looks: u32,
 }
 
-/// A caller that has ended, and how its script's run ended.
+/// A caller that has ended, and how the run of its script ended.
 #[derive(Clone, Copy, Debug, PartialEq, Eq)]
 pub struct EndedCaller {
+    /// The caller.
     pub caller: CallerId,
+    /// How the run of its script ended.
     pub outcome: RunOutcome,
 }
 
-/// Where the schedule stands: the generator's number, the machine, the callers that have not ended by rank and thread,
-/// how the others ended, and the events so far.
+/// What a schedule has after some iterations, to which the next one is made.
 #[derive(Debug, Drop)]
 pub struct ScheduleState<'a> {
+    /// The number of the generator.
     pub x: u32,
+    /// The machine, in the state after the events so far.
     pub state: Machine,
+    /// The callers that have not ended, by rank and thread.
     pub active: Sequence<ActiveCaller<'a>>,
+    /// Those that have ended, in the order of their ends.
     pub ended: Sequence<EndedCaller>,
+    /// The events so far.
     pub journal: Sequence<Event>,
 }

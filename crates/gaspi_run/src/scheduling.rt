@@ -1,4 +1,4 @@
-//! The schedule of a world's scripts on one thread.
+//! The schedule of a world's scripts on one thread: its callers at the start, and all its iterations.
 
 ghost use Rattle.std.specs.Prelude.{◌≡◌, ℕ, ◌<◌, ◌≤◌, ◌++◌, OnOk, IfOk, true};
 ghost use Rattle.gaspi_texts.specs.JournalText.{AreInRange, HaveOwnValues};
@@ -18,14 +18,16 @@ use plain_machine::Machine;
 use rank_script::{Cursor, Scripts, runs};
 use std::alloc::Global;
 
-/// What a schedule gave: the events, and how each caller ended, in the order of their ends.
+/// What a schedule gave.
 #[derive(Debug, Drop)]
 pub struct ScheduleResult {
+    /// The scheduled history.
     pub journal: Journal,
+    /// How each caller ended, in the order of their ends.
     pub outcomes: Sequence<EndedCaller>,
 }
 
-/// A caller at its start, added to those before where it has a script.
+/// Appends a caller before its first line to the active ones, where it has a script. Where memory runs out, nothing changes.
 fn add_start<'a>(
     active: &mut Sequence<ActiveCaller<'a>>,
     caller: CallerId,
@@ -43,7 +45,7 @@ fn add_start<'a>(
     })
 }
 
-/// The callers of a rank at their start, by thread, added to those of the ranks before.
+/// Appends the callers of a rank that have a script, by thread, each before its first line. Where memory runs out, some may be there.
 fn add_starts<'a>(
     active: &mut Sequence<ActiveCaller<'a>>,
     rank: u32,
@@ -62,7 +64,8 @@ fn add_starts<'a>(
     Ok(())
 }
 
-/// All callers at their start, by rank and thread. The shape is a world, and no script makes an end by itself.
+/// The active callers at the start, by rank and thread, each before its first line. The contract says also that the shape is that of a
+/// world, and that no script makes an end. The only failure is out of memory.
 fn starts<'a>(
     alloc: Global,
     shape: &Shape,
@@ -80,8 +83,8 @@ fn starts<'a>(
     Ok(active)
 }
 
-/// The scheduled history of a world's scripts, and how each caller ended. A call that blocks has `limit` looks, at least
-/// one; the scripts are those of this shape's callers. Only `NoMemory` is an error.
+/// The scheduled history of a world's scripts, and how each caller ended. A call that blocks has `limit` looks, at least one; the
+/// scripts are those of this shape's callers. The only failure is out of memory.
 pub fn schedule(
     alloc: Global,
     shape: &Shape,

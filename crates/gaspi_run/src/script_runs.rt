@@ -1,4 +1,4 @@
-//! A run of a script, call by call.
+//! A run of a script in a world on threads, call by call, and the end of its caller: for `ScriptBody`.
 
 ghost use Rattle.std.specs.Prelude.{◌≡◌, ◌≢◌, Err, false};
 ghost use Rattle.gaspi_types.specs.CallRows.{row_of};
@@ -26,7 +26,7 @@ use rank_script::{Cursor, RunOutcome, RunStop, runs};
 use std::alloc::Global;
 use std::sync::Wait;
 
-/// Makes one call.
+/// Makes one call by the pass of its caller.
 fn make<R: Wait>(
     rt: &R,
     alloc: Global,
@@ -43,7 +43,7 @@ fn make<R: Wait>(
     Rank { world, pass }.call(rt, alloc, call, timeout)
 }
 
-/// Goes on after what came of the present call.
+/// Moves a cursor on after its present call: by the reply, or to the end of the run where the call was stopped.
 fn move_on(cursor: &mut Cursor, made: Result<Reply, Stop>)
     ensures { cursor.new ≡ moved cursor.old made }
 {
@@ -54,7 +54,8 @@ fn move_on(cursor: &mut Cursor, made: Result<Reply, Stop>)
     }
 }
 
-/// Makes the calls of the script of a body until its run is over.
+/// Makes the calls of the script of a body, from its first line until its run is over, and gives how the run ended. The body's outcome
+/// is not set, and the caller's end is not made.
 pub(crate) fn run_lines<R: Wait>(
     rt: &R,
     alloc: Global,
@@ -82,7 +83,7 @@ pub(crate) fn run_lines<R: Wait>(
     body.cursor.outcome().unwrap()
 }
 
-/// Makes the end of a caller, which is recorded and done where the caller has not ended.
+/// Makes the end of a caller. Where the caller has made none before, it is recorded, and its reply is `done`.
 pub(crate) fn end<R: Wait>(rt: &R, alloc: Global, world: &World, pass: &mut Pass)
     requires pass { MayCall world.now pass.old }
     ensures table { pass.new.table ≡ pass.old.table }

@@ -1,4 +1,5 @@
-//! The parts of a world with their passes: made, run, and told apart.
+//! The tasks of a world's threads, a body with a pass for each: made of scripts and passes, run, and taken apart. `place` is the index
+//! of a pass in the list of all, which is its number; those of callers come first.
 
 ghost use Rattle.std.specs.Prelude.{◌≡◌, ◌+◌, ◌<◌, ◌≤◌, IfOk, OnOk, OnErr, map, length, option_to_list};
 ghost use Rattle.std.specs.List.{All};
@@ -18,14 +19,17 @@ use std::alloc::Global;
 use std::sync::Wait;
 use std::thread::Threads;
 
-/// The passes of a world once its parts have run, and how its callers ended, by rank and thread.
+/// What is left when the bodies of a world have run.
 #[derive(Drop)]
 pub(crate) struct ThreadsResult {
+    /// All passes of the world, by their numbers.
     pub passes: Passes,
+    /// How its callers ended, by rank and thread.
     pub outcomes: Sequence<EndedCaller>,
 }
 
-/// The script of the caller whose pass this is, to be run. What its run takes of memory for the script is taken here.
+/// The body of the caller whose pass this is: its script, before the first line. The memory that a run takes for its script is taken
+/// here, which is the only failure.
 fn caller_body<'a>(
     alloc: Global,
     world: &World,
@@ -52,7 +56,7 @@ fn caller_body<'a>(
     }))
 }
 
-/// What the thread with a pass does, where the passes of the callers stand first.
+/// The body for a pass: that of its caller, or that of a worker. The only failure is out of memory.
 fn thread_body<'a>(
     alloc: Global,
     world: &World,
@@ -75,7 +79,7 @@ fn thread_body<'a>(
     })
 }
 
-/// A pass with what its thread does.
+/// The task of a pass. The only failure is out of memory.
 fn task_of<'a>(
     alloc: Global,
     world: &World,
@@ -93,7 +97,7 @@ fn task_of<'a>(
     Ok(Task { body, pass })
 }
 
-/// A task for each pass, in their order.
+/// The tasks of all passes of a world, in their order. The only failure is out of memory.
 fn tasks_of<'a>(
     alloc: Global,
     world: &World,
@@ -115,7 +119,7 @@ fn tasks_of<'a>(
     Ok(tasks)
 }
 
-/// Runs the tasks, each on a thread of its own.
+/// Runs the tasks by `launch`, for `run_tasks`.
 fn run_slice<R: Threads + Wait + Sync>(
     rt: &R,
     alloc: Global,
@@ -129,7 +133,7 @@ fn run_slice<R: Threads + Wait + Sync>(
     launch(rt, alloc, world, tasks);
 }
 
-/// Runs the tasks, each on a thread of its own.
+/// Runs the tasks, each on a thread of its own. The list keeps its order.
 fn run_tasks<R: Threads + Wait + Sync>(
     rt: &R,
     alloc: Global,
@@ -143,7 +147,8 @@ fn run_tasks<R: Threads + Wait + Sync>(
     run_slice(rt, alloc, world, tasks.as_mut_slice());
 }
 
-/// How the caller of a part ended, where it is a caller's. Only a caller that found no memory, or that has not run, is an error.
+/// How the caller of a body ended; none of a worker's body. Out of memory where the caller's run ended so, or where the body has not
+/// run.
 fn ended_caller(part: &ThreadBody<'_>) -> Result<Option<EndedCaller>, NoMemory>
     ensures finished { IfOk result (λ finished. option_to_list finished ≡ ended_caller part.now) }
     ensures told { OnOk result (IsDone part.now) }
@@ -161,7 +166,8 @@ fn ended_caller(part: &ThreadBody<'_>) -> Result<Option<EndedCaller>, NoMemory>
     }
 }
 
-/// How the callers ended, of whom there are so many, in the order of the tasks.
+/// How the callers ended, in the order of their tasks; `callers` is how many there are. Out of memory also where a caller's run ended
+/// so.
 fn ended_callers_of(
     alloc: Global,
     callers: usize,
@@ -179,7 +185,7 @@ fn ended_callers_of(
     Ok(outcomes)
 }
 
-/// The passes of the tasks, in their order.
+/// The passes of the tasks, in their order. The only failure is out of memory; then the passes are gone.
 fn passes_of(alloc: Global, tasks: Vec<Task<ThreadBody<'_>>>) -> Result<Passes, NoMemory>
     ensures { IfOk result (λ passes. passes.items ≡ map (λ t. t.pass) tasks.entry.items) }
 {
@@ -190,8 +196,8 @@ fn passes_of(alloc: Global, tasks: Vec<Task<ThreadBody<'_>>>) -> Result<Passes, 
     Ok(passes)
 }
 
-/// Runs the scripts of a world and makes its transfers, each caller and each worker on a thread of its own. Only `NoMemory`
-/// is an error.
+/// Runs the scripts of a world and makes its transfers, each caller and each worker on a thread of its own. `passes` are all passes of
+/// the world, which have done nothing. The only failure is out of memory, also that of a script's run; then the passes are gone.
 pub(crate) fn run_bodies<R: Threads + Wait + Sync>(
     rt: &R,
     alloc: Global,

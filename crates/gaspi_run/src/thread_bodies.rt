@@ -1,4 +1,4 @@
-//! What the threads of a world do: each runs the script of a caller, or makes transfers.
+//! The bodies of a world's threads: each runs the script of a caller, or makes transfers.
 
 ghost use Rattle.std.specs.Prelude.{◌≡◌, ℕ};
 ghost use Rattle.commit_table.specs.Calls.{IsOf, HoldsNone};
@@ -12,16 +12,16 @@ use std::alloc::Global;
 use std::sync::Wait;
 use transfer_worker::Worker;
 
-/// What a thread of a world does.
+/// What a thread of a world does with its pass.
 #[derive(Drop)]
 pub(crate) enum ThreadBody<'a> {
-    /// It runs the script of a caller.
+    /// It runs the script of the caller whose pass it has.
     Caller(ScriptBody<'a>),
-    /// It makes transfers until none is left. Its first turn begins at the rank of that number.
+    /// It makes transfers until the world is settled. Its first turn has this number.
     Worker { turns: u64 },
 }
 
-/// Makes transfers by the pass of a worker until none is left.
+/// Makes transfers by the pass of a worker until the world is settled, from the turn of this number on.
 fn drain<R: Wait>(rt: &R, world: &World, pass: &mut Pass, turns: u64)
     requires pass { IsOf world.now pass.old }
     requires free { HoldsNone pass.old.known }

@@ -21,15 +21,18 @@ use std::alloc::Global;
 use std::sync::Wait;
 use std::thread::Threads;
 
-/// What a run on threads gave: the events, what is known of the closed world, and how each caller ended, by rank and thread.
+/// What the scripts of a world on threads gave.
 #[derive(Drop)]
 pub struct RunResult {
+    /// The history of the world.
     pub journal: Journal,
+    /// What is known of the closed world.
     pub tally: Tally,
+    /// How each caller ended, by rank and thread.
     pub outcomes: Sequence<EndedCaller>,
 }
 
-/// Ends a world.
+/// Ends a world with all its passes, for `run_on_threads`. The only failure is out of memory; then the world is gone.
 fn closed(alloc: Global, world: World, passes: Passes) -> Result<(Journal, Tally), NoMemory>
     requires { AreWhole world passes.items }
     ensures tally { IfOk result (λ r. (r.1.start ≡ Some world.start) × (r.1.journal ≡ r.0)) }
@@ -46,8 +49,9 @@ fn closed(alloc: Global, world: World, passes: Passes) -> Result<(Journal, Tally
     }
 }
 
-/// Runs the scripts of a world on threads, with so many workers that make its transfers. A call that blocks has `limit` looks,
-/// at least one; the scripts are those of this shape's callers. Only `NoMemory` is an error.
+/// Runs the scripts of a world, each on a thread, beside 1 to 4 workers, which make the transfers. A call that blocks has `limit`
+/// looks, at least one; the scripts are those of this shape's callers. The only failure is out of memory, and then no history is
+/// answered.
 pub fn run_on_threads<R: Threads + Wait + Sync>(
     rt: &R,
     alloc: Global,

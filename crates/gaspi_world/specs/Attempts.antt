@@ -1,4 +1,4 @@
--- What an attempt of a call tells.
+-- What an attempt of a call came to.
 use Rattle.std.specs.Prelude.{◌≡◌, ◌⊎◌, ℕ, Bool, true, false, List, [], ◌∷◌, ◌++◌, length, Option, None, Some, Result, Ok, Err}
 use mathlib.Core.List.{IsPrefix}
 use Rattle.gaspi_types.specs.World.{ShapeValue}
@@ -25,7 +25,7 @@ use Rattle.gaspi_world.specs.WorldMachine.{world_machine}
 use Rattle.gaspi_world.specs.declared.attempts.Halt.{Halt}
 use Rattle.gaspi_world.specs.declared.attempts.Halt.TheVariants.{Busy, NotYet, NoMemory, EventLimit}
 
--- neither refused nor ready: a collective may still join, or it waits
+-- neither refused nor ready: a collective may still join, or the call waits
 abbrev pub is_unready : Option Ready → Bool
 is_unready None = false
 is_unready (Some (ready.Reply reply)) = false
@@ -33,7 +33,7 @@ is_unready (Some (ready.Join args)) = true
 is_unready (Some ready.NotReady) = true
 
 module _ (w : ShapeValue) (c : CallerId) (call : Call) where
-  -- what a look at the call answers after a history
+  -- what a look at the call finds after a history; none after one that is not legal
   abbrev pub answer_after : List Event → Option Ready
   answer_after history = found_in (reached w history)
     where
@@ -41,7 +41,7 @@ module _ (w : ShapeValue) (c : CallerId) (call : Call) where
       found_in (Err why) = None
       found_in (Ok s) = answer_in s c.rank c.thread call
 
-  -- the same after a history
+  -- after a history the caller's rank has no room for what the call needs
   abbrev pub lacks_room_after : List Event → Bool
   lacks_room_after history = full_in (reached w history)
     where
@@ -49,7 +49,7 @@ module _ (w : ShapeValue) (c : CallerId) (call : Call) where
       full_in (Err why) = false
       full_in (Ok s) = lacks_room_in s c call
 
-  -- a collective is pending for the caller on the group that the call names
+  -- after a history a collective is pending for the caller on the group that the call names
   abbrev pub is_pending_after : List Event → Bool
   is_pending_after history = pending_in (reached w history)
     where
@@ -141,6 +141,7 @@ module _ {S : Type 0} (w : ShapeValue) (c : CallerId) where
     pub goes_on : IsExtended v n
     pub missed : IsMissed (world_machine w) v (IsEither c.rank (call_other w c call)) n
 
+  -- what an attempt came to: recorded with a reply, or why not
   abbrev pub Attempted : Call → Look → PassView S Event → Result Reply Halt → PassView S Event → Type 0
   Attempted call look v (Ok reply) n = IsRecorded call look reply v n
   Attempted call look v (Err Busy) n = IsBusy call v n

@@ -1,4 +1,4 @@
--- What a call tells, which may look more than once.
+-- What a call came to, which may look more than once.
 use Rattle.std.specs.Prelude.{◌≡◌, ℕ, ◌+◌, ◌<◌, Bool, true, false, List, [], ◌∷◌, ◌++◌, map, length, slice_get, Some, Result, Ok, Err}
 use mathlib.Core.List.{IsPrefix}
 use Rattle.gaspi_types.specs.CallRows.{is_collective, row_of}
@@ -53,7 +53,8 @@ module _ {S : Type 0} (w : ShapeValue) (c : CallerId) where
 
   -- The call was recorded with its reply, once, after all its looks, and what is seen ends with it. It took no more looks than its
   -- timeout has. At the earlier ones it was neither refused nor ready. At each look, the last one too, its rank had room for it. A
-  -- timeout comes when all looks are spent, and the call is neither refused nor ready at the last one. No shard was missed but the call's own.
+  -- timeout comes when all looks are spent, and the call is neither refused nor ready at the last one. No shard was missed but the
+  -- call's own.
   pub record IsCalled (call : Call) (timeout : timeouts.Timeout) (reply : Reply) (v n : PassView S Event) : Type 0 where
     pub goes_on : IsExtended w c v n
     pub earlier : List (List Event)

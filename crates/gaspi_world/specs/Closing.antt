@@ -17,12 +17,12 @@ abbrev pub journals_of : WorldShard → List (List PlacedEvent)
 journals_of (shards.Rank node) = node.value.posts.journal ∷ []
 journals_of (shards.Group node) = []
 
--- those of these shards
+-- the rank journals in these shards, in order
 abbrev pub rank_journals : List WorldShard → List (List PlacedEvent)
 rank_journals values = flat_map journals_of values
 
 module _ {S : Type 0} where
-  -- each pass saw a beginning of the journal
+  -- each pass saw a prefix of the journal
   abbrev pub HaveSeen : List Event → List (PassValue S Event) → Type 0
   HaveSeen journal passes = (k : ℕ) (p : PassValue S Event) → slice_get passes k ≡ Some p → IsPrefix p.known.seen journal
 

@@ -18,12 +18,13 @@ use Rattle.gaspi_world.specs.Numbering.{Numbering, by_ranks}
 use Rattle.gaspi_world.specs.ShardLaws.{limits-are}
 use Rattle.gaspi_world.specs.ShardMachine.{state_after}
 
--- the parts of the state of a world with so many ranks
+-- a part of the state of a world with this number of ranks
 abbrev pub IsPart : ℕ → Shard → Type 0
 IsPart ranks (parts.Posts rank) = rank < ranks
 IsPart ranks (parts.Memory rank) = rank < ranks
 IsPart ranks (parts.Group id) = id < 8
 
+-- all of a list are
 abbrev pub AreParts : ℕ → List Shard → Type 0
 AreParts ranks [] = Unit {0}
 AreParts ranks (part ∷ list) = IsPart ranks part × AreParts ranks list

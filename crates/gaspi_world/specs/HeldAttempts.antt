@@ -32,7 +32,7 @@ use Rattle.gaspi_world.specs.declared.attempts.Halt.TheVariants.{Busy, NotYet, N
 use Rattle.gaspi_world.specs.declared.holding.HeldShards.{HeldShards}
 use Rattle.gaspi_world.specs.declared.starts.Start.{Start}
 
--- a call that is not ready waits for another look where there may be one
+-- a call that is not ready is left for a later look, where there may be one
 abbrev pub waits_for_later_look : Ready → Look → Bool
 waits_for_later_look ready.NotReady More = true
 waits_for_later_look ready.NotReady Final = false
@@ -76,7 +76,7 @@ module _ (w : ShapeValue) (c : CallerId) (call : Call) where
   FoundFits ready.NotReady room = Unit {0}
 
 module _ {S : Type 0} (w : ShapeValue) (c : CallerId) (call : Call) where
-  -- a call was recorded as a look found it, or it is early, or there was no memory
+  -- a call was recorded as a look found it; or it is left for a later look, or memory ran out, and nothing has changed
   abbrev pub IsDecided : Ready → Look → PassView S Event → Result Reply Halt → PassView S Event → Type 0
   IsDecided found look v (Ok reply) n = (reply ≡ recorded_reply found) × (waits_for_later_look found look ≡ false) × IsCommitted w v (Called c call reply) n
   IsDecided found look v (Err NotYet) n = (waits_for_later_look found look ≡ true) × (n ≡ v)
@@ -98,6 +98,7 @@ module _ {S : Type 0} (w : ShapeValue) (c : CallerId) (call : Call) where
     pub party : n.party ≡ v.party
     pub start : n.start ≡ v.start
 
+  -- what an attempt came to while its shards were held, after its look
   abbrev pub AttemptedWhileHeld : Look → PassView S Event → Result Reply Halt → PassView S Event → Type 0
   AttemptedWhileHeld look v (Ok reply) n =
       (joins : List Event) × CommittedWhileHeld joins (Called c call reply ∷ []) v n × (lacks_room_after w c call v.seen ≡ false)

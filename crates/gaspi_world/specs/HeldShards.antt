@@ -22,6 +22,7 @@ other_value (Some i) Nothing = []
 other_value (Some i) (Rank node) = (i, shards.Rank node) ∷ []
 other_value (Some i) (Group node) = (i, shards.Group node) ∷ []
 
+-- the numbers and values of the held shards, the own one first
 abbrev pub values_of : HeldShards → List (ℕ × WorldShard)
 values_of h = (h.own, shards.Rank h.nodes.own) ∷ other_value h.other h.nodes.other
 
@@ -39,7 +40,7 @@ abbrev pub IsOtherShard : ShapeValue → ℕ → Option ℕ → Type 0
 IsOtherShard w own None = Unit {0}
 IsOtherShard w own (Some other) = (other < w.limits.ranks + 8) × (other ≡ own → ⊥)
 
--- what is left where the shards were given back
+-- what a pass knows after it gave back the own shard, and the other where there is one
 abbrev pub left_by : {S : Type 0} → ℕ → Option ℕ → PassView S Event → PassView S Event
 left_by own None v = after_give_back v own
 left_by own (Some other) v = after_give_back (after_give_back v other) own
@@ -52,7 +53,7 @@ module _ {S : Type 0} (w : ShapeValue) where
     pub own : h.own < w.limits.ranks
     pub apart : IsOtherShard w h.own h.other
 
-  -- an event was committed behind what had been seen; others may have been committed between, on other shards
+  -- an event was committed after what had been seen; other passes may have committed between, on other shards
   abbrev pub IsCommitted : PassView S Event → Event → PassView S Event → Type 0
   IsCommitted v e n = held.IsCommitted (by_ranks w) w (party_of w) v e n
 

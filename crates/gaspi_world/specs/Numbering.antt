@@ -15,5 +15,6 @@ rank_number ranks (parts.Posts rank) = rank
 rank_number ranks (parts.Memory rank) = rank
 rank_number ranks (parts.Group id) = ranks + id
 
+-- the numbering by ranks, of a world of this shape
 abbrev pub by_ranks : ShapeValue → Numbering
 by_ranks w = record { shards = w.limits.ranks + 8; number = rank_number w.limits.ranks }

@@ -1,4 +1,4 @@
--- What stands for the start: a rank's posts and memory with no event, and a group.
+-- What stands for the opening state: a rank's posts and memory with no event, and a group.
 use Rattle.std.proofs.Common.{◌≡◌, ℕ, ◌+◌, ◌-◌, ◌<◌, List, [], length, Option, Some, sym, ap, ◌∙◌, subst, arith, map}
 use mathlib.Core.Logic.{dite}
 use native.Mathlib.Decide.{dec_lt}
@@ -13,7 +13,7 @@ use Rattle.gaspi_types.specs.declared.events.Event.{Event}
 use Rattle.gaspi_world.specs.Numbering.{by_ranks}
 use Rattle.gaspi_world.specs.ShardMachine.{Meaning, HasParts, shard_machine}
 
--- what stands at a place of a list made from numbers
+-- what is at an index of a list made from numbers
 made-at : {A : Type 0} (f : ℕ → A) (n i : ℕ) (x : A) → slice_get (map f (range_with_len 0 n)) i ≡ Some x → (x ≡ f i) × (i < n)
 made-at f n i x at =
     let from = map-at f (range_with_len 0 n) i x at in

@@ -4,10 +4,11 @@ use Rattle.gaspi_types.specs.declared.events.Event.{Event}
 use Rattle.gaspi_types.specs.declared.events.PlacedEvent.{PlacedEvent}
 use Rattle.gaspi_model.specs.Step.{owner_of}
 
+-- an event with its place
 abbrev pub placed_at : ℕ → Event → PlacedEvent
 placed_at place e = record { place = place; event = e }
 
--- what one event at a place adds to the events of a rank
+-- what an event at a place adds to the rank journal of a rank: itself, or nothing where another rank owns it
 abbrev pub recorded_by : ℕ → ℕ → Event → List PlacedEvent
 recorded_by rank place e = cond (eqb rank (owner_of e)) (placed_at place e ∷ []) []
 
@@ -16,10 +17,11 @@ abbrev pub journal_from : ℕ → ℕ → List Event → List PlacedEvent
 journal_from rank place [] = []
 journal_from rank place (e ∷ h) = recorded_by rank place e ++ journal_from rank (suc place) h
 
+-- the rank journal of a rank after a history
 abbrev pub journal_of : ℕ → List Event → List PlacedEvent
 journal_of rank h = journal_from rank 0 h
 
--- one event behind the others
+-- one event after the others
 from-last : (rank place : ℕ) (h : List Event) (e : Event) → journal_from rank place (h ++ e ∷ []) ≡ journal_from rank place h ++ recorded_by rank (place + length h) e
 from-last rank place [] e = append-nil (recorded_by rank place e) ∙ ap (λ (k : ℕ). recorded_by rank k e) (omega arith)
 from-last rank place (x ∷ h) e =
@@ -33,6 +35,6 @@ journal-last rank h e = from-last rank 0 h e ∙ ap (λ (k : ℕ). journal_of ra
 pub none-noted : (rank place : ℕ) (e : Event) → rank ≢ owner_of e → recorded_by rank place e ≡ []
 none-noted rank place e ne = ap (λ (b : Bool). cond b (placed_at place e ∷ []) []) (ne_eqb rank (owner_of e) ne)
 
--- and one of its own stands at its place
+-- and an event of its own adds itself with its place
 pub own-noted : (rank place : ℕ) (e : Event) → rank ≡ owner_of e → recorded_by rank place e ≡ placed_at place e ∷ []
 own-noted rank place e is = ap (λ (b : Bool). cond b (placed_at place e ∷ []) []) (eq-eqb rank (owner_of e) is)

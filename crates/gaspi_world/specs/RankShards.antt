@@ -23,7 +23,7 @@ use Rattle.gaspi_world.specs.Numbering.{rank_number, by_ranks}
 use Rattle.gaspi_world.specs.ShardLaws.{limits-are}
 use Rattle.gaspi_world.specs.ShardMachine.{state_after}
 
--- a shard is the owner's, or the other one
+-- a shard is the own one, or the other one where there is one
 abbrev pub IsEither : ℕ → Option ℕ → ℕ → Type 0
 IsEither own None i = i ≡ own
 IsEither own (Some other) i = (i ≡ own) ⊎ (i ≡ other)
@@ -38,7 +38,7 @@ rank_other ranks (PeerPosts rank) = Some rank
 rank_other ranks (Group id) = Some (ranks + id)
 rank_other ranks (GroupAndMemory id) = Some (ranks + id)
 
--- the other shard of a call, which its words alone tell
+-- the other shard of a call, which its footprint alone says, before anything is taken
 abbrev pub call_other : ShapeValue → CallerId → Call → Option ℕ
 call_other w c call = rank_other w.limits.ranks (footprint_of w.limits.ranks c.rank (row_of call).footprint)
 
@@ -118,7 +118,7 @@ event-either w h e posts i legal at among =
     let limits = limits-are w h legal in
     footprint-either w.limits.ranks (owner_of e) i (event_footprint w.limits posts e) (subst (λ (l : _). list_any (eqb i) (map number (footprint_shards (owner_of e) (event_footprint l posts e))) ≡ true) limits there)
 
--- Those of a call are told before anything is taken.
+-- Those of a call are known before anything is taken.
 pub call-either : (w : ShapeValue) (h : List Event) (c : CallerId) (call : Call) (reply : Reply) (posts : Posts) (i : ℕ) → is_legal w h ≡ true → slice_get (state_after w h).posts c.rank ≡ Some posts
     → list_any (eqb i) (numbers_of (by_ranks w).number (state_after w h) (Called c call reply)) ≡ true → IsEither c.rank (call_other w c call) i
 call-either w h c call reply posts i legal at among = event-either w h (Called c call reply) posts i legal at among

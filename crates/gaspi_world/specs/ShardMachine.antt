@@ -18,8 +18,8 @@ use Rattle.commit_table.specs.Machine.{Machine}
 use Rattle.gaspi_world.specs.Numbering.{Numbering}
 use Rattle.gaspi_world.specs.RankJournals.{journal_of}
 
--- What a value of a shard stands for: the posts of a rank with its part of the journal, the memory of a rank, or a group. It may
--- be a relation, as a value may keep less than the state has.
+-- What a value of a shard stands for: the posts of a rank with its rank journal, the memory of a rank, or a group. It may be a
+-- relation, as a value may keep less than the state has.
 pub record Meaning (X : Type 0) : Type 1 where
   pub IsPosts : X → ℕ → Posts → List PlacedEvent → Type 0
   pub IsMemory : X → ℕ → Memory → Type 0
@@ -30,6 +30,7 @@ abbrev pub state_in : ShapeValue → Result State Why → State
 state_in w (Ok s) = s
 state_in w (Err why) = opening w
 
+-- the state after a history; after one that is not legal, the opening state
 abbrev pub state_after : ShapeValue → List Event → State
 state_after w h = state_in w (reached w h)
 
@@ -53,6 +54,7 @@ module _ (n : Numbering) (w : ShapeValue) where
     pub state : SameAt i (state_after w h) (state_after w k)
     pub journals : (rank : ℕ) → n.number (parts.Posts rank) ≡ i → journal_of rank h ≡ journal_of rank k
 
+  -- the machine in shards, for a numbering
   abbrev pub shard_machine : {X : Type 0} → Meaning X → (Event → Option ℕ) → Machine X Event
   shard_machine {X} m party = record {
     shards = n.shards;

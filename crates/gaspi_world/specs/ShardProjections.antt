@@ -16,7 +16,7 @@ use Rattle.gaspi_world.specs.Numbering.{Numbering}
 use Rattle.gaspi_world.specs.RankJournals.{recorded_by}
 use Rattle.gaspi_world.specs.ShardMachine.{Meaning, state_after, HasParts, IsValueAfter, AgreeAt, shard_machine}
 
--- the value of a shard, of those that a pass holds
+-- the value of the shard with this number, among the values that a pass holds
 abbrev pub value_at : {X : Type 0} → List (ℕ × X) → ℕ → Option X
 value_at [] i = None
 value_at (v ∷ values) i = cond (eqb i v.0) (Some v.1) (value_at values i)
@@ -66,7 +66,7 @@ module _ {S X E : Type 0} (m : Machine X E) where
     pub seen : IsPrefix v.seen first
 
 module _ {S : Type 0} (n : Numbering) (w : ShapeValue) (party : Event → Option ℕ) where
-  -- an event was committed, behind a history that goes on from what had been seen and agrees with it on the event's shards
+  -- an event was committed, after a history that goes on from what had been seen and agrees with it on the event's shards
   pub record IsCommitted (v : PassView S Event) (e : Event) (u : PassView S Event) : Type 0 where
     pub before : List Event
     pub seen : u.seen ≡ before ++ e ∷ []

@@ -1,4 +1,4 @@
--- What a try to make a transfer of a rank tells.
+-- What a try to make transfers of a rank came to.
 use Rattle.std.specs.Prelude.{◌≡◌, ◌≢◌, ◌==◌, ◌<◌, ◌⊎◌, eqb, ℕ, Bool, true, false, List, [], ◌∷◌, ◌++◌, length, Some, Ok, slice_get}
 use Rattle.std.specs.List.{list_any}
 use mathlib.Core.List.{IsPrefix}
@@ -30,7 +30,7 @@ use Rattle.gaspi_world.specs.declared.transfers.Tried as tried
 use Rattle.gaspi_world.specs.declared.transfers.Tried.TheVariants.{Still, Ready}
 use Rattle.gaspi_world.specs.declared.transfers.Tried.TheVariants as tries
 
--- a take or a put of an origin
+-- an event is a take or a put of entries of this origin
 abbrev pub is_transfer_of : ℕ → Event → Bool
 is_transfer_of origin (Called c call reply) = false
 is_transfer_of origin (Joined c id args) = false
@@ -49,7 +49,8 @@ module _ {S X E : Type 0} (m : Machine X E) where
     pub before : List LockRecord
     pub first : (p : ℕ) → v.party ≡ Some p → n.lock_history ≡ record { shard = shard; party = p; op = lock_op.Missed } ∷ before
     pub met : Extends v.lock_history before
-    -- the pass's own lock operations before the miss, and all of them: it took the origin's shard, missed the other one, and gave the first back
+    -- the pass's own lock operations before the miss, and all of them: it took the origin's shard, missed the other one, and gave the
+    -- first back
     pub tried : (p : ℕ) → v.party ≡ Some p → lock_operations_by p before ≡ (origin, lock_op.Took) ∷ v.lock_operations
     pub lock_operations : n.lock_operations ≡ (origin, lock_op.GaveBack) ∷ (shard, lock_op.Missed) ∷ (origin, lock_op.Took) ∷ v.lock_operations
     pub other : ℕ
@@ -69,10 +70,11 @@ module _ (w : ShapeValue) where
   abbrev pub HasNoEnabledTransfer : List Event → ℕ → Type 0
   HasNoEnabledTransfer history origin = (s : State) → reached w history ≡ Ok s → (k : ℕ) (t : Transfer) → slice_get (transfers s.limits s.posts) k ≡ Some t → t.origin ≢ origin
 
-  -- after a history a thread of a rank has not ended; all have
+  -- after a history a thread of this rank is active
   abbrev pub HasActive : List Event → ℕ → Type 0
   HasActive history rank = (s : State) × (reached w history ≡ Ok s) × ((thread : ℕ) × (is_active s rank thread ≡ true))
 
+  -- after a history no thread of this rank is active
   abbrev pub HaveEnded : List Event → ℕ → Type 0
   HaveEnded history rank = (s : State) → reached w history ≡ Ok s → (thread : ℕ) → is_active s rank thread ≡ false
 
@@ -105,11 +107,11 @@ module _ (w : ShapeValue) where
     pub own : h.own ≡ t.origin
     pub other : (e : Entry) → front_entry h.nodes.own.value.posts t ≡ Some e → h.other ≡ rank_other w.limits.ranks (transfer_footprint w.limits.ranks t e.kind)
 
-  -- one transfer of the origin was committed behind what had been seen
+  -- one transfer of the origin was committed, after what had been seen
   abbrev pub IsMovedBehind : {S : Type 0} → ℕ → PassView S Event → PassView S Event → Type 0
   IsMovedBehind origin v n = (e : Event) × (is_transfer_of origin e ≡ true) × IsCommitted w v e n
 
-  -- what comes of a try to take the shards of the next transfer of a rank
+  -- what a try to take the shards of the next transfer of a rank came to; only Ready holds shards
   abbrev pub Tries : {S : Type 0} → ℕ → PassView S Event → tried.Tried → PassView S Event → Type 0
   Tries origin v tries.Busy n = HoldsNone n × IsBusyMove origin v n
   Tries origin v (Still true) n = HoldsNone n × IsLookedOnly (world_machine w) v n × HasNoEnabledTransfer n.seen origin × HaveEnded n.seen origin
@@ -129,11 +131,11 @@ module _ (w : ShapeValue) where
     pub party : n.party ≡ v.party
     pub start : n.start ≡ v.start
 
-  -- one at least
+  -- as HasMoved, with one transfer at least
   abbrev pub HasMovedOne : {S : Type 0} → ℕ → PassView S Event → PassView S Event → Type 0
   HasMovedOne origin v n = (moved : HasMoved origin v n) × (0 < length moved.places)
 
-  -- one transfer of the origin was committed or several; else as of a try to make one
+  -- one transfer of the origin was committed, or several; otherwise as Transfers
   abbrev pub MovesOn : {S : Type 0} → ℕ → PassView S Event → Moving → PassView S Event → Type 0
   MovesOn origin v Moved n = HasMovedOne origin v n × (is_legal w n.seen ≡ true)
   MovesOn origin v Busy n = Transfers origin v Busy n

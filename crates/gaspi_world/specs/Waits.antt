@@ -20,7 +20,7 @@ module _ (w : ShapeValue) (c : CallerId) where
     pub since : (k : ℕ) (other : Call) (reply : Reply) → k < place → slice_get history k ≡ Some (Called c other reply) → k < look
     pub unready : is_unready (answer_after w c call (take look history)) ≡ true
 
-  -- so many of these looks, one behind another, were looks of that call
+  -- n of these looks, one after another, were looks of that call
   pub record HasLooks (call : Call) (history : List Event) (place : ℕ) (looks : List ℕ) (n : ℕ) : Type 0 where
     pub before : List ℕ
     pub these : List ℕ
@@ -35,8 +35,8 @@ module _ (w : ShapeValue) (c : CallerId) where
       (place : ℕ) (call : Call) (n : ℕ) → slice_get history place ≡ Some (Called c call Timeout) → slice_get ns (length (recorded_calls c.rank c.thread (take place history))) ≡ Some n
       → HasLooks call history place looks n
 
-  -- So it is of what the pass of the caller has seen, where ns has a number for each of its calls, in order; and what it has seen has
-  -- them all.
+  -- Waited holds of what the pass of the caller has seen, where ns has a number for each of the caller's recorded calls, in order; and
+  -- what it has seen has all these calls.
   pub record HaveWaited {S : Type 0} (ns : List ℕ) (v : PassView S Event) : Type 0 where
     pub waited : Waited v.seen v.looks ns
     pub each : length ns ≡ length (recorded_calls c.rank c.thread v.mine)

@@ -1,4 +1,4 @@
--- The machine that the threads of a world commit: each rank has a shard, and then each group.
+-- The machine that the threads of a world commit, in shards by ranks: each rank has a shard, and then each group.
 use Rattle.gaspi_types.specs.World.{ShapeValue}
 use Rattle.gaspi_types.specs.declared.events.Event.{Event}
 use Rattle.gaspi_model.specs.Parties.{party_of}

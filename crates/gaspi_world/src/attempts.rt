@@ -1,4 +1,5 @@
-//! One attempt to make a call, which never waits.
+//! One attempt to make a call, and what it is made of, in this order: shards, room, answer, memory, join, record. Nothing here waits.
+//! `found` is what the look found; `told` is what the caller gets.
 
 ghost use Rattle.std.specs.Prelude.{◌≡◌, ◌≢◌, ◌≤◌, ◌<◌, ℕ, false, Some, None, Err, IsSome, IfOk, IfErr};
 ghost use Rattle.gaspi_types.specs.CallRows.{row_of};
@@ -25,20 +26,22 @@ use gaspi_types::{Args, Call, CallRow, GroupId, Invocation, Ready, Reply};
 use rank_node::{Look, Room};
 use std::alloc::Global;
 
-/// Why an attempt made no call. The pass holds no shard then, and its own calls are as they were.
+/// Why an attempt recorded no call. The pass holds no shard then. Only after `NotYet` may the attempt have committed an event, the
+/// join.
 #[derive(Clone, Copy, Debug, PartialEq, Eq)]
 pub enum Halt {
-    /// Another thread held a shard of the call, which was missed. It was no look.
+    /// A shard of the call was missed, since another pass held it. No look was made.
     Busy,
-    /// The call is not ready, at a look that was not the last. A collective is pending then. (GASPI: timeouts)
+    /// The call is not ready, at a look that was not the last. A collective is pending then: it joined now or at an earlier look.
+    /// (GASPI: timeouts)
     NotYet,
-    /// There was no memory. Nothing has changed.
+    /// Memory ran out, after the look.
     NoMemory,
     /// The caller's rank has no room for the events that the call needs.
     EventLimit,
 }
 
-/// The reply with which a call is recorded as it was found.
+/// The reply with which a call is recorded: the one that was found, or else `timeout`.
 fn recorded_reply(found: Ready) -> Reply
     ensures { result ≡ recorded_reply found }
 {
@@ -48,7 +51,7 @@ fn recorded_reply(found: Ready) -> Reply
     }
 }
 
-/// The arguments with which a call that was found so may join its group; where it may not, what was found.
+/// The arguments of the join, where the look found that the call may join; otherwise what it found.
 fn join_args(found: Ready) -> Result<Args, Ready>
     ensures joins { IfOk result (λ args. found ≡ ready.Join args) }
     ensures other { IfErr result (λ same. (same ≡ found) × (is_joining found ≡ false)) }
@@ -60,7 +63,7 @@ fn join_args(found: Ready) -> Result<Args, Ready>
     }
 }
 
-/// Whether a call is not ready, and there may be another look.
+/// Whether a call is left for a later look: it is not ready, and this look is not the last.
 fn waits_for_later_look(found: &Ready, look: Look) -> bool
     ensures { result ≡ waits_for_later_look found.now look }
 {
@@ -70,7 +73,8 @@ fn waits_for_later_look(found: &Ready, look: Look) -> bool
     }
 }
 
-/// Records a call as it was found, with memory that is reserved for it, and commits it.
+/// Commits a call with the reply to what was found, records it, and answers that reply. `found` is no join. `room` was taken for this
+/// call: its record and the second copy of the reply take their memory from there.
 fn record_with(
     table: &CommitTable<Start>,
     pass: &mut Pass,
@@ -97,7 +101,8 @@ fn record_with(
     told
 }
 
-/// Records a call as it was found, and commits it. All memory is taken before anything changes.
+/// Takes all memory for a call, and then commits and records it as `record_with` does. `found` is no join. Where memory runs out,
+/// nothing has changed.
 fn record_found(
     table: &CommitTable<Start>,
     pass: &mut Pass,
@@ -125,8 +130,8 @@ fn record_found(
     Ok(record_with(table, pass, held, invocation, call, found, &mut room))
 }
 
-/// Records a call as it was found, and commits it; or leaves it for another look, where it is not ready and there may be one. All memory
-/// is taken before anything changes.
+/// Leaves a call that is not ready for a later look, where there may be one (`NotYet`); otherwise commits and records it as
+/// `record_found` does. `found` is no join. After an error nothing has changed.
 fn decide(
     table: &CommitTable<Start>,
     pass: &mut Pass,
@@ -151,7 +156,7 @@ fn decide(
     record_found(table, pass, alloc, held, invocation, found)
 }
 
-/// The number of the group that a collective names.
+/// The group that a collective names, from its row. The row must have one of the eight groups.
 fn call_group(row: &CallRow) -> GroupId
     requires { (id : ℕ) × (row.now.group ≡ Some id) × (id < 8) }
     ensures { Some result ≡ row.now.group }
@@ -162,7 +167,8 @@ fn call_group(row: &CallRow) -> GroupId
     }
 }
 
-/// Joins a collective to its group, with memory that is reserved for it, and looks at it once more. (GASPI: collectives)
+/// Commits and records the join of a collective, with memory from `room`, and finds on the held nodes whether it is ready then. The
+/// collective is pending. No second look is made, since the shards are held. (GASPI: collectives)
 fn join(
     table: &CommitTable<Start>,
     pass: &mut Pass,
@@ -192,7 +198,8 @@ fn join(
         .answer_in(invocation.caller, call, &mut room.numbers)
 }
 
-/// Joins a collective to its group, looks at it once more, and settles it. All memory is taken before it joins. (GASPI: collectives)
+/// Takes all memory for a collective, joins it, and then records it, or leaves it pending for a later look (`NotYet`). Where memory
+/// runs out, it has not joined. (GASPI: collectives)
 fn join_first(
     table: &CommitTable<Start>,
     pass: &mut Pass,
@@ -224,14 +231,15 @@ fn join_first(
     Ok(record_with(table, pass, held, invocation, call, found, &mut room))
 }
 
-/// Whether the caller's rank has no room for the events that a call needs. (own choice)
+/// Whether the room of the caller's rank is less than the need of the call. (own choice)
 fn lacks_room(held: &HeldShards, invocation: &Invocation<'_>) -> bool
     ensures { result ≡ is_full_for held.now.nodes.own.value.posts invocation.now.caller.thread invocation.now.call.now }
 {
     held.nodes.own.room() < held.nodes.own.need(invocation)
 }
 
-/// Makes a call while its shards are held: tests the room, looks, joins where it must, and settles.
+/// The attempt while the call's shards are held and the look is made: tests the room, finds the answer, joins where the call may join,
+/// and records. The shards stay held. Never `Busy`; after `NoMemory` and `EventLimit` nothing has changed.
 fn attempt_held(
     table: &CommitTable<Start>,
     pass: &mut Pass,
@@ -259,7 +267,8 @@ fn attempt_held(
     }
 }
 
-/// Tells who may wait for it that a call was recorded.
+/// Counts the changes of a call for threads that watch them, where the call was recorded. `own` is the shard of the caller's rank,
+/// `other` the one that the call has beside it.
 fn count_changes(
     start: &Start,
     told: &Result<Reply, Halt>,
@@ -272,7 +281,8 @@ fn count_changes(
     }
 }
 
-/// One attempt of a caller to make a call: it takes the call's shards, looks, does what the look allows, and gives the shards back.
+/// One attempt of a caller to make a call (`Rank::attempt`): takes the call's shards, looks, does what the look allows, gives the
+/// shards back, and counts the change for threads that watch. It gives the recorded reply, or says why nothing was recorded.
 pub fn attempt(
     table: &CommitTable<Start>,
     pass: &mut Pass,

@@ -1,4 +1,4 @@
-//! A call of a caller, which waits by looking again.
+//! A call with all its looks: attempts, and pauses between them, until it is recorded or stopped.
 
 ghost use Rattle.std.specs.Prelude.{◌≡◌, ◌≢◌, Err, false};
 ghost use Rattle.gaspi_types.specs.CallRows.{row_of};
@@ -19,24 +19,25 @@ use rank_node::Budget;
 use std::alloc::Global;
 use std::sync::Wait;
 
-/// Why a call was not made. The pass holds no shard then, and its calls are as they were.
+/// Why a call with all its looks recorded nothing. The pass holds no shard then. A collective may have joined at an earlier look; then
+/// it is pending.
 #[derive(Clone, Copy, Debug, PartialEq, Eq)]
 pub enum Stop {
-    /// There was no memory. A collective may have joined its group at an earlier look.
+    /// Memory ran out, at the last of the call's looks.
     NoMemory,
-    /// The caller's rank has no room for the events that the call needs. A collective may have joined its group at an earlier look.
+    /// The caller's rank has no room for the events that the call needs, found at the last of the call's looks.
     EventLimit,
 }
 
-/// How often a call pauses at most between two looks, while it has pauses to spare.
+/// The most pauses of a call between two looks, while spare pauses are left.
 const MOST_PAUSES: u32 = 4;
 
-/// How many pauses a call has to spare, beside one after each look: enough for a hundred looks. Its later pauses are sleeps.
+/// The spare pauses of a call, beside the one after each look: enough for a hundred looks. Its later pauses are sleeps.
 const SPARE_PAUSES: u32 = 300;
 
-/// Pauses after a look at a call that was not ready, until a change at its shards is counted: at most four times, and once where there
-/// are no pauses to spare. A look takes the shards from the threads that the call waits for, so few are made. But not every change is
-/// counted, so one is made in the end.
+/// Pauses after a look at a call that was not ready, until `change` has come: at most four times, and once where no spare pauses are
+/// left. `spare` goes down by the pauses after the first. A look takes the shards from the threads that the call waits for, so few are
+/// made. But not every change is counted, so after these pauses one is made in any case.
 fn pause<R: Wait>(rt: &R, pauses: &mut BackOff, change: &Change<'_>, spare: &mut u32) {
     for _ in 1..MOST_PAUSES {
         if pauses.pause_watching(rt, change) || *spare == 0 {
@@ -47,8 +48,9 @@ fn pause<R: Wait>(rt: &R, pauses: &mut BackOff, change: &Change<'_>, spare: &mut
     pauses.pause_watching(rt, change);
 }
 
-/// Makes a call: it looks until the call is recorded, pausing between looks, and never holds a shard meanwhile. A missed shard is
-/// no look. The call's row is computed once for all of its looks. (GASPI: timeouts)
+/// Makes a call (`Rank::call`): attempts it until it is recorded or stopped, with as many looks as its timeout has. Between two
+/// attempts it pauses, and holds no shard. A missed shard is no look. The call's row is computed once, before the attempts.
+/// (GASPI: timeouts)
 pub fn call<R: Wait>(
     rt: &R,
     table: &CommitTable<Start>,

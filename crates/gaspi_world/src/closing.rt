@@ -1,4 +1,4 @@
-//! The end of a world: its journal, and what is known of its passes.
+//! The end of a world: its journal, merged from the rank journals of its shards, and what its passes knew.
 
 ghost use Rattle.std.specs.Prelude.{◌≡◌, ◌+◌, ◌*◌, ◌≤◌, ◌++◌, true, Some, List, [], map, length, IfOk, IfErr};
 ghost use Rattle.commit_table.specs.Calls.{AreShards, AreWhole};
@@ -20,17 +20,21 @@ use gaspi_texts::{Journal, MergeRoom};
 use std::alloc::Global;
 use std::boxed::Box;
 
-/// What is known of a closed world: its journal, and of each pass what it saw, did and looked at.
+/// What is known of a closed world: its journal, and what each pass had seen and done. In a running program it has the number of
+/// events alone.
 pub type Tally = commit_table::Tally<Start>;
 
-/// A world that could not be closed, out of memory, and its passes: both are as they were.
+/// A world for whose journal there was no memory, and its passes: both as they were.
 #[derive(Drop)]
 pub struct Unclosed {
+    /// The world, as it was.
     pub world: World,
+    /// The passes that it was to be closed with, as they were.
     pub passes: Passes,
 }
 
-/// Adds the rank journal of a shard, where the shard is a rank's.
+/// Adds the rank journal of a rank's shard to the lists of `room`, which must have room for one more. Of a group's shard it adds
+/// nothing.
 fn add_journal(room: &mut MergeRoom, shard: WorldShard)
     requires { length room.old.lists + length (journals_of shard) ≤ room.old.ranks }
     ensures { room.new ≡ record room.old { lists = room.old.lists ++ journals_of shard } }
@@ -41,7 +45,8 @@ fn add_journal(room: &mut MergeRoom, shard: WorldShard)
     }
 }
 
-/// The journal of which the rank journals in the shards of ranks are parts.
+/// The journal, merged in `room` from the rank journals of these shards: all shards of one closed world. The room is empty and was
+/// made for that world, so no memory is taken.
 fn merged(shards: Vec<WorldShard>, mut room: MergeRoom) -> Journal
     requires room { (w : shapes.ShapeValue) × (journal : List Event) × IsShape w × AreShards (world_machine w) shards.items journal × (is_legal w journal ≡ true) × (room ≡ record { lists = []; ranks = w.limits.ranks; events = w.limits.ranks * w.limits.events }) }
     ensures { (w : shapes.ShapeValue) (journal : List Event) → IsShape w → AreShards (world_machine w) shards.items journal → is_legal w journal ≡ true → result ≡ journal }
@@ -52,7 +57,7 @@ fn merged(shards: Vec<WorldShard>, mut room: MergeRoom) -> Journal
     room.merge()
 }
 
-/// Ends a world, with room for its journal.
+/// Ends a world with all its passes, and merges its journal in `room`, which was made for it. It cannot fail.
 fn close_with(world: World, passes: Passes, room: MergeRoom) -> (Journal, Tally)
     requires whole { AreWhole world passes.items }
     requires room { room ≡ record { lists = []; ranks = world.start.shape.limits.ranks; events = world.start.shape.limits.ranks * world.start.shape.limits.events } }
@@ -72,8 +77,8 @@ fn close_with(world: World, passes: Passes, room: MergeRoom) -> (Journal, Tally)
 }
 
 impl World {
-    /// Ends a world, with all its passes, none of which holds a shard, and gives its journal with what is known of its
-    /// passes. The only failure is `NoMemory`: all memory is taken first, so that the world can be closed later.
+    /// Ends a world, with all its passes, none of which holds a shard, and gives its journal with what its passes knew. The only
+    /// failure is out of memory, before anything changes: world and passes come back, and may be closed later.
     pub fn close(self, alloc: Global, passes: Passes) -> Result<(Journal, Tally), Unclosed>
         requires whole { AreWhole self passes.items }
         ensures tally { IfOk result (λ r. (r.1.start ≡ Some self.start) × (r.1.journal ≡ r.0)) }

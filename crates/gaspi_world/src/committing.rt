@@ -1,4 +1,5 @@
-//! Events that are committed and then recorded in the nodes that are held.
+//! The commit of a call or a join, and its record in the nodes of the held shards, which follows at once. `place` is what the commit
+//! answered. The memory of the record is in `room` already. Transfers are committed in `transfers`.
 
 ghost use Rattle.std.specs.Prelude.{◌≡◌, ◌≤◌, ℕ, ◌++◌, ◌∷◌, [], None, Some, true, length};
 ghost use Rattle.gaspi_types.specs.CallRows.{row_of};
@@ -27,7 +28,8 @@ use commit_table::CommitTable;
 use gaspi_types::{Args, Call, CallerId, Event, GroupId, Reply};
 use rank_node::{HeldNodes, Room};
 
-/// Records a call that was committed at a place, with its reply.
+/// Records in the held nodes a call that was committed at a place. The event must be a call, with the reply, and the room that of this
+/// call.
 fn record_call(nodes: &mut HeldNodes, place: u64, event: Event, room: &mut Room)
     requires called { (caller : CallerId) × (call : Call) × (reply : Reply) × (event ≡ Called caller call reply) × (room.old.row ≡ row_of call) × ((row_of call).group ≡ None → IsReservedForRecord nodes.old.own.value.posts nodes.old.own.value.memory call room.old) }
     requires step { MayStep event nodes.old.own.value (peer_of nodes.old.other) (group_of nodes.old.other) }
@@ -41,7 +43,7 @@ fn record_call(nodes: &mut HeldNodes, place: u64, event: Event, room: &mut Room)
     }
 }
 
-/// Commits a call with its reply, and records it in the nodes that are held.
+/// Commits a call with its reply, and records it in the held nodes, with the memory that `room` has for that. The shards stay held.
 pub fn commit_call(
     table: &CommitTable<Start>,
     pass: &mut Pass,
@@ -69,7 +71,8 @@ pub fn commit_call(
     record_call(&mut held.nodes, place, event, room);
 }
 
-/// Records the join of a collective that was committed at a place.
+/// Records in the held nodes a join that was committed at a place. The event must be a join. The made segment of a `create` leaves the
+/// room; what is in it for the record of the call stays.
 fn record_join(nodes: &mut HeldNodes, place: u64, event: Event, room: &mut Room)
     requires joined { (caller : CallerId) × (group : ℕ) × (args : Args) × (event ≡ Joined caller group args) × (caller.rank ≡ nodes.old.own.value.posts.me) × (length args.values.items ≤ room.old.numbers.values) × IsMadeFor nodes.old.own.value.posts args.coll room.old.made }
     requires step { MayStep event nodes.old.own.value (peer_of nodes.old.other) (group_of nodes.old.other) }
@@ -90,7 +93,8 @@ fn record_join(nodes: &mut HeldNodes, place: u64, event: Event, room: &mut Room)
     }
 }
 
-/// Commits the join of a collective, and records it in the nodes that are held: the collective is pending then. (GASPI: collectives)
+/// Commits the join of a collective, and records it in the held nodes: the collective is pending then. The shards stay held, and
+/// `room` still has what the record of the call needs. (GASPI: collectives)
 pub fn commit_join(
     table: &CommitTable<Start>,
     pass: &mut Pass,

@@ -1,4 +1,6 @@
-//! The shards of an event, taken and given back.
+//! The shards of an event: which they are, their take with a look, and their give-back. `own` is the shard of the owner's rank, and
+//! `mine` its value; `other` is the shard that the event has beside it, of another rank or of a group, and `theirs` its value. `into_`
+//! and `from_` functions change a shard value into a node and back.
 
 ghost use Rattle.std.specs.Prelude.{◌≡◌, ℕ, ◌<◌, ◌≤◌, ◌+◌, ◌⊎◌, ◌∷◌, [], None, Some, true, false, IfSome, IfNone, IsSomeAnd};
 ghost use Rattle.gaspi_types.specs.World.{IsShape};
@@ -20,16 +22,20 @@ use gaspi_types::Footprint;
 use rank_node::{HeldNodes, Node, OtherNode};
 use std::boxed::Box;
 
-/// The shards that a pass holds for an event, by their numbers: that of its owner's rank and another, where it has one, with the nodes that
-/// lie there.
+/// The shards that a pass holds for an event, by their numbers, with their nodes. There is another node exactly where there is another
+/// shard.
 #[derive(Drop)]
 pub struct HeldShards {
+    /// The shard of the owner's rank.
     pub own: u32,
+    /// The shard that the event has beside it, where it has one.
     pub other: Option<u32>,
+    /// The nodes that were taken out of these shards.
     pub nodes: HeldNodes,
 }
 
-/// The shard that an event has beside its owner's, by what it reaches.
+/// The number of the shard that an event has beside its owner's, by its footprint: that of a peer, or of a group, whose numbers come
+/// after those of all `ranks` ranks. None where the footprint has the owner's parts alone.
 pub fn footprint_shard(ranks: u32, footprint: Footprint) -> Option<u32>
     requires { ranks ≤ 16 }
     ensures { result ≡ rank_other ranks footprint }
@@ -42,7 +48,7 @@ pub fn footprint_shard(ranks: u32, footprint: Footprint) -> Option<u32>
     }
 }
 
-/// The node of a rank that lies in a shard.
+/// The node of a shard value, which must be a rank's.
 pub fn into_rank(shard: WorldShard) -> Box<Node>
     requires { IsRankShard shard }
     ensures { shards.Rank result ≡ shard }
@@ -53,7 +59,7 @@ pub fn into_rank(shard: WorldShard) -> Box<Node>
     }
 }
 
-/// The node that lies in the other shard of an event.
+/// The other node of an event, from its shard value.
 fn into_other(shard: WorldShard) -> OtherNode
     ensures value { (i : ℕ) → other_value (Some i) result ≡ (i, shard) ∷ [] }
     ensures fits { (i : ℕ) → IsOther (Some i) result }
@@ -64,7 +70,7 @@ fn into_other(shard: WorldShard) -> OtherNode
     }
 }
 
-/// Two shards of an event, with what lies there.
+/// The held shards of an event that has two, from their numbers and values. `mine` must be a rank's.
 pub fn both_held(own: u32, mine: WorldShard, other: u32, theirs: WorldShard) -> HeldShards
     requires { IsRankShard mine }
     ensures values { values_of result ≡ (own, mine) ∷ (other, theirs) ∷ [] }
@@ -82,7 +88,7 @@ pub fn both_held(own: u32, mine: WorldShard, other: u32, theirs: WorldShard) -> 
     }
 }
 
-/// The shard of a rank, with what lies there.
+/// The held shards of an event that has its owner's alone, from its number and value, which must be a rank's.
 pub fn one_held(own: u32, mine: WorldShard) -> HeldShards
     requires { IsRankShard mine }
     ensures values { values_of result ≡ (own, mine) ∷ [] }
@@ -100,7 +106,7 @@ pub fn one_held(own: u32, mine: WorldShard) -> HeldShards
     }
 }
 
-/// What lies in the other shard of an event, from its node.
+/// The shard value of the other node, to be given back; none where there is no other node.
 fn from_other(other: OtherNode) -> Option<WorldShard>
     ensures { (i : ℕ) → IsOther (Some i) other → IsSomeAnd result (λ shard. other_value (Some i) other ≡ (i, shard) ∷ []) }
 {
@@ -111,7 +117,8 @@ fn from_other(other: OtherNode) -> Option<WorldShard>
     }
 }
 
-/// Takes two shards in rising order, or neither.
+/// Takes two shards, that with the lower number first, and gives their values in this order. No look is made. None where one was
+/// missed: then neither is held.
 fn take_both(
     table: &CommitTable<Start>,
     pass: &mut Pass,
@@ -138,7 +145,8 @@ fn take_both(
     Some((first, second))
 }
 
-/// Takes two shards, of which the first is a rank's, and looks.
+/// Takes two shards in rising order, `own` of a rank and `other` of any part, and looks. None where one was missed: then neither is
+/// held, and no look was made.
 fn open_both(
     table: &CommitTable<Start>,
     pass: &mut Pass,
@@ -172,7 +180,7 @@ fn open_both(
     Some(both_held(own, mine, other, value))
 }
 
-/// Takes the shard of a rank, and looks.
+/// Takes the shard of a rank, and looks. None where it was missed: then no look was made.
 fn open_own(table: &CommitTable<Start>, pass: &mut Pass, own: u32) -> Option<HeldShards>
     requires world { IsShape table.now.start.shape }
     requires pass { IsOf table.now pass.old }
@@ -192,8 +200,7 @@ fn open_own(table: &CommitTable<Start>, pass: &mut Pass, own: u32) -> Option<Hel
     Some(one_held(own, mine))
 }
 
-/// Takes the shards of an event in rising order, that of a rank and another where it has one, and looks; or misses one of them, and
-/// then holds none.
+/// Takes the shards of an event in rising order, and looks. None where one was missed: then none is held, and no look was made.
 pub fn take_and_look(
     table: &CommitTable<Start>,
     pass: &mut Pass,
@@ -218,7 +225,8 @@ pub fn take_and_look(
     }
 }
 
-/// Takes another shard beside that of a rank, and looks; or misses it.
+/// Takes a second shard beside that of a rank, which is held, and looks. False where it was missed: then no look was made. The first
+/// one stays held.
 fn take_other(
     table: &CommitTable<Start>,
     pass: &mut Pass,
@@ -245,7 +253,8 @@ fn take_other(
     true
 }
 
-/// Takes another shard beside that of a rank, where there is one, and looks; whether it is held, or there is none.
+/// Takes the second shard of an event beside that of a rank, which is held, and looks. Where the event has no second shard, it does
+/// nothing. False only where the second one was missed. The first one stays held.
 pub fn open_other(
     table: &CommitTable<Start>,
     pass: &mut Pass,
@@ -269,7 +278,7 @@ pub fn open_other(
     }
 }
 
-/// Gives the other shard back, and holds that of a rank alone.
+/// Gives back the other shard, which has this number, for `leave_other`. That of the rank stays held.
 fn give_other(table: &CommitTable<Start>, pass: &mut Pass, held: &mut HeldShards, other: u32)
     requires pass { IsOf table.now pass.old }
     requires held { Holds table.now.start.shape held.old pass.old.known }
@@ -288,7 +297,7 @@ fn give_other(table: &CommitTable<Start>, pass: &mut Pass, held: &mut HeldShards
     table.give_back(pass, other, value);
 }
 
-/// Gives the other shard back, where one is held, and holds that of a rank alone.
+/// Gives back the other shard, where one is held. That of the rank stays held.
 pub fn leave_other(table: &CommitTable<Start>, pass: &mut Pass, held: &mut HeldShards)
     requires pass { IsOf table.now pass.old }
     requires held { Holds table.now.start.shape held.old pass.old.known }
@@ -303,7 +312,7 @@ pub fn leave_other(table: &CommitTable<Start>, pass: &mut Pass, held: &mut HeldS
     }
 }
 
-/// Gives two shards back.
+/// Gives back both shards of an event that has two, for `give_back`.
 fn leave_both(table: &CommitTable<Start>, pass: &mut Pass, own: u32, other: u32, nodes: HeldNodes)
     requires pass { IsOf table.now pass.old }
     requires held { Holds table.now.start.shape (record { own = own; other = Some other; nodes = nodes }) pass.old.known }
@@ -321,7 +330,7 @@ fn leave_both(table: &CommitTable<Start>, pass: &mut Pass, own: u32, other: u32,
     table.give_back(pass, own, WorldShard::Rank(mine));
 }
 
-/// Gives the shard of a rank back.
+/// Gives back the shard of an event that has one, for `give_back`.
 fn leave_own(table: &CommitTable<Start>, pass: &mut Pass, own: u32, nodes: HeldNodes)
     requires pass { IsOf table.now pass.old }
     requires held { Holds table.now.start.shape (record { own = own; other = None; nodes = nodes }) pass.old.known }
@@ -332,7 +341,7 @@ fn leave_own(table: &CommitTable<Start>, pass: &mut Pass, own: u32, nodes: HeldN
     table.give_back(pass, own, WorldShard::Rank(mine));
 }
 
-/// Gives the shards of an event back.
+/// Gives back all shards that are held for an event, with their nodes.
 pub fn give_back(table: &CommitTable<Start>, pass: &mut Pass, held: HeldShards)
     requires pass { IsOf table.now pass.old }
     requires held { Holds table.now.start.shape held pass.old.known }

@@ -1,4 +1,4 @@
-//! Bodies, and the launch of a world's threads. (own choice)
+//! Bodies, the tasks that they make with their passes, and the launch of a world's threads. (own choice)
 
 ghost use Rattle.std.specs.Prelude.{◌≡◌, ℕ, ◌<◌, length, slice_index_or};
 ghost use Rattle.std.specs.List.{All};
@@ -17,27 +17,29 @@ pub trait Body {
     ghost use Rattle.gaspi_types.specs.declared.events.Event.{Event};
     ghost use Rattle.gaspi_world.specs.declared.starts.Start.{Start};
 
-    /// What it needs of itself, of the world and of its pass.
+    /// What must hold of the body, the world and the pass before `run`.
     ghost needs: { Self → TableValue Start → PassValue Start Event → Type 0 };
 
-    /// What it makes of itself and of its pass: of both before, and of both after.
+    /// What `run` did: body and pass before it, body and pass after it.
     ghost did: { Self → PassValue Start Event → Self → PassValue Start Event → Type 0 };
 
-    /// Does it, once.
+    /// Does it, once. No failure is answered: what came of the run is in the body.
     fn run<R: Wait>(&mut self, rt: &R, alloc: Global, world: &World, pass: &mut Pass)
         requires { needs self.old world.now pass.old }
         ensures { did self.old pass.old self.new pass.new };
 }
 
-/// A body with its pass.
+/// A body with its pass, for one thread.
 #[derive(Drop)]
 pub struct Task<B> {
+    /// What the thread does.
     pub body: B,
+    /// The pass by which it acts.
     pub pass: Pass,
 }
 
-/// Runs every body once, each on a thread of its own. Where no thread can be had, those at the back of the list run before those in
-/// front of them.
+/// Runs every body once, each on a thread of its own; `launch` hands it the tasks in reverse order. Where no thread can be had, the
+/// tasks at the back of the list run before those in front of them.
 fn launch_from_the_back<R: Threads + Wait + Sync, B: Body + Send>(
     rt: &R,
     alloc: Global,
@@ -62,8 +64,8 @@ fn launch_from_the_back<R: Threads + Wait + Sync, B: Body + Send>(
     );
 }
 
-/// Runs every body once, each on a thread of its own. Where no thread can be had, the bodies run one after another in the
-/// order of the list, so callers stand before workers there.
+/// Runs every body once, each on a thread of its own; the list keeps its order. Where no thread can be had, the bodies run one after
+/// another in the order of the list: so the tasks of callers must come before those of workers.
 pub fn launch<R: Threads + Wait + Sync, B: Body + Send>(
     rt: &R,
     alloc: Global,

@@ -1,4 +1,4 @@
-//! What the histories of a world are.
+//! Laws of the histories of a world, and of the timeouts in them: the contracts of functions that do nothing.
 
 ghost use Rattle.std.specs.Prelude.{◌≡◌, ◌↔◌, ℕ, Bool, List, [], ◌∷◌, ◌++◌, Some, true};
 ghost use Rattle.gaspi_types.specs.World.{ShapeValue};
@@ -21,14 +21,15 @@ pub fn world_histories()
     ensures { (w : ShapeValue) (history : List Event) → (world_machine w).Legal history ↔ (is_legal w history ≡ true) }
 {}
 
-/// Timeouts that came only when their looks were spent stay so in every history that goes on from what was seen and has of the
-/// caller no other calls.
+/// Where each timeout of a caller came only after all its looks, so it is in each longer history that has no other calls of that
+/// caller.
 pub fn waits_last()
     ensures { (w : ShapeValue) (c : CallerId) (history later : List Event) (looks ns : List ℕ) → Waited w c history looks ns → recorded_calls c.rank c.thread (history ++ later) ≡ recorded_calls c.rank c.thread history → Waited w c (history ++ later) looks ns }
 {}
 
-/// A pass that calls keeps the looks of its timeouts: at first it has none; a call that is recorded has the looks that its timeout
-/// allows; one that is not recorded adds no timeout. (GASPI: timeouts)
+/// How `HaveWaited` goes on, which says that each timeout of a caller came only after all its looks, and has the number of looks for
+/// each of its recorded calls. It holds for a pass that has done nothing (`fresh`), with one number more after a recorded call
+/// (`called`), and with the same numbers after a stop (`stopped`). (GASPI: timeouts)
 pub fn waits_on()
     ensures fresh { (w : ShapeValue) (c : CallerId) (v : PassView Start Event) → v.mine ≡ [] → HaveWaited w c [] v }
     ensures called { (w : ShapeValue) (c : CallerId) (call : Call) (timeout : timeouts.Timeout) (reply : Reply) (v n : PassView Start Event) (ns : List ℕ) (k : ℕ) → HaveWaited w c ns v

@@ -1,6 +1,6 @@
-//! The procedures of a rank: each is one call. (GASPI: the interface)
-//!
-//! Each answers as `Rank::call` does. A procedure without a timeout looks once.
+//! The GASPI procedures of a caller: each makes the call of its name by `Rank::call`, and answers as that does. `rt` is how a thread
+//! waits, `alloc` where memory comes from, `args` the fields of the call. A procedure without a timeout looks once. `gaspi_store` and
+//! `gaspi_load` are the program's own writes and reads. (GASPI: the interface)
 
 ghost use Rattle.std.specs.Prelude.{◌≡◌};
 ghost use Rattle.gaspi_types.specs.declared.calls.Call.TheVariants as calls;
@@ -20,7 +20,7 @@ use std::alloc::Global;
 use std::sync::Wait;
 
 impl<'a> Rank<'a> {
-    /// Makes an own segment. (GASPI: segment_alloc)
+    /// Makes an own segment, all zero. (GASPI: segment_alloc)
     pub fn gaspi_segment_alloc<R: Wait>(
         &mut self,
         rt: &R,
@@ -50,7 +50,8 @@ impl<'a> Rank<'a> {
         self.call(rt, alloc, &Call::Register(args), Timeout::Looks(1))
     }
 
-    /// Makes an own segment, and knows the one of each member of a group: a collective. (GASPI: segment_create)
+    /// Makes an own segment, and makes the new segments of all members of a group known to the rank: a collective.
+    /// (GASPI: segment_create)
     pub fn gaspi_segment_create<R: Wait>(
         &mut self,
         rt: &R,
@@ -97,7 +98,7 @@ impl<'a> Rank<'a> {
         self.call(rt, alloc, &Call::Store(args), Timeout::Looks(1))
     }
 
-    /// Loads bytes of an own segment. (own choice)
+    /// Answers bytes of an own segment. (own choice)
     pub fn gaspi_load<R: Wait>(&mut self, rt: &R, alloc: Global, args: Load) -> Result<Reply, Stop>
         requires pass { MayCall self.old.world.now self.old.pass.now }
         ensures same { (self.new.world.now ≡ self.old.world.now) × (self.new.pass.ghost_name ≡ self.old.pass.ghost_name) }
@@ -107,7 +108,7 @@ impl<'a> Rank<'a> {
         self.call(rt, alloc, &Call::Load(args), Timeout::Looks(1))
     }
 
-    /// Posts a write into a segment of a rank. (GASPI: write)
+    /// Posts a write to a segment of a rank. (GASPI: write)
     pub fn gaspi_write<R: Wait>(
         &mut self,
         rt: &R,
@@ -132,7 +133,7 @@ impl<'a> Rank<'a> {
         self.call(rt, alloc, &Call::Read(args), Timeout::Looks(1))
     }
 
-    /// Posts a notification of a rank. (GASPI: notify)
+    /// Posts a notification for a slot of a rank. (GASPI: notify)
     pub fn gaspi_notify<R: Wait>(
         &mut self,
         rt: &R,
@@ -147,7 +148,7 @@ impl<'a> Rank<'a> {
         self.call(rt, alloc, &Call::Notify(args), Timeout::Looks(1))
     }
 
-    /// Posts a write, and a notification behind it. (GASPI: write_notify)
+    /// Posts a write, and after it a notification. (GASPI: write_notify)
     pub fn gaspi_write_notify<R: Wait>(
         &mut self,
         rt: &R,
@@ -162,7 +163,7 @@ impl<'a> Rank<'a> {
         self.call(rt, alloc, &Call::WriteNotify(args), Timeout::Looks(1))
     }
 
-    /// Posts a read, and behind it a notification of an own slot. (GASPI: read_notify)
+    /// Posts a read, and after it its notification, which sets an own slot. (GASPI: read_notify)
     pub fn gaspi_read_notify<R: Wait>(
         &mut self,
         rt: &R,
@@ -192,7 +193,7 @@ impl<'a> Rank<'a> {
         self.call(rt, alloc, &Call::WriteList(args), Timeout::Looks(1))
     }
 
-    /// Posts a write for each item, and a notification behind them. (GASPI: write_list_notify)
+    /// Posts a write for each item, and after them a notification. (GASPI: write_list_notify)
     pub fn gaspi_write_list_notify<R: Wait>(
         &mut self,
         rt: &R,
@@ -222,7 +223,7 @@ impl<'a> Rank<'a> {
         self.call(rt, alloc, &Call::ReadList(args), Timeout::Looks(1))
     }
 
-    /// Posts a read for each item, and behind them a notification of an own slot. (GASPI: read_list_notify)
+    /// Posts a read for each item, and after them their notification, which sets an own slot. (GASPI: read_list_notify)
     pub fn gaspi_read_list_notify<R: Wait>(
         &mut self,
         rt: &R,
@@ -237,7 +238,7 @@ impl<'a> Rank<'a> {
         self.call(rt, alloc, &Call::ReadListNotify(args), Timeout::Looks(1))
     }
 
-    /// Waits until all that a queue took from own memory, and all that it reads, is done. (GASPI: wait)
+    /// Waits until no entry of a queue is awaited, and sets the queue's open count to 0. (GASPI: wait)
     pub fn gaspi_wait<R: Wait>(
         &mut self,
         rt: &R,
@@ -254,7 +255,7 @@ impl<'a> Rank<'a> {
         self.call(rt, alloc, &Call::Wait(args), timeout)
     }
 
-    /// Drops what a queue still has. (GASPI: queue_purge)
+    /// Removes all entries of a queue, sets its open count to 0, and ends its broken mark. (GASPI: queue_purge)
     pub fn gaspi_queue_purge<R: Wait>(
         &mut self,
         rt: &R,
@@ -269,7 +270,7 @@ impl<'a> Rank<'a> {
         self.call(rt, alloc, &Call::Purge(args), Timeout::Looks(1))
     }
 
-    /// How many entries a queue has open. (GASPI: queue_size)
+    /// Answers the open count of a queue. (GASPI: queue_size)
     pub fn gaspi_queue_size<R: Wait>(
         &mut self,
         rt: &R,
@@ -284,7 +285,7 @@ impl<'a> Rank<'a> {
         self.call(rt, alloc, &Call::Qsize(args), Timeout::Looks(1))
     }
 
-    /// Waits for a notification in a range of slots. (GASPI: notify_waitsome)
+    /// Waits until a slot of a range is set, and answers the least such id. (GASPI: notify_waitsome)
     pub fn gaspi_notify_waitsome<R: Wait>(
         &mut self,
         rt: &R,
@@ -301,7 +302,7 @@ impl<'a> Rank<'a> {
         self.call(rt, alloc, &Call::Waitsome(args), timeout)
     }
 
-    /// Reads a slot and sets it to 0. (GASPI: notify_reset)
+    /// Sets a slot to 0, and answers its value before. (GASPI: notify_reset)
     pub fn gaspi_notify_reset<R: Wait>(
         &mut self,
         rt: &R,
@@ -316,7 +317,7 @@ impl<'a> Rank<'a> {
         self.call(rt, alloc, &Call::Reset(args), Timeout::Looks(1))
     }
 
-    /// Sends a message to a rank. (GASPI: passive_send)
+    /// Sends a message to a rank; waits while that rank's inbox is full. (GASPI: passive_send)
     pub fn gaspi_passive_send<R: Wait>(
         &mut self,
         rt: &R,
@@ -333,7 +334,8 @@ impl<'a> Rank<'a> {
         self.call(rt, alloc, &Call::PassiveSend(args), timeout)
     }
 
-    /// Receives a message. (GASPI: passive_receive)
+    /// Receives the first message of the rank's inbox into an own segment, and answers its sender; waits while the inbox is empty.
+    /// (GASPI: passive_receive)
     pub fn gaspi_passive_receive<R: Wait>(
         &mut self,
         rt: &R,
@@ -350,7 +352,7 @@ impl<'a> Rank<'a> {
         self.call(rt, alloc, &Call::PassiveReceive(args), timeout)
     }
 
-    /// Adds to a word of a rank, and answers what it was. (GASPI: atomic_fetch_add)
+    /// Adds to a memory word of a rank, and answers its value before. (GASPI: atomic_fetch_add)
     pub fn gaspi_atomic_fetch_add<R: Wait>(
         &mut self,
         rt: &R,
@@ -365,7 +367,7 @@ impl<'a> Rank<'a> {
         self.call(rt, alloc, &Call::FetchAdd(args), Timeout::Looks(1))
     }
 
-    /// Replaces a word of a rank where it is the comparator, and answers what it was. (GASPI: atomic_compare_swap)
+    /// Replaces a memory word of a rank where its value is the comparator, and answers its value before. (GASPI: atomic_compare_swap)
     pub fn gaspi_atomic_compare_swap<R: Wait>(
         &mut self,
         rt: &R,
@@ -380,7 +382,7 @@ impl<'a> Rank<'a> {
         self.call(rt, alloc, &Call::CompareSwap(args), Timeout::Looks(1))
     }
 
-    /// Makes a group. (GASPI: group_create)
+    /// Makes a group of the rank, building and without ranks, and answers its id. (GASPI: group_create)
     pub fn gaspi_group_create<R: Wait>(&mut self, rt: &R, alloc: Global) -> Result<Reply, Stop>
         requires pass { MayCall self.old.world.now self.old.pass.now }
         ensures same { (self.new.world.now ≡ self.old.world.now) × (self.new.pass.ghost_name ≡ self.old.pass.ghost_name) }
@@ -390,7 +392,7 @@ impl<'a> Rank<'a> {
         self.call(rt, alloc, &Call::GroupCreate, Timeout::Looks(1))
     }
 
-    /// Adds a rank to a group. (GASPI: group_add)
+    /// Adds a rank to a group that is building. (GASPI: group_add)
     pub fn gaspi_group_add<R: Wait>(
         &mut self,
         rt: &R,
@@ -420,7 +422,7 @@ impl<'a> Rank<'a> {
         self.call(rt, alloc, &Call::GroupDelete(args), Timeout::Looks(1))
     }
 
-    /// Commits a group: a collective. (GASPI: group_commit)
+    /// The group commit of a group: a collective. (GASPI: group_commit)
     pub fn gaspi_group_commit<R: Wait>(
         &mut self,
         rt: &R,
@@ -437,7 +439,7 @@ impl<'a> Rank<'a> {
         self.call(rt, alloc, &Call::Commit(args), timeout)
     }
 
-    /// Meets all members of a group. (GASPI: barrier)
+    /// Waits until all members of a group have come to this barrier: a collective. (GASPI: barrier)
     pub fn gaspi_barrier<R: Wait>(
         &mut self,
         rt: &R,
@@ -454,7 +456,7 @@ impl<'a> Rank<'a> {
         self.call(rt, alloc, &Call::Barrier(args), timeout)
     }
 
-    /// Reduces the numbers of all members of a group. (GASPI: allreduce)
+    /// Reduces the values of all members of a group, and answers the reduction: a collective. (GASPI: allreduce)
     pub fn gaspi_allreduce<R: Wait>(
         &mut self,
         rt: &R,
@@ -471,7 +473,7 @@ impl<'a> Rank<'a> {
         self.call(rt, alloc, &Call::Allreduce(args), timeout)
     }
 
-    /// Which ranks are corrupt for the own rank. (GASPI: state_vec_get)
+    /// Answers which ranks are corrupt for the caller's rank. (GASPI: state_vec_get)
     pub fn gaspi_state_vec_get<R: Wait>(&mut self, rt: &R, alloc: Global) -> Result<Reply, Stop>
         requires pass { MayCall self.old.world.now self.old.pass.now }
         ensures same { (self.new.world.now ≡ self.old.world.now) × (self.new.pass.ghost_name ≡ self.old.pass.ghost_name) }

@@ -1,4 +1,5 @@
-//! What a caller does in its world.
+//! A caller in its world: attempts, calls with all their looks, notes of what its pass has seen, and its misses. Its procedures are in
+//! `procedures`.
 
 ghost use Rattle.std.specs.Prelude.{◌≡◌, ◌≢◌, ◌<◌, Err, false};
 ghost use mathlib.Core.List.{IsPrefix};
@@ -26,18 +27,21 @@ use rank_node::Look;
 use std::alloc::Global;
 use std::sync::Wait;
 
-/// What a pass has seen, to be told to another pass of its world.
+/// What a pass has seen, for another pass of its world: made by `Rank::note`, used by `Rank::learn`.
 pub type Note = commit_table::Note<Start>;
 
-/// A caller in its world, by its pass. (GASPI: ranks)
+/// A caller in its world: the world, and the caller's pass. (GASPI: ranks)
 #[derive(Drop)]
 pub struct Rank<'a> {
+    /// The world.
     pub world: &'a World,
+    /// The pass of the caller, which no other thread has meanwhile.
     pub pass: &'a mut Pass,
 }
 
 impl<'a> Rank<'a> {
-    /// One attempt to make a call, at a look that is the last or not; it never waits. What its answers mean is said at `Halt`.
+    /// One attempt to make a call; it never waits. `look` says whether this look is the last: then a call that is not ready is
+    /// recorded with `timeout`. An error says why nothing was recorded (`Halt`). Memory is taken only where the call's row says so.
     /// (GASPI: timeouts)
     pub fn attempt(&mut self, alloc: Global, call: &Call, look: Look) -> Result<Reply, Halt>
         requires { MayCall self.old.world.now self.old.pass.now }
@@ -55,8 +59,8 @@ impl<'a> Rank<'a> {
         attempt(self.world.table(), self.pass, alloc, &invocation, look)
     }
 
-    /// Makes a call: it looks until the call is recorded, as often as its timeout allows, and backs off between looks.
-    /// (GASPI: timeouts)
+    /// Makes a call with as many looks as its timeout has, at least one, and backs off between them. It gives the recorded reply; an
+    /// error says why nothing was recorded (`Stop`). Memory is taken only where the call's row says so. (GASPI: timeouts)
     pub fn call<R: Wait>(
         &mut self,
         rt: &R,
@@ -78,7 +82,7 @@ impl<'a> Rank<'a> {
         calling::call(rt, table, self.pass, alloc, &invocation, timeout)
     }
 
-    /// Makes a note of what the pass has seen, for another pass to learn.
+    /// A note of what the pass has seen, for another pass of this world to learn. The pass stays as it was.
     pub fn note(&mut self) -> Note
         requires { IsOf self.old.world.now self.old.pass.now }
         ensures same { (self.new.world.now ≡ self.old.world.now) × (self.new.pass.ghost_name ≡ self.old.pass.ghost_name) }
@@ -88,7 +92,8 @@ impl<'a> Rank<'a> {
         self.world.table().note(self.pass)
     }
 
-    /// Sees the history so far, of which what the note tells is a beginning. It is one look.
+    /// Makes one look, and uses up a note of this world: the history that the pass has then seen begins with what the note has. The
+    /// shards that the pass holds and its own events stay.
     pub fn learn(&mut self, note: Note)
         requires pass { IsOf self.old.world.now self.old.pass.now }
         requires note { note.table ≡ self.old.world.now.table }
@@ -104,7 +109,7 @@ impl<'a> Rank<'a> {
         self.world.table().learn(self.pass, note);
     }
 
-    /// How often the pass missed a shard. A count that stands at the type's end stays there.
+    /// How often the pass missed the shard with this number, or the largest `u64` where it was more often.
     pub fn misses(&self, shard: u32) -> u64
         requires pass { IsOf self.now.world.now self.now.pass.now }
         requires shard { shard < (world_machine self.now.world.now.start.shape).shards }

@@ -1,4 +1,4 @@
-//! What lies in the shards of a world.
+//! The shard values of a world, and those of its opening state: one for each rank, and then one for each of the eight groups.
 
 ghost use Rattle.std.specs.Prelude.{◌≡◌, ◌<◌, ◌≤◌, ◌+◌, [], IfOk};
 ghost use Rattle.gaspi_types.specs.World.{ShapeValue, IsShape};
@@ -11,15 +11,16 @@ use rank_node::{GroupNode, Node};
 use std::alloc::Global;
 use std::boxed::Box;
 
-/// What lies in a shard: the node of a rank, or that of a group. What leaves a shard and comes back is a pointer, however large the node
-/// is.
+/// A shard value: a rank node or a group node, in a box. So a take or a give-back moves a pointer, however large the node is.
 #[derive(Drop)]
 pub enum WorldShard {
+    /// Of a rank: its posts, its memory and its rank journal.
     Rank(Box<Node>),
+    /// Of a group: its member list and its rounds.
     Group(Box<GroupNode>),
 }
 
-/// The shard of a rank at the start.
+/// The shard value of a rank in the opening state. The only failure is out of memory.
 fn rank_shard(alloc: Global, shape: &Shape, rank: u32) -> Result<WorldShard, NoMemory>
     requires { rank < shape.now.limits.ranks }
     ensures { IfOk result (λ shard. IsOpeningShard shape.now rank shard) }
@@ -29,7 +30,7 @@ fn rank_shard(alloc: Global, shape: &Shape, rank: u32) -> Result<WorldShard, NoM
     Ok(WorldShard::Rank(Box::new(alloc, node)?))
 }
 
-/// The shard of a group at the start.
+/// The shard value of a group in the opening state, in a world of `ranks` ranks. The only failure is out of memory.
 fn group_shard(alloc: Global, ranks: u32, id: u32) -> Result<WorldShard, NoMemory>
     requires ranks { ranks ≤ 16 }
     requires id { id < 8 }
@@ -39,8 +40,8 @@ fn group_shard(alloc: Global, ranks: u32, id: u32) -> Result<WorldShard, NoMemor
     Ok(WorldShard::Group(Box::new(alloc, node)?))
 }
 
-/// What lies in the shards at the start: of each rank, and then of each group. All memory that is wanted for what the ranks record is
-/// taken here.
+/// The shard values of the opening state: of each rank, and then of each group. The only failure is out of memory; the rank journals
+/// get all their memory here.
 pub fn opening_shards(alloc: Global, shape: &Shape) -> Result<Vec<WorldShard>, NoMemory>
     requires { IsShape shape.now }
     ensures { IfOk result (λ shards. AreShards (world_machine shape.now) shards.items []) }

@@ -1,4 +1,5 @@
-//! The start of a world.
+//! The start of a world, as its commit table keeps it: the shape, and the counts of changes that waiting threads watch. `own` is the
+//! shard of the rank that owns an event, `other` the one that the event has beside it.
 
 ghost use Rattle.gaspi_types.specs.World.{IsShape};
 
@@ -7,14 +8,16 @@ use commit_table::{Changes, Sharded};
 use gaspi_types::{CallRow, Event, NoMemory, Shape};
 use std::alloc::Global;
 
-/// The start of a world, by its shape. It is made by `World::start` alone, so that no other table of this machine can be.
+/// The start of a world, by its shape. `World::start` alone makes one, so each table of this machine is that of a world.
 #[derive(Drop)]
 pub struct Start {
+    /// The shape of the world.
     pub shape: Shape,
-    /// Of each shard, whether it may be worth while to look again at a call that waits for what lies there.
+    /// By shard: how often an event was counted that may make a call ready which waits for that shard.
     pub(crate) changes: Changes,
-    /// Of each rank, whether one of its calls has posted, or one of its threads has ended.
+    /// By rank: how often a recorded call of the rank was counted that is a post, even a refused one, or an end.
     pub(crate) posts: Changes,
+    /// Private, so that no other file makes a start.
     sealed: (),
     pub ghost valid: { ∥ IsShape shape ∥₁ },
 }
@@ -22,8 +25,8 @@ pub struct Start {
 impl Start {
     ghost use Rattle.std.specs.Prelude.{◌≡◌, IfOk};
 
-    /// Counts a recorded call: for workers, where it posted or ended its thread, and for who waits at the shard that it has beside its
-    /// rank's.
+    /// Counts a recorded call: in `posts` where it is a post or an end, whatever its reply, and in `changes` for its other shard,
+    /// where it has one. Its own shard is not counted.
     pub(crate) fn count_call(&self, row: &CallRow, own: u32, other: Option<u32>) {
         if row.posting.is_some() || row.ends {
             self.posts.count_change(own);
@@ -33,7 +36,7 @@ impl Start {
         }
     }
 
-    /// Counts transfers that were made, for who waits at their shards.
+    /// Counts one or more transfers in `changes`: for the origin's shard, and for the other where that is a different one.
     pub(crate) fn count_transfer(&self, own: u32, other: Option<u32>) {
         self.changes.count_change(own);
         let other = other.unwrap_or(own);
@@ -42,7 +45,7 @@ impl Start {
         }
     }
 
-    /// That of a shape.
+    /// The start of a world of this shape, with nothing counted. The only failure is out of memory.
     pub(crate) fn of(alloc: Global, shape: &Shape) -> Result<Start, NoMemory>
         ensures { IfOk result (λ start. start.shape ≡ shape.now) }
     {

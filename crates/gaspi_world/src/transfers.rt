@@ -1,4 +1,6 @@
-//! The transfers of a rank in a world, made one at a time.
+//! The transfers of a rank of a world, by a worker's pass: one, or up to eight of one lane while the rank's shard is held. Each has a
+//! commit of its own. `own` is the shard of the origin, and `mine` its value; `other` is the shard that a transfer has beside it, and
+//! `theirs` its value.
 
 ghost use Rattle.std.specs.Prelude.{◌≡◌, ℕ, ◌<◌, ◌≤◌, IfSome, IfNone, None, Some, false};
 ghost use Rattle.gaspi_types.specs.World.{IsShape};
@@ -26,8 +28,8 @@ use commit_table::CommitTable;
 use gaspi_types::{Event, Outcome, QueueId, RankId, Transfer};
 use rank_node::{Node, front_footprints, fronts_are_steps, movable_lanes_have_fronts};
 
-/// The transfer of a rank that comes next: the front of a lane that may move. Which lane comes first goes on with the room that calls
-/// take, so that lanes come first in turn while calls are made; no clause says so.
+/// The front transfer of the next movable lane of a rank; none where no lane is movable. The search begins at a lane that changes with
+/// the rank's room, so that over many calls no lane always comes last; no clause says so.
 fn next_front(node: &Node) -> Option<Transfer>
     requires { (s : State) × IsSound s × IsPostsOf s node.now.posts.me node.now.posts }
     ensures front { IfSome result (IsFront node.now.posts) }
@@ -43,7 +45,8 @@ fn next_front(node: &Node) -> Option<Transfer>
     node.front(queue, target)
 }
 
-/// The shard that the front of a lane has beside its origin's.
+/// The number of the shard that a front transfer has beside its origin's; none where it has that alone. `ranks` is how many ranks
+/// there are.
 fn front_shard(node: &Node, ranks: u32, t: &Transfer) -> Option<u32>
     requires front { IsFront node.now.posts t.now }
     requires ranks { ranks ≤ 16 }
@@ -58,7 +61,7 @@ fn front_shard(node: &Node, ranks: u32, t: &Transfer) -> Option<u32>
     footprint_shard(ranks, declaration.footprint(ranks, t.origin))
 }
 
-/// The event of a transfer that ends so.
+/// The event of a transfer with its outcome.
 fn event_of(t: &Transfer, outcome: Outcome) -> Event
     ensures { result ≡ event_of t.now outcome }
 {
@@ -69,19 +72,19 @@ fn event_of(t: &Transfer, outcome: Outcome) -> Event
     }
 }
 
-/// What comes of a try to take the shards of the next transfer of a rank.
+/// What a try to take the shards of a rank's next transfer came to. Only after `Ready` is a shard held.
 #[derive(Drop)]
 enum Tried {
     /// The origin's shard was missed, or the other shard of a transfer that may come next.
     Busy,
-    /// No transfer of the rank may come next; whether all its threads have ended.
+    /// No transfer of the rank may come next; true where all threads of the rank have ended.
     Still(bool),
-    /// The shards of this transfer are held.
+    /// This transfer may come next, and its shards are held.
     Ready(Transfer, HeldShards),
 }
 
-/// Takes the shards of the next transfer of a rank, and looks once, after the last of them was taken or missed: the origin's node alone
-/// tells the transfer.
+/// Takes the shards of the next transfer of a rank. It looks once, after the last of them was taken or missed; where the origin's
+/// shard itself was missed, no look is made. The origin's node alone says which transfer is next, so that shard is taken first.
 fn try_front(table: &CommitTable<Start>, pass: &mut Pass, origin: RankId) -> Tried
     requires world { IsShape table.now.start.shape }
     requires pass { IsOf table.now pass.old }
@@ -117,7 +120,7 @@ fn try_front(table: &CommitTable<Start>, pass: &mut Pass, origin: RankId) -> Tri
     Tried::Ready(t, both_held(own, WorldShard::Rank(node), other, theirs))
 }
 
-/// Commits a transfer that is the front of its lane, and records it in the nodes that are held.
+/// Commits a front transfer whose shards are held, and records it in their nodes. The shards stay held.
 fn commit_front(table: &CommitTable<Start>, pass: &mut Pass, held: &mut HeldShards, t: Transfer)
     requires world { IsShape table.now.start.shape }
     requires pass { IsOf table.now pass.old }
@@ -139,7 +142,8 @@ fn commit_front(table: &CommitTable<Start>, pass: &mut Pass, held: &mut HeldShar
     }
 }
 
-/// Makes the next transfer of a rank, where there is one and its shards are free.
+/// Makes the next transfer of a rank, for `World::transfer`, and counts the change for threads that watch. Nothing is committed where
+/// no transfer may come next, or a shard was missed.
 fn transfer_once(table: &CommitTable<Start>, pass: &mut Pass, origin: RankId) -> Moving
     requires world { IsShape table.now.start.shape }
     requires pass { IsOf table.now pass.old }
@@ -163,10 +167,11 @@ fn transfer_once(table: &CommitTable<Start>, pass: &mut Pass, origin: RankId) ->
     }
 }
 
-/// How many transfers are made in one hold of a rank's shard, at most.
+/// The most transfers that are made while a rank's shard is held once.
 const MOST_AT_ONCE: u32 = 8;
 
-/// Makes the next transfer of a lane of the rank whose shard is held, where there is one and its other shard is free: whether it was made.
+/// Makes the front transfer of a lane of the rank whose shard is held, for `go_on`. False where the lane has none, or its other shard
+/// was missed: then nothing was committed. After it the rank's shard alone is held.
 fn follow(
     table: &CommitTable<Start>,
     pass: &mut Pass,
@@ -196,7 +201,8 @@ fn follow(
     true
 }
 
-/// Makes a transfer that is the front of its lane, and gives back the other shard that it has.
+/// Commits and records a front transfer whose shards are held, and gives back the other shard, where it has one. The rank's shard
+/// stays held.
 fn move_front(table: &CommitTable<Start>, pass: &mut Pass, held: &mut HeldShards, t: Transfer)
     requires world { IsShape table.now.start.shape }
     requires pass { IsOf table.now pass.old }
@@ -212,7 +218,7 @@ fn move_front(table: &CommitTable<Start>, pass: &mut Pass, held: &mut HeldShards
     leave_other(table, pass, held);
 }
 
-/// Makes transfers of a lane of the rank whose shard is held, as long as they follow one another, but not too many.
+/// Makes up to seven more transfers of a lane of the rank whose shard is held, until `follow` makes none. The rank's shard stays held.
 fn go_on(
     table: &CommitTable<Start>,
     pass: &mut Pass,
@@ -237,7 +243,8 @@ fn go_on(
     }
 }
 
-/// Makes the next transfer of a rank, where there is one and its shards are free, and those that follow it in its lane.
+/// Makes the next transfer of a rank, and up to seven that follow in its lane, for `World::transfer_lane`, and counts the change for
+/// threads that watch. Nothing is committed where no transfer may come next, or a shard was missed.
 fn move_lane(table: &CommitTable<Start>, pass: &mut Pass, origin: RankId) -> Moving
     requires world { IsShape table.now.start.shape }
     requires pass { IsOf table.now pass.old }
@@ -265,8 +272,8 @@ fn move_lane(table: &CommitTable<Start>, pass: &mut Pass, origin: RankId) -> Mov
 }
 
 impl World {
-    /// Makes one transfer of a rank, the next of a lane, where one may come next and no other pass holds its shards. It takes no memory.
-    /// (GASPI: one-sided communication)
+    /// Makes one transfer of a rank, the front of its next movable lane, where there is one and its shards are not missed. The pass
+    /// must be a worker's, and hold no shard. It takes no memory. (GASPI: one-sided communication)
     pub fn transfer(&self, pass: &mut Pass, origin: RankId) -> Moving
         requires pass { IsOf self.now pass.old }
         requires free { HoldsNone pass.old.known }
@@ -280,8 +287,9 @@ impl World {
         transfer_once(self.table(), pass, origin)
     }
 
-    /// Makes transfers of a rank in one hold of its shard: the next of a lane, where one may come next and no other pass holds its shards,
-    /// and those that follow it in that lane, up to eight. It takes no memory. (GASPI: one-sided communication)
+    /// Makes transfers of a rank while its shard is held once: the front of its next movable lane, where there is one and its shards
+    /// are not missed, and those that follow it in that lane, up to eight. The pass must be a worker's, and hold no shard. It takes no
+    /// memory. (GASPI: one-sided communication)
     pub fn transfer_lane(&self, pass: &mut Pass, origin: RankId) -> Moving
         requires pass { IsOf self.now pass.old }
         requires free { HoldsNone pass.old.known }

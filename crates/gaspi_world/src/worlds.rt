@@ -1,4 +1,5 @@
-//! Worlds, and the passes of their threads.
+//! Worlds: the start of a world with its passes, and what a world answers of itself and of its passes. `has_number` and `are_all`
+//! compare the numbers of passes for `World::whole`.
 
 ghost use Rattle.std.specs.Prelude.{◌≡◌, ℕ, ◌+◌, ◌<◌, ◌≤◌, IfOk, IsTrue, ◌↔◌, Some, [], length, slice_get};
 ghost use Rattle.commit_table.specs.Views.{new_pass};
@@ -17,7 +18,7 @@ use gaspi_types::{CallerId, NoMemory, Sequence, Shape};
 use std::alloc::Global;
 use std::marker::Model;
 
-/// The right of one caller or of one worker to act in a world, with what it knows of the history.
+/// The right of one caller or of one worker to act in a world, with what was seen and done by it.
 pub type Pass = commit_table::Pass<Start>;
 
 /// Passes of a world, in any order.
@@ -26,9 +27,11 @@ pub type Passes = Vec<Pass>;
 /// A world of ranks, which threads share by `&`. (GASPI: ranks)
 #[derive(Drop)]
 pub struct World {
+    /// The shards, the journal word, and the start of the world.
     table: CommitTable<Start>,
+    /// How many passes were made: one for each caller and each worker.
     passes: u32,
-    /// By their numbers.
+    /// The declared callers by their numbers.
     callers: Sequence<Option<CallerId>>,
 }
 
@@ -49,11 +52,13 @@ impl Model for World {
 /// A world that was made, with all its passes: one for each caller by its rank and thread, and then one for each worker.
 #[derive(Drop)]
 pub struct Started {
+    /// The world.
     pub world: World,
+    /// All its passes, by their numbers: those of callers, by rank and thread, and then those of workers.
     pub passes: Passes,
 }
 
-/// Whether a pass of that number is there.
+/// Whether one of these passes has the number, which is its party.
 fn has_number(passes: &[Pass], number: u32) -> bool
     ensures { result ≡ has_number passes.now number }
 {
@@ -62,7 +67,7 @@ fn has_number(passes: &[Pass], number: u32) -> bool
         .any(|pass| CommitTable::number(pass) == number)
 }
 
-/// Whether there is a pass of each number below a bound.
+/// Whether each number below `count` is that of one of these passes.
 fn are_all(count: u32, passes: &[Pass]) -> bool
     ensures { result ≡ are_all count passes.now }
 {
@@ -70,7 +75,8 @@ fn are_all(count: u32, passes: &[Pass]) -> bool
 }
 
 impl World {
-    /// The world of a shape, with so many workers. All memory that is wanted for what the ranks record is taken here.
+    /// A world of a shape in its opening state, and its passes: one for each caller by rank and thread, then one for each of `workers`
+    /// workers. All memory for rank journals, groups and counts is taken here. The only failure is out of memory.
     pub fn start(alloc: Global, shape: &Shape, workers: u32) -> Result<Started, NoMemory>
         requires { workers ≤ 4 }
         ensures world { IsShape shape.now }
@@ -95,21 +101,21 @@ impl World {
         Ok(Started { world, passes })
     }
 
-    /// Whether these are all passes of the world, where they are passes of it. It takes no memory.
+    /// Whether all passes of the world are among these, where these are passes of this world. It takes no memory.
     pub fn whole(&self, passes: &Passes) -> bool
         ensures { IsTrue result ↔ AreAll self.now.passes passes.now.items }
     {
         are_all(self.passes, passes.as_slice())
     }
 
-    /// The table of its shards.
+    /// The commit table of the world.
     pub(crate) fn table(&self) -> &CommitTable<Start>
         ensures { result.now ≡ self.now }
     {
         &self.table
     }
 
-    /// The table alone.
+    /// The commit table of a world that is ended, for `close`. The list of callers is dropped.
     pub(crate) fn into_table(self) -> CommitTable<Start>
         ensures { result ≡ self }
     {
@@ -117,7 +123,7 @@ impl World {
         table
     }
 
-    /// The caller whose pass this is. It takes no memory.
+    /// The caller whose pass this is. The pass must be one of a caller, not of a worker. It takes no memory.
     pub fn caller_of(&self, pass: &Pass) -> CallerId
         requires { (c : CallerId) × IsPassOf self.now.start.shape c pass.now.known }
         ensures is { IsPassOf self.now.start.shape result pass.now.known }
@@ -127,12 +133,13 @@ impl World {
         (*self.callers.at(CommitTable::number(pass) as usize)).unwrap()
     }
 
-    /// How often a call of each rank has posted or ended its thread, as far as it was told: for workers, who wait for such calls.
+    /// The counts, by rank, of its recorded calls that are posts or ends: workers watch them, since such calls give them work. They
+    /// are a hint, which no clause speaks of.
     pub fn posts(&self) -> &Changes {
         &self.table.start().posts
     }
 
-    /// The shape of the start.
+    /// The shape that the world was started with.
     pub fn shape(&self) -> &Shape
         ensures { result.now ≡ self.now.start.shape }
     {

@@ -1,4 +1,5 @@
-//! The program: the command's words are those after its name, and it reads standard input and writes standard output.
+//! The program: it hands the words after its name to `gaspi_run::gaspirun`, with standard input and output. What a command does is
+//! there; here are the words, the streams and the exit status.
 #![tactic(auto)]
 
 ghost use Rattle.std.specs.Prelude.{◌≡◌, map, drop, IfOk, None, Some, string_bytes};
@@ -18,11 +19,11 @@ use std::rt::Env;
 use std::sync::Wait;
 use std::thread::Threads;
 
-/// The status where there is no memory.
+/// The status where memory ran out.
 const NO_MEMORY: u8 = 7;
 
-/// All words that the program was given, its name first. Where one of them is no text there are none, which the command
-/// refuses.
+/// All words that the program was given, its name first. Where one of them is no text, there are no words, which the command refuses.
+/// The only failure is out of memory.
 fn given_words<R: Env + Alloc<A = Global>>(rt: &R) -> Result<Vec<String>, AllocError> {
     let alloc = rt.alloc();
     match env::args(rt) {
@@ -37,7 +38,7 @@ fn given_words<R: Env + Alloc<A = Global>>(rt: &R) -> Result<Vec<String>, AllocE
     }
 }
 
-/// The words as the command takes them: all of them, in order, each as it was given.
+/// The words as the command takes them: all of them, in order, each as it was given. The only failure is out of memory.
 fn spelled(alloc: Global, words: &[String]) -> Result<Vec<&str>, AllocError>
     ensures { IfOk result (λ spelled. map (λ word. word.now) spelled.items ≡ map string_bytes words.now) }
 {
@@ -48,7 +49,7 @@ fn spelled(alloc: Global, words: &[String]) -> Result<Vec<&str>, AllocError>
     Ok(spelled)
 }
 
-/// The words after the program's name, of all that it was given.
+/// The words after the program's name, of all that it was given. The only failure is out of memory.
 fn after_name(alloc: Global, words: &[String]) -> Result<Vec<&str>, AllocError>
     ensures { IfOk result (λ spelled. map (λ word. word.now) spelled.items ≡ map string_bytes (drop 1 words.now)) }
 {
@@ -65,7 +66,8 @@ fn exit_code(status: u8) -> ExitCode
     ExitCode::from(status)
 }
 
-/// The program on the words that it was given, its name first: what the command says of the others, and its status.
+/// The program, with the words that it was given, its name first: does what the others ask for, and gives the exit status. `main`
+/// calls it with the streams of the system.
 fn run<R: Threads + Wait + Sync, S: Source, K: Sink>(
     rt: &R,
     alloc: Global,
@@ -88,6 +90,7 @@ fn run<R: Threads + Wait + Sync, S: Source, K: Sink>(
     exit_code(answer.status)
 }
 
+/// Runs the program on its words, standard input and standard output.
 fn main(rt: HostRuntime) -> ExitCode {
     let Ok(given) = given_words(&rt) else {
         return exit_code(NO_MEMORY);

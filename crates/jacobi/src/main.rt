@@ -1,10 +1,13 @@
-//! Jacobi's method on a line of cells, by four ranks on threads that write their border cells into each other's halo cells. (own choice)
+//! Jacobi's method on a line of cells, by four ranks on threads that write their border cells into each other's halo cells: a program
+//! to copy. (own choice)
 //!
-//! Each new cell is the half of the sum of its two neighbours, rounded towards 0. Beyond the left end of the line stands 0, beyond
-//! the right end `END`. Written are the number of iterations, the residual, the cells of each rank, and whether the journal is legal.
+//! Each new cell is the half of the sum of its two neighbours, rounded towards 0. Beyond the left end of the line is 0, beyond the
+//! right end `END`. Written are the number of iterations, the residual, the cells of each rank, and whether the journal is legal. The
+//! residual is by how much a cell of any rank has changed at most in the last iteration.
 //!
 //! Segment 0 of a rank has ten cells of eight bytes: a halo cell, the eight cells of the rank, and another halo cell. What is written
-//! into a halo cell is notified under the number of that cell.
+//! into a halo cell is notified under the number of that cell. An error is that of a call, or of this method; then nothing more is
+//! written.
 #![tactic(auto)]
 
 ghost use Rattle.rank_programs.specs.Callers.{IsCaller, StaysCaller};
@@ -20,26 +23,28 @@ use std::sync::Wait;
 /// The last rank of the line.
 const LAST: u64 = 3;
 
-/// What stands beyond the right end.
+/// The value beyond the right end.
 const END: i64 = 1_048_576;
 
-/// The halo cells of a rank. Its border cells are 1 and 8.
+/// The left halo cell of a rank. The border cells are 1 and 8.
 const LEFT_HALO: u32 = 0;
 
+/// The right halo cell of a rank.
 const RIGHT_HALO: u32 = 9;
 
-/// The residual that is small enough, and how many iterations there are at most.
+/// The residual at which the method ends.
 const SMALL: i128 = 4_096;
 
+/// The most iterations.
 const MOST: u32 = 1_000;
 
-/// How often a call may look that waits.
+/// How many looks a call that waits may have.
 const LOOKS: Timeout = Timeout::Looks(1_000_000);
 
-/// What a rank came to: the number of iterations, by how much a cell of any rank has changed at most in the last one, its cells.
+/// What a rank came to: the number of iterations, the residual, and the rank's cells.
 type Solved = (u32, i128, [i64; 8]);
 
-/// Writes a border cell into a halo cell of a neighbour, and notifies it.
+/// Writes a border cell into a halo cell of a neighbour, and notifies it. Where there is no neighbour `to`, nothing is done.
 fn send<R: Wait>(caller: &mut Caller<'_, R>, to: Option<u64>, cell: u32, halo: u32) -> Result<()>
     requires { IsCaller caller.old }
     ensures { StaysCaller caller.old caller.new }
@@ -61,7 +66,7 @@ fn send<R: Wait>(caller: &mut Caller<'_, R>, to: Option<u64>, cell: u32, halo: u
     Ok(())
 }
 
-/// Waits until a neighbour has written into a halo cell.
+/// Waits until a neighbour has written into a halo cell, and resets its slot. Where there is no neighbour `from`, nothing is done.
 fn receive<R: Wait>(caller: &mut Caller<'_, R>, from: Option<u64>, halo: u32) -> Result<()>
     requires { IsCaller caller.old }
     ensures { StaysCaller caller.old caller.new }
@@ -74,7 +79,7 @@ fn receive<R: Wait>(caller: &mut Caller<'_, R>, from: Option<u64>, halo: u32) ->
     Ok(())
 }
 
-/// The cells of the segment, once the neighbours have written into the halo cells.
+/// Sends the border cells to the neighbours, and gives the cells of the segment once the neighbours have written into the halo cells.
 fn exchange<R: Wait>(caller: &mut Caller<'_, R>) -> Result<[i64; 10]>
     requires { IsCaller caller.old }
     ensures { StaysCaller caller.old caller.new }
@@ -93,7 +98,7 @@ fn exchange<R: Wait>(caller: &mut Caller<'_, R>) -> Result<[i64; 10]>
     Ok(cells)
 }
 
-/// The new cells of old ones, and by how much a cell has changed at most.
+/// The eight new cells that follow from the ten old ones, and by how much a cell has changed at most.
 fn new_cells(old: &[i64; 10]) -> ([i64; 8], i64) {
     let mut new = [0; 8];
     let mut most = 0;
@@ -105,7 +110,7 @@ fn new_cells(old: &[i64; 10]) -> ([i64; 8], i64) {
     (new, most)
 }
 
-/// Stores the new cells, and gives the residual.
+/// Stores the new cells, and gives the residual of all ranks. `change` is that of this rank.
 fn settle<R: Wait>(caller: &mut Caller<'_, R>, cells: &[i64; 8], change: i64) -> Result<i128>
     requires { IsCaller caller.old }
     ensures { StaysCaller caller.old caller.new }
@@ -123,7 +128,7 @@ fn settle<R: Wait>(caller: &mut Caller<'_, R>, cells: &[i64; 8], change: i64) ->
     }
 }
 
-/// Iterations until the residual is small.
+/// Makes iterations until the residual is small. An error where there are too many.
 fn solve<R: Wait>(caller: &mut Caller<'_, R>) -> Result<Solved>
     requires { IsCaller caller.old }
     ensures { StaysCaller caller.old caller.new }
@@ -139,7 +144,7 @@ fn solve<R: Wait>(caller: &mut Caller<'_, R>) -> Result<Solved>
     bail!("too many iterations")
 }
 
-/// Stores what stands beyond the right end, where the rank is the last.
+/// Stores the value beyond the right end into the right halo cell, where the rank is the last.
 fn begin<R: Wait>(caller: &mut Caller<'_, R>) -> Result<()>
     requires { IsCaller caller.old }
     ensures { StaysCaller caller.old caller.new }
@@ -150,12 +155,13 @@ fn begin<R: Wait>(caller: &mut Caller<'_, R>) -> Result<()>
     Ok(())
 }
 
-/// What each rank does.
+/// What each rank does: it begins, and solves.
 struct Jacobi;
 
 impl Program for Jacobi {
     type Outcome = Result<Solved>;
 
+    /// Begins, and solves, for one rank.
     fn run<R: Wait>(&self, caller: &mut Caller<'_, R>) -> Result<Solved> {
         begin(caller)?;
         solve(caller)
@@ -172,6 +178,7 @@ fn line(alloc: Global) -> Result<Shape> {
     Ok(shape)
 }
 
+/// Runs the method, writes what the ranks came to, and checks the journal.
 fn main(rt: HostRuntime) -> Result<()> {
     let alloc = rt.alloc();
     let shape = line(alloc)?;

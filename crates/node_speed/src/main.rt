@@ -1,7 +1,8 @@
-//! A measure of the nodes of ranks, for whoever times this program: one thread drives worlds of two ranks, one after another, in
-//! each of which the ranks send each other eight bytes so many times.
+//! A measure of the nodes of ranks, for whoever times this program: one thread drives worlds of two ranks, one after another. In each
+//! world the ranks send each other eight bytes, as often as the words say.
 //!
-//! The words are the number of worlds and the number of rounds in each. The number of events is written.
+//! The words are the number of worlds, and how often in each the ranks do so: such a repetition is called a round here, and has twelve
+//! events of each rank. The number of events is written. No function waits, and a call is looked at once.
 #![tactic(auto)]
 
 ghost use Rattle.std.specs.Prelude.{◌≡◌, ◌<◌, ◌≤◌, true, IfSome, IfOk};
@@ -17,22 +18,25 @@ use std::process::ExitCode;
 use std::rt::Env;
 use two_nodes::{TwoNodes, has_two_callers};
 
-/// The statuses where the words are others, where the answer could not be written, where memory is wanting, and where a call was not
-/// answered or a transfer not permitted.
+/// The status where the words are not two numbers within their limits.
 const WORDS: u8 = 1;
 
+/// The status where the answer could not be written.
 const NOT_WRITTEN: u8 = 6;
 
+/// The status where memory ran out.
 const NO_MEMORY: u8 = 7;
 
+/// The status where a call had no reply, or a transfer was not enabled.
 const STUCK: u8 = 8;
 
-/// The most worlds, and the most rounds in each: a round is twelve events of each rank.
+/// The most worlds.
 const MOST_WORLDS: u64 = 1_000;
 
+/// The most rounds in each world, for which a rank has room.
 const MOST_ROUNDS: u64 = 5_461;
 
-/// The number of worlds and that of rounds, that two words give.
+/// The number of worlds and that of rounds, which two words give; none where the words are not so.
 fn asked(words: &[String]) -> Option<(u64, u64)>
     ensures { IfSome result (λ found. found.0 ≤ 1000) }
 {
@@ -47,6 +51,7 @@ fn asked(words: &[String]) -> Option<(u64, u64)>
     Some((worlds, rounds))
 }
 
+/// The words after the program's name; no words where one of them is no text. The only failure is out of memory.
 fn given_words<R: Env + Alloc<A = Global>>(rt: &R) -> Result<Vec<String>, AllocError> {
     let alloc = rt.alloc();
     match env::args(rt) {
@@ -65,7 +70,7 @@ fn two_ranks(alloc: Global) -> Result<Shape, ShapeFault> {
     Ok(shape)
 }
 
-/// A store of eight bytes.
+/// The call that stores eight bytes, at the beginning of the rank's segment. The only failure is out of memory.
 fn store(alloc: Global) -> Result<Call, NoMemory>
     ensures { IfOk result (λ call. is_driven call ≡ true) }
 {
@@ -76,7 +81,7 @@ fn store(alloc: Global) -> Result<Call, NoMemory>
     }))
 }
 
-/// A write of those bytes to a rank, with a notification.
+/// The call that posts a write of those bytes to a rank, and a notification.
 fn post(rank: u64) -> Call
     ensures { is_driven result ≡ true }
 {
@@ -93,11 +98,11 @@ fn post(rank: u64) -> Call
     })
 }
 
-/// A call was not answered, or a transfer is not permitted.
+/// A call had no reply, or a transfer was not enabled.
 #[derive(Debug)]
 struct Stuck;
 
-/// A call of a rank, which is answered at one look.
+/// Makes a call of a rank at one look. `Stuck` where there is no reply at that look, or no memory.
 fn call_once(alloc: Global, nodes: &mut TwoNodes, rank: RankId, call: &Call) -> Result<(), Stuck>
     requires rank { rank < 2 }
     requires callers { HasTwoCallers nodes.old }
@@ -114,7 +119,7 @@ fn call_once(alloc: Global, nodes: &mut TwoNodes, rank: RankId, call: &Call) -> 
     }
 }
 
-/// A call of both ranks.
+/// Makes a call of both ranks, one after the other.
 fn call_both(alloc: Global, nodes: &mut TwoNodes, call: &Call) -> Result<(), Stuck>
     requires callers { HasTwoCallers nodes.old }
     requires driven { is_driven call.now ≡ true }
@@ -124,7 +129,7 @@ fn call_both(alloc: Global, nodes: &mut TwoNodes, call: &Call) -> Result<(), Stu
     call_once(alloc, nodes, RankId::of(1), call)
 }
 
-/// A transfer of a rank.
+/// Makes one transfer of a rank. `Stuck` where none is enabled.
 fn move_one(nodes: &mut TwoNodes, rank: RankId) -> Result<(), Stuck>
     requires rank { rank < 2 }
     requires callers { HasTwoCallers nodes.old }
@@ -137,7 +142,7 @@ fn move_one(nodes: &mut TwoNodes, rank: RankId) -> Result<(), Stuck>
     }
 }
 
-/// The two entries of a rank take their bytes and are put.
+/// Makes the take and the put of each of the two entries that a rank has posted.
 fn move_two(nodes: &mut TwoNodes, rank: RankId) -> Result<(), Stuck>
     requires rank { rank < 2 }
     requires callers { HasTwoCallers nodes.old }
@@ -149,7 +154,7 @@ fn move_two(nodes: &mut TwoNodes, rank: RankId) -> Result<(), Stuck>
     move_one(nodes, rank)
 }
 
-/// Both ranks store and post, and all entries are moved.
+/// Both ranks store and post, all entries are transferred, and both ranks wait for their queue.
 fn send(alloc: Global, nodes: &mut TwoNodes, store: &Call) -> Result<(), Stuck>
     requires callers { HasTwoCallers nodes.old }
     requires driven { is_driven store.now ≡ true }
@@ -163,7 +168,7 @@ fn send(alloc: Global, nodes: &mut TwoNodes, store: &Call) -> Result<(), Stuck>
     call_both(alloc, nodes, &Call::Wait(Wait { queue: 0 }))
 }
 
-/// Both ranks find their notification and read what was sent.
+/// Both ranks find their notification, reset its slot, and load what was sent.
 fn receive(alloc: Global, nodes: &mut TwoNodes) -> Result<(), Stuck>
     requires callers { HasTwoCallers nodes.old }
     ensures { HasTwoCallers nodes.new }
@@ -183,7 +188,7 @@ fn receive(alloc: Global, nodes: &mut TwoNodes) -> Result<(), Stuck>
     call_both(alloc, nodes, &Call::Load(load))
 }
 
-/// A rank joins a barrier that is not full.
+/// Rank 0 joins a barrier, which is not ready at that look. `Stuck` where there is a reply.
 fn join_first(alloc: Global, nodes: &mut TwoNodes, barrier: &Call) -> Result<(), Stuck>
     requires callers { HasTwoCallers nodes.old }
     requires driven { is_driven barrier.now ≡ true }
@@ -195,7 +200,7 @@ fn join_first(alloc: Global, nodes: &mut TwoNodes, barrier: &Call) -> Result<(),
     }
 }
 
-/// Both ranks meet in a barrier: the first is ready when it looks again.
+/// Both ranks come to a barrier: rank 0 joins, rank 1 joins and has its reply, and rank 0 has its reply at its second look.
 fn meet(alloc: Global, nodes: &mut TwoNodes) -> Result<(), Stuck>
     requires callers { HasTwoCallers nodes.old }
     ensures { HasTwoCallers nodes.new }
@@ -206,7 +211,7 @@ fn meet(alloc: Global, nodes: &mut TwoNodes) -> Result<(), Stuck>
     call_once(alloc, nodes, RankId::of(0), &Call::Barrier(barrier))
 }
 
-/// A round of both ranks.
+/// One round: both ranks send, receive, and come to a barrier.
 fn go_round(alloc: Global, nodes: &mut TwoNodes, store: &Call) -> Result<(), Stuck>
     requires callers { HasTwoCallers nodes.old }
     requires driven { is_driven store.now ≡ true }
@@ -217,7 +222,7 @@ fn go_round(alloc: Global, nodes: &mut TwoNodes, store: &Call) -> Result<(), Stu
     meet(alloc, nodes)
 }
 
-/// How many events a world has after so many rounds.
+/// Makes this number of rounds of a world, and gives how many events the world has then.
 fn drive(alloc: Global, nodes: &mut TwoNodes, store: &Call, rounds: u64) -> Result<u64, Stuck>
     requires callers { HasTwoCallers nodes.old }
     requires driven { is_driven store.now ≡ true }
@@ -228,7 +233,8 @@ fn drive(alloc: Global, nodes: &mut TwoNodes, store: &Call, rounds: u64) -> Resu
     Ok(nodes.places)
 }
 
-/// How many events so many worlds have; none where one is stuck.
+/// Makes all rounds of all worlds, and gives how many events these have together; none where one is stuck. The only failure is out of
+/// memory.
 fn drive_all(
     alloc: Global,
     shape: &Shape,
@@ -250,7 +256,7 @@ fn drive_all(
     Ok(Some(events))
 }
 
-/// The same, with what they store.
+/// As `drive_all`, with the `store` call made here.
 fn measure(alloc: Global, shape: &Shape, worlds: u64, rounds: u64) -> Result<Option<u64>, NoMemory>
     requires { has_two_callers shape.now ≡ true }
 {
@@ -258,6 +264,7 @@ fn measure(alloc: Global, shape: &Shape, worlds: u64, rounds: u64) -> Result<Opt
     drive_all(alloc, shape, &store, worlds, rounds)
 }
 
+/// Reads the words, makes the worlds, and writes the number of events.
 fn main(rt: HostRuntime) -> ExitCode {
     let Ok(words) = given_words(&rt) else {
         return ExitCode::from(NO_MEMORY);

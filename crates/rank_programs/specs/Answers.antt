@@ -1,4 +1,4 @@
--- What comes of a call that a program makes: what it answers where nothing goes wrong, or the whole answer. (own choice)
+-- What comes of a call that a program makes: the value that the call answers, or all that it gave. (own choice)
 use Rattle.std.specs.Prelude.{◌≡◌, ◌≢◌, ◌<◌, ◌⊎◌, ℕ, false, IsErrAnd, Result, Ok, Err}
 use Rattle.gaspi_types.specs.CallRows.{row_of}
 use Rattle.gaspi_types.specs.declared.calls.Call.{Call}

@@ -13,7 +13,7 @@ use Rattle.transfer_worker.specs.Turns.{IsExtended, IsDrained}
 use Rattle.rank_programs.specs.declared.thread_bodies.ThreadBody.{ThreadBody}
 use Rattle.rank_programs.specs.declared.thread_bodies.ThreadBody.TheVariants.{Caller, Worker}
 
--- a fact of each item of a list and its place
+-- a fact of each item of a list and its index
 abbrev pub EachAt : {A : Type 0} → (ℕ → A → Type 0) → List A → Type 0
 EachAt {A} P xs = (place : ℕ) (x : A) → slice_get xs place ≡ Some x → P place x
 
@@ -59,7 +59,7 @@ module _ {P T : Type 0} where
   HaveAllRun old new = EachAt (λ place task. (before : Task (ThreadBody P T)) × (slice_get old place ≡ Some before) × BodyDid before.body before.pass task.body task.pass) new
 
 module _ {P T : Type 0} (world : TableValue Start) where
-  -- the bodies of callers stand first
+  -- the bodies of callers come first
   abbrev pub IsBodyOf : ℕ → ThreadBody P T → Type 0
   IsBodyOf place (Caller program outcome) = place < length world.start.shape.callers
   IsBodyOf place (Worker first_turn) = length world.start.shape.callers ≤ place

@@ -1,4 +1,5 @@
-//! Callers, and the calls that they make.
+//! A caller as a program has it, and its calls by what they are to answer. The `call_` functions serve the procedures: `name` is that
+//! of the procedure. Their error has this name, and what the call gave instead.
 
 ghost use Rattle.gaspi_types.specs.declared.replies.Reply.TheVariants as replies;
 ghost use Rattle.gaspi_types.specs.declared.shapes.CallerId.{CallerId};
@@ -18,13 +19,16 @@ use std::sync::Wait;
 /// A caller in its world, with what its calls are made with: its procedures are methods. (own choice)
 #[derive(Drop)]
 pub struct Caller<'a, R> {
+    /// How its thread waits.
     pub rt: &'a R,
+    /// Where its calls take memory.
     pub alloc: Global,
+    /// The caller itself: its world, and its pass.
     pub rank: Rank<'a>,
 }
 
 impl<'a, R: Wait> Caller<'a, R> {
-    /// Its rank and its thread.
+    /// The rank and the thread of this caller.
     pub fn id(&self) -> CallerId
         requires { IsCaller self.now }
         ensures { IsPassOf self.now.rank.world.now.start.shape result self.now.rank.pass.now.known }
@@ -32,7 +36,7 @@ impl<'a, R: Wait> Caller<'a, R> {
         self.rank.world.caller_of(self.rank.pass)
     }
 
-    /// The number of its rank. (GASPI: proc_rank)
+    /// The number of this caller's rank. (GASPI: proc_rank)
     pub fn proc_rank(&self) -> u64
         requires { IsCaller self.now }
         ensures rank { (c : CallerId) → IsPassOf self.now.rank.world.now.start.shape c self.now.rank.pass.now.known → result ≡ c.rank }
@@ -41,14 +45,14 @@ impl<'a, R: Wait> Caller<'a, R> {
         u64::from(self.rank.world.caller_of(self.rank.pass).rank.number())
     }
 
-    /// How many ranks there are. (GASPI: proc_num)
+    /// How many ranks the world has. (GASPI: proc_num)
     pub fn proc_num(&self) -> u64
         ensures { result ≡ self.now.rank.world.now.start.shape.limits.ranks }
     {
         u64::from(self.rank.world.shape().ranks())
     }
 
-    /// Makes a call that is to be done.
+    /// Makes a call that answers `done`, and nothing else.
     pub(crate) fn call_done(
         &mut self,
         name: &'static str,
@@ -64,7 +68,7 @@ impl<'a, R: Wait> Caller<'a, R> {
         replies::done(name, answer)
     }
 
-    /// Makes a call that is to answer a number.
+    /// Makes a call that answers a value.
     pub(crate) fn call_value(
         &mut self,
         name: &'static str,
@@ -80,7 +84,7 @@ impl<'a, R: Wait> Caller<'a, R> {
         replies::value(name, answer)
     }
 
-    /// Makes a call that is to answer the number of something.
+    /// Makes a call that answers an id.
     pub(crate) fn call_id(
         &mut self,
         name: &'static str,
@@ -96,7 +100,7 @@ impl<'a, R: Wait> Caller<'a, R> {
         replies::id(name, answer)
     }
 
-    /// Makes a call that is to answer bytes.
+    /// Makes a call that answers bytes.
     pub(crate) fn call_bytes(
         &mut self,
         name: &'static str,
@@ -112,7 +116,7 @@ impl<'a, R: Wait> Caller<'a, R> {
         replies::bytes(name, answer)
     }
 
-    /// Makes a call that is to answer ranks.
+    /// Makes a call that answers a mask of ranks.
     pub(crate) fn call_mask(
         &mut self,
         name: &'static str,
@@ -128,7 +132,7 @@ impl<'a, R: Wait> Caller<'a, R> {
         replies::mask(name, answer)
     }
 
-    /// Makes a call that is to answer numbers.
+    /// Makes a call that answers a list of numbers.
     pub(crate) fn call_numbers(
         &mut self,
         name: &'static str,

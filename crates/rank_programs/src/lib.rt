@@ -1,8 +1,8 @@
 //! Ranks that run a program of your own, each caller on a thread, beside workers that make the transfers. (own choice)
 //!
-//! A `Program` says what a `Caller` does. Its procedures are methods, which give what the call answers where nothing goes wrong; any
-//! other reply is `Unexpected`. `run_program` starts a world, runs the program for each of its callers, and workers, each on a thread
-//! of its own, and closes the world: it gives the journal, and what each caller came to.
+//! A `Program` says what a `Caller` does. Its procedures are methods, which give the value that the call answers; any other reply, and
+//! a call that was not made, is the error `Unexpected`. `run_program` starts a world, runs the program for each of its callers, and
+//! workers, each on a thread of its own, and closes the world: it gives the journal, and the outcome of each caller.
 #![tactic(auto)]
 
 mod callers;

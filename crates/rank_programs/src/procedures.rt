@@ -1,7 +1,9 @@
-//! The procedures of a caller: each is one call, and gives what it answers where nothing goes wrong. (GASPI: the interface)
+//! The GASPI procedures of a caller: each makes one call, and gives the value that the call answers, or `Unexpected`.
+//! (GASPI: the interface)
 //!
-//! The arguments come in GASPI's order. A procedure without a timeout looks once. One that is given a list copies it: `Unexpected`
-//! answers `Stop::NoMemory` where there is no memory for that, and nothing was called.
+//! The parameters come in GASPI's order. A procedure without a timeout looks once. One that is given a list copies it: `Unexpected`
+//! has `Stop::NoMemory` where there is no memory for that, and then no call was made. `store` and `load` are the program's own writes
+//! and reads.
 
 ghost use Rattle.std.specs.Prelude.{length};
 ghost use Rattle.gaspi_types.specs.NumberTypes.{AreInType};
@@ -23,7 +25,7 @@ use gaspi_types::{
 use std::sync::Wait;
 
 impl<'a, R: Wait> Caller<'a, R> {
-    /// Makes an own segment. (GASPI: segment_alloc)
+    /// Makes an own segment, all zero. (GASPI: segment_alloc)
     pub fn segment_alloc(&mut self, seg: u64, size: u64) -> Result<(), Unexpected>
         requires { IsCaller self.old }
         ensures stays { StaysCaller self.old self.new }
@@ -47,7 +49,8 @@ impl<'a, R: Wait> Caller<'a, R> {
         )
     }
 
-    /// Makes an own segment, and knows the one of each member of a group: a collective. (GASPI: segment_create)
+    /// Makes an own segment, and makes the new segments of all members of a group known to the rank: a collective.
+    /// (GASPI: segment_create)
     pub fn segment_create(
         &mut self,
         seg: u64,
@@ -91,7 +94,7 @@ impl<'a, R: Wait> Caller<'a, R> {
         self.call_done("gaspi_store", Call::Store(args), Timeout::Looks(1))
     }
 
-    /// Loads bytes of an own segment. (own choice)
+    /// The bytes of a range of an own segment. (own choice)
     pub fn load(&mut self, seg: u64, offset: u64, size: u64) -> Result<Bytes, Unexpected>
         requires { IsCaller self.old }
         ensures stays { StaysCaller self.old self.new }
@@ -101,7 +104,7 @@ impl<'a, R: Wait> Caller<'a, R> {
         self.call_bytes("gaspi_load", Call::Load(args), Timeout::Looks(1))
     }
 
-    /// Posts a write into a segment of a rank. (GASPI: write)
+    /// Posts a write to a segment of a rank. (GASPI: write)
     pub fn write(
         &mut self,
         seg: u64,
@@ -155,7 +158,7 @@ impl<'a, R: Wait> Caller<'a, R> {
         self.call_done("gaspi_read", Call::Read(args), Timeout::Looks(1))
     }
 
-    /// Posts a notification of a rank. (GASPI: notify)
+    /// Posts a notification for a slot of a rank. (GASPI: notify)
     pub fn notify(
         &mut self,
         rseg: u64,
@@ -178,7 +181,7 @@ impl<'a, R: Wait> Caller<'a, R> {
         self.call_done("gaspi_notify", Call::Notify(args), Timeout::Looks(1))
     }
 
-    /// Posts a write, and a notification behind it. (GASPI: write_notify)
+    /// Posts a write, and after it a notification. (GASPI: write_notify)
     pub fn write_notify(&mut self, args: WriteNotify) -> Result<(), Unexpected>
         requires { IsCaller self.old }
         ensures stays { StaysCaller self.old self.new }
@@ -191,7 +194,7 @@ impl<'a, R: Wait> Caller<'a, R> {
         )
     }
 
-    /// Posts a read, and behind it a notification of an own slot. (GASPI: read_notify)
+    /// Posts a read, and after it its notification, which sets an own slot. (GASPI: read_notify)
     pub fn read_notify(&mut self, args: ReadNotify) -> Result<(), Unexpected>
         requires { IsCaller self.old }
         ensures stays { StaysCaller self.old self.new }
@@ -217,7 +220,7 @@ impl<'a, R: Wait> Caller<'a, R> {
         self.call_done("gaspi_write_list", Call::WriteList(args), Timeout::Looks(1))
     }
 
-    /// Posts a write for each item, and a notification behind them. (GASPI: write_list_notify)
+    /// Posts a write for each item, and after them a notification. (GASPI: write_list_notify)
     pub fn write_list_notify(
         &mut self,
         items: &[Item],
@@ -262,7 +265,7 @@ impl<'a, R: Wait> Caller<'a, R> {
         self.call_done("gaspi_read_list", Call::ReadList(args), Timeout::Looks(1))
     }
 
-    /// Posts a read for each item, and behind them a notification of an own slot. (GASPI: read_list_notify)
+    /// Posts a read for each item, and after them their notification, which sets an own slot. (GASPI: read_list_notify)
     pub fn read_list_notify(
         &mut self,
         items: &[Item],
@@ -292,7 +295,7 @@ impl<'a, R: Wait> Caller<'a, R> {
         )
     }
 
-    /// Waits until all that a queue took from own memory, and all that it reads, is done. (GASPI: wait)
+    /// Waits until no entry of a queue is awaited, and sets the queue's open count to 0. (GASPI: wait)
     pub fn wait(&mut self, queue: u64, timeout: Timeout) -> Result<(), Unexpected>
         requires caller { IsCaller self.old }
         requires timeout { HasLook (looks_of timeout) }
@@ -303,7 +306,7 @@ impl<'a, R: Wait> Caller<'a, R> {
         self.call_done("gaspi_wait", Call::Wait(args), timeout)
     }
 
-    /// Drops what a queue still has. (GASPI: queue_purge)
+    /// Removes all entries of a queue, sets its open count to 0, and ends its broken mark. (GASPI: queue_purge)
     pub fn queue_purge(&mut self, queue: u64) -> Result<(), Unexpected>
         requires { IsCaller self.old }
         ensures stays { StaysCaller self.old self.new }
@@ -313,7 +316,7 @@ impl<'a, R: Wait> Caller<'a, R> {
         self.call_done("gaspi_queue_purge", Call::Purge(args), Timeout::Looks(1))
     }
 
-    /// How many entries a queue has open. (GASPI: queue_size)
+    /// The open count of a queue. (GASPI: queue_size)
     pub fn queue_size(&mut self, queue: u64) -> Result<u64, Unexpected>
         requires { IsCaller self.old }
         ensures stays { StaysCaller self.old self.new }
@@ -323,7 +326,7 @@ impl<'a, R: Wait> Caller<'a, R> {
         self.call_value("gaspi_queue_size", Call::Qsize(args), Timeout::Looks(1))
     }
 
-    /// Waits for a notification in a range of slots: the number of its slot. (GASPI: notify_waitsome)
+    /// Waits until a slot of a range is set, and gives the least such id. (GASPI: notify_waitsome)
     pub fn notify_waitsome(
         &mut self,
         seg: u64,
@@ -340,7 +343,7 @@ impl<'a, R: Wait> Caller<'a, R> {
         self.call_id("gaspi_notify_waitsome", Call::Waitsome(args), timeout)
     }
 
-    /// Reads a slot and sets it to 0. (GASPI: notify_reset)
+    /// Sets a slot to 0, and gives its value before. (GASPI: notify_reset)
     pub fn notify_reset(&mut self, seg: u64, note: u64) -> Result<u64, Unexpected>
         requires { IsCaller self.old }
         ensures stays { StaysCaller self.old self.new }
@@ -350,7 +353,7 @@ impl<'a, R: Wait> Caller<'a, R> {
         self.call_value("gaspi_notify_reset", Call::Reset(args), Timeout::Looks(1))
     }
 
-    /// Sends a message to a rank. (GASPI: passive_send)
+    /// Sends a message to a rank; waits while that rank's inbox is full. (GASPI: passive_send)
     pub fn passive_send(
         &mut self,
         seg: u64,
@@ -373,7 +376,8 @@ impl<'a, R: Wait> Caller<'a, R> {
         self.call_done("gaspi_passive_send", Call::PassiveSend(args), timeout)
     }
 
-    /// Receives a message: the rank that sent it. (GASPI: passive_receive)
+    /// Receives the first message of the rank's inbox into an own segment, and gives its sender; waits while the inbox is empty.
+    /// (GASPI: passive_receive)
     pub fn passive_receive(
         &mut self,
         seg: u64,
@@ -390,7 +394,7 @@ impl<'a, R: Wait> Caller<'a, R> {
         self.call_id("gaspi_passive_receive", Call::PassiveReceive(args), timeout)
     }
 
-    /// Adds to a word of a rank, and answers what it was. (GASPI: atomic_fetch_add)
+    /// Adds to a memory word of a rank, and gives its value before. (GASPI: atomic_fetch_add)
     pub fn atomic_fetch_add(
         &mut self,
         seg: u64,
@@ -415,7 +419,7 @@ impl<'a, R: Wait> Caller<'a, R> {
         )
     }
 
-    /// Replaces a word of a rank where it is the comparator, and answers what it was. (GASPI: atomic_compare_swap)
+    /// Replaces a memory word of a rank where its value is the comparator, and gives its value before. (GASPI: atomic_compare_swap)
     pub fn atomic_compare_swap(
         &mut self,
         seg: u64,
@@ -442,7 +446,7 @@ impl<'a, R: Wait> Caller<'a, R> {
         )
     }
 
-    /// Makes a group: its number. (GASPI: group_create)
+    /// Makes a group of the rank, building and without ranks, and gives its id. (GASPI: group_create)
     pub fn group_create(&mut self) -> Result<u64, Unexpected>
         requires { IsCaller self.old }
         ensures stays { StaysCaller self.old self.new }
@@ -451,7 +455,7 @@ impl<'a, R: Wait> Caller<'a, R> {
         self.call_id("gaspi_group_create", Call::GroupCreate, Timeout::Looks(1))
     }
 
-    /// Adds a rank to a group. (GASPI: group_add)
+    /// Adds a rank to a group that is building. (GASPI: group_add)
     pub fn group_add(&mut self, group: u64, rank: u64) -> Result<(), Unexpected>
         requires { IsCaller self.old }
         ensures stays { StaysCaller self.old self.new }
@@ -475,7 +479,7 @@ impl<'a, R: Wait> Caller<'a, R> {
         )
     }
 
-    /// Commits a group: a collective. (GASPI: group_commit)
+    /// The group commit of a group: a collective. (GASPI: group_commit)
     pub fn group_commit(&mut self, group: u64, timeout: Timeout) -> Result<(), Unexpected>
         requires caller { IsCaller self.old }
         requires timeout { HasLook (looks_of timeout) }
@@ -486,7 +490,7 @@ impl<'a, R: Wait> Caller<'a, R> {
         self.call_done("gaspi_group_commit", Call::Commit(args), timeout)
     }
 
-    /// Meets all members of a group. (GASPI: barrier)
+    /// Waits until all members of a group have come to this barrier: a collective. (GASPI: barrier)
     pub fn barrier(&mut self, group: u64, timeout: Timeout) -> Result<(), Unexpected>
         requires caller { IsCaller self.old }
         requires timeout { HasLook (looks_of timeout) }
@@ -497,7 +501,8 @@ impl<'a, R: Wait> Caller<'a, R> {
         self.call_done("gaspi_barrier", Call::Barrier(args), timeout)
     }
 
-    /// Reduces the numbers of all members of a group, which are in the range of their type. (GASPI: allreduce)
+    /// Reduces the values of all members of a group, and gives the reduction: a collective. The values are in the range of their type.
+    /// (GASPI: allreduce)
     pub fn allreduce(
         &mut self,
         numbers: &[i128],
@@ -520,7 +525,7 @@ impl<'a, R: Wait> Caller<'a, R> {
         self.call_numbers("gaspi_allreduce", Call::Allreduce(args), timeout)
     }
 
-    /// Which ranks are corrupt for the own rank: bit r for rank r. (GASPI: state_vec_get)
+    /// The ranks that are corrupt for the caller's rank: bit r for rank r. (GASPI: state_vec_get)
     pub fn state_vec_get(&mut self) -> Result<u32, Unexpected>
         requires { IsCaller self.old }
         ensures stays { StaysCaller self.old self.new }

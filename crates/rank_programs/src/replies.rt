@@ -1,4 +1,5 @@
-//! Replies, read as what a call answers where nothing goes wrong. (own choice)
+//! Replies, read as the value that a call answers. Every other reply, and a call that was not made, is the error `Unexpected`. `call`
+//! is the name of the procedure, for that error; `answer` is what `Rank::call` gave. (own choice)
 
 ghost use Rattle.std.specs.Prelude.{◌≡◌, ◌↔◌, IsOk, IfErr, Ok, Err};
 ghost use Rattle.gaspi_types.specs.declared.replies.Reply.TheVariants as replies;
@@ -8,15 +9,17 @@ use gaspi_types::{Bytes, Numbers, Reply};
 use gaspi_world::Stop;
 use thiserror::Error;
 
-/// A call that was answered otherwise, or was not made. The name is its caller's own.
+/// A call that gave another reply than its procedure answers, or that was not made.
 #[derive(Debug, Drop, Error)]
 #[error("{call}: {answer:?}")]
 pub struct Unexpected {
+    /// The name of the procedure.
     pub call: &'static str,
+    /// The other reply, or why the call was not made.
     pub answer: Result<Reply, Stop>,
 }
 
-/// The call was done, and answered nothing else.
+/// Nothing, where the reply is `done`.
 pub fn done(call: &'static str, answer: Result<Reply, Stop>) -> Result<(), Unexpected>
     ensures done { IsOk result ↔ (answer ≡ Ok replies.Done) }
     ensures other { IfErr result (λ e. e.answer ≡ answer) }
@@ -27,7 +30,7 @@ pub fn done(call: &'static str, answer: Result<Reply, Stop>) -> Result<(), Unexp
     }
 }
 
-/// The number that it answered: the value of a notification slot, a word, or how many entries a queue has.
+/// The value that the call answered: of a slot, of a memory word, or an open count.
 pub fn value(call: &'static str, answer: Result<Reply, Stop>) -> Result<u64, Unexpected>
     ensures value { (n : _) → (result ≡ Ok n) ↔ (answer ≡ Ok (replies.Value n)) }
     ensures other { IfErr result (λ e. e.answer ≡ answer) }
@@ -38,7 +41,7 @@ pub fn value(call: &'static str, answer: Result<Reply, Stop>) -> Result<u64, Une
     }
 }
 
-/// The number of what it answered: of a notification slot, a group, or the rank that sent a message.
+/// The id that the call answered: of a slot, of a group, or of the rank that sent a message.
 pub fn id(call: &'static str, answer: Result<Reply, Stop>) -> Result<u64, Unexpected>
     ensures id { (n : _) → (result ≡ Ok n) ↔ (answer ≡ Ok (replies.Id n)) }
     ensures other { IfErr result (λ e. e.answer ≡ answer) }
@@ -49,7 +52,7 @@ pub fn id(call: &'static str, answer: Result<Reply, Stop>) -> Result<u64, Unexpe
     }
 }
 
-/// The bytes that it answered.
+/// The bytes that the call answered.
 pub fn bytes(call: &'static str, answer: Result<Reply, Stop>) -> Result<Bytes, Unexpected>
     ensures bytes { (bytes : _) → (result ≡ Ok bytes) ↔ (answer ≡ Ok (replies.Bytes bytes)) }
     ensures other { IfErr result (λ e. e.answer ≡ answer) }
@@ -60,7 +63,7 @@ pub fn bytes(call: &'static str, answer: Result<Reply, Stop>) -> Result<Bytes, U
     }
 }
 
-/// The ranks that it answered: bit r for rank r.
+/// The ranks that the call answered: bit r for rank r.
 pub fn mask(call: &'static str, answer: Result<Reply, Stop>) -> Result<u32, Unexpected>
     ensures mask { (mask : _) → (result ≡ Ok mask) ↔ (answer ≡ Ok (replies.Mask mask)) }
     ensures other { IfErr result (λ e. e.answer ≡ answer) }
@@ -71,7 +74,7 @@ pub fn mask(call: &'static str, answer: Result<Reply, Stop>) -> Result<u32, Unex
     }
 }
 
-/// The numbers that it answered.
+/// The list of numbers that the call answered.
 pub fn numbers(call: &'static str, answer: Result<Reply, Stop>) -> Result<Numbers, Unexpected>
     ensures numbers { (numbers : _) → (result ≡ Ok numbers) ↔ (answer ≡ Ok (replies.List numbers)) }
     ensures other { IfErr result (λ e. e.answer ≡ answer) }
@@ -82,7 +85,7 @@ pub fn numbers(call: &'static str, answer: Result<Reply, Stop>) -> Result<Number
     }
 }
 
-/// There was no memory for the list of a call, which was not made.
+/// The error of a procedure for whose list there was no memory: its call was not made.
 pub(crate) fn out_of_memory(call: &'static str) -> Unexpected
     ensures { result.answer ≡ Err NoMemory }
 {

@@ -1,4 +1,5 @@
-//! A program run on threads, from the start of its world to the end.
+//! A program on threads, from the start of its world to the close. The tasks of the threads, a body with a pass for each, are made,
+//! run and taken apart here. `party` is the number of a pass; those of callers come first.
 
 ghost use Rattle.std.specs.Prelude.{◌≡◌, ◌<◌, ◌≤◌, true, IfOk, map, length, option_to_list};
 ghost use Rattle.std.specs.List.{All};
@@ -19,17 +20,19 @@ use std::sync::Wait;
 use std::thread::Threads;
 use thiserror::Error;
 
-/// What a run gave: the journal, and what the callers came to, by rank and thread.
+/// What a program on threads gave.
 #[derive(Drop)]
 pub struct ProgramResult<T> {
+    /// The history of the world.
     pub journal: Journal,
+    /// What the program came to for each caller, by rank and thread.
     pub outcomes: Vec<T>,
 }
 
-/// Why a run gave nothing.
+/// Why a program on threads gave no journal.
 #[derive(Debug, Drop, Error)]
 pub enum RunFault {
-    /// There was no memory.
+    /// Memory ran out, before the threads began or after they ended.
     #[error("out of memory")]
     NoMemory,
     /// The passes are not all those of the world any more: callers have exchanged theirs for others.
@@ -38,12 +41,13 @@ pub enum RunFault {
 }
 
 impl From<NoMemory> for RunFault {
+    /// Out of memory, as a fault.
     fn from(_error: NoMemory) -> RunFault {
         RunFault::NoMemory
     }
 }
 
-/// What the thread with a pass does, where the passes of the callers stand first.
+/// The body for a pass: a caller's, with the program, or a worker's.
 fn body_of<'a, P: Program>(
     world: &World,
     program: &'a P,
@@ -63,7 +67,7 @@ fn body_of<'a, P: Program>(
     }
 }
 
-/// A pass with what its thread does.
+/// The task of a pass.
 fn task_of<'a, P: Program>(
     world: &World,
     program: &'a P,
@@ -77,7 +81,7 @@ fn task_of<'a, P: Program>(
     Task { body, pass }
 }
 
-/// A task for each pass, in their order.
+/// The tasks of all passes of a world, in their order. The only failure is out of memory.
 fn tasks_of<'a, P: Program>(
     alloc: Global,
     world: &World,
@@ -96,7 +100,7 @@ fn tasks_of<'a, P: Program>(
     Ok(tasks)
 }
 
-/// Runs the tasks, each on a thread of its own.
+/// Runs the tasks by `launch`, for `run_tasks`.
 fn run_slice<R: Threads + Wait + Sync, P: Program + Sync>(
     rt: &R,
     alloc: Global,
@@ -112,7 +116,7 @@ where
     launch(rt, alloc, world, tasks);
 }
 
-/// Runs the tasks, each on a thread of its own.
+/// Runs the tasks, each on a thread of its own. The list keeps its order.
 fn run_tasks<R: Threads + Wait + Sync, P: Program + Sync>(
     rt: &R,
     alloc: Global,
@@ -128,7 +132,7 @@ where
     run_slice(rt, alloc, world, tasks.as_mut_slice());
 }
 
-/// The outcome of the caller of a body that has run the program.
+/// The outcome of the caller of a body that has run the program; none of any other body.
 fn outcome_of<P: Program>(body: ThreadBody<'_, P, P::Outcome>) -> Option<P::Outcome>
     ensures { option_to_list result ≡ outcome_of body.entry }
 {
@@ -138,7 +142,8 @@ fn outcome_of<P: Program>(body: ThreadBody<'_, P, P::Outcome>) -> Option<P::Outc
     }
 }
 
-/// The passes of the tasks, in their order, and what the callers came to.
+/// The passes of the tasks, in their order, and the outcomes of the callers. The only failure is out of memory; then the passes are
+/// gone.
 fn split<P: Program>(
     alloc: Global,
     tasks: Vec<Task<ThreadBody<'_, P, P::Outcome>>>,
@@ -157,7 +162,9 @@ fn split<P: Program>(
     Ok((passes, outcomes))
 }
 
-/// Runs the program for each caller, and workers, each on a thread of its own: the passes then, and what the callers came to.
+/// Runs the program for each caller, and workers, each on a thread of its own, and gives the passes back with the outcomes of the
+/// callers. `passes` are all passes of the world, which have done nothing, with a worker's among them. The only failure is out of
+/// memory; then the passes are gone.
 fn run_bodies<R: Threads + Wait + Sync, P: Program + Sync>(
     rt: &R,
     alloc: Global,
@@ -178,7 +185,8 @@ where
     split(alloc, tasks)
 }
 
-/// Ends a world whose bodies have run, where these are all its passes.
+/// Ends a world whose bodies have run, and gives its journal. `NotWhole` where these are not all its passes; the only other failure is
+/// out of memory.
 fn closed(alloc: Global, world: World, passes: Passes) -> Result<Journal, RunFault>
     requires { HaveRun world passes.items }
     ensures legal { IfOk result (λ journal. is_legal world.start.shape journal ≡ true) }
@@ -196,9 +204,8 @@ fn closed(alloc: Global, world: World, passes: Passes) -> Result<Journal, RunFau
     }
 }
 
-/// Runs a program for each caller of a world, beside workers that make its transfers, each on a thread of its own. The journal is
-/// a legal history of the world. At its end every caller has ended, and all that was posted has arrived, but for what waits in broken
-/// queues.
+/// Runs a program for each caller of a world, beside 1 to 4 workers that make its transfers, each on a thread of its own. The journal
+/// is a legal history of the world, and at its end the world is settled. `RunFault` says why there is no journal.
 pub fn run_program<R: Threads + Wait + Sync, P: Program + Sync>(
     rt: &R,
     alloc: Global,

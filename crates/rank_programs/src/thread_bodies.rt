@@ -1,4 +1,4 @@
-//! What the threads of a world do: each runs the program for a caller, or makes transfers.
+//! The bodies of a world's threads: each runs the program for a caller, or makes transfers.
 
 ghost use Rattle.std.specs.Prelude.{◌≡◌};
 ghost use Rattle.commit_table.specs.Calls.{IsOf, HoldsNone};
@@ -14,16 +14,17 @@ use std::alloc::Global;
 use std::sync::Wait;
 use transfer_worker::Worker;
 
-/// What a thread of a world does.
+/// What a thread of a world does with its pass.
 #[derive(Drop)]
 pub(crate) enum ThreadBody<'a, P, T> {
-    /// It runs the program for a caller, which comes to this once it has.
+    /// It runs the program for the caller whose pass it has. The outcome is none before that.
     Caller { program: &'a P, outcome: Option<T> },
-    /// It makes transfers until none is left. Its first turn begins at the rank of that number.
+    /// It makes transfers until the world is settled. Its first turn has this number.
     Worker { first_turn: u64 },
 }
 
-/// Runs the program for the caller of a pass, and makes the caller's end.
+/// Runs the program for the caller of a pass, then makes the caller's end, and gives the program's outcome. The pass must be a
+/// caller's, and hold no shard.
 fn run_caller<'a, R: Wait, P: Program>(
     rt: &'a R,
     alloc: Global,
@@ -41,7 +42,7 @@ fn run_caller<'a, R: Wait, P: Program>(
     outcome
 }
 
-/// Makes transfers by the pass of a worker until none is left.
+/// Makes transfers by the pass of a worker until the world is settled, from the turn of this number on.
 fn drain<R: Wait>(rt: &R, world: &World, pass: &mut Pass, first_turn: u64)
     requires pass { IsOf world.now pass.old }
     requires free { HoldsNone pass.old.known }

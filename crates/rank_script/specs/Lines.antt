@@ -1,4 +1,4 @@
--- What a line may hold, and an input. (own choice)
+-- Which bytes a line may have, and how many bytes a line and an input. (own choice)
 use Rattle.std.specs.Prelude.{ℕ, Bool, ◌==◌, ◌||◌, not, nat_lt, List, length}
 use Rattle.std.specs.List.{list_any}
 use Rattle.gaspi_types.specs.Ranges.{is_between}
@@ -7,10 +7,10 @@ use Rattle.gaspi_types.specs.Ranges.{is_between}
 abbrev pub input_limit : ℕ
 input_limit = 268435456
 
--- a byte that a line may hold: a printing one of ASCII, a space or a tab
+-- a byte that a line may have: a printing one of ASCII, a space or a tab
 abbrev pub is_line_byte : ℕ → Bool
 is_line_byte byte = is_between 32 126 byte || (byte == 9)
 
--- a line that may not stand in a text, whatever it says: it holds another byte, or has over 140,000 bytes
+-- a line that no text may have: with another byte, or with over 140,000 bytes
 abbrev pub is_bad_line : List ℕ → Bool
 is_bad_line line = list_any (λ byte. not (is_line_byte byte)) line || nat_lt 140000 (length line)

@@ -11,6 +11,7 @@ use Rattle.rank_script.specs.declared.scripts.Script.{Script}
 abbrev pub IsPlain : ScriptLine → Type 0
 IsPlain line = line.call ≢ End
 
+-- all lines of a script are plain
 abbrev pub HasPlainLines : Script → Type 0
 HasPlainLines script = All IsPlain script.lines
 
@@ -27,9 +28,10 @@ has_look_in Block = true
 abbrev pub MayLook : ScriptLine → Type 0
 MayLook line = has_look_in line.timeout ≡ true
 
+-- each call of a script may look
 abbrev pub HasLookingLines : Script → Type 0
 HasLookingLines script = All MayLook script.lines
 
--- every call of a script may look
+-- each call of all scripts may look
 abbrev pub AreLooking : List Script → Type 0
 AreLooking scripts = All HasLookingLines scripts

@@ -11,10 +11,11 @@ use Rattle.rank_script.specs.declared.scripts.ScriptFault.{ScriptFault}
 use Rattle.rank_script.specs.declared.scripts.ScriptLine.{ScriptLine}
 use Rattle.rank_script.specs.declared.scripts.ScriptFault.TheVariants as faults
 
+-- what the lines so far have said, as the definition of world texts has it
 abbrev pub reading_of : Reading → WorldReading
 reading_of reading = record { world = reading.shape; scripts = reading.scripts }
 
--- the first of the faults of a line that show before its arguments are read
+-- the smallest number of the faults of a line that show before its fields are read
 abbrev pub early_fault : WorldReading → List ℕ → Line → Option ℕ
 early_fault said bytes line =
     if lacks_world said line then Some 1
@@ -23,7 +24,7 @@ early_fault said bytes line =
     else (if is_misplaced said line then Some 4
     else (if is_miscounted line then Some 5 else None))))
 
--- the first of the faults of a line that show in its arguments
+-- the smallest number of the faults of a line that show in its fields
 abbrev pub late_fault : WorldReading → Line → Option ℕ
 late_fault said line =
     if is_malformed line then Some 6
@@ -37,13 +38,13 @@ ReadsLine (Ok done) old new number line = (fault_of old line ≡ None) × (new �
 ReadsLine (Err (faults.At fault at)) old new number line = (fault_of old line ≡ Some fault) × (at ≡ number)
 ReadsLine (Err faults.NoMemory) old new number line = Unit {0}
 
--- the same of the parts of a line whose early faults were ruled out
+-- the same of the fields of a line that has none of the early faults
 abbrev pub ReadsLineFields : Result (Unit {0}) ScriptFault → WorldReading → WorldReading → ℕ → Line → Type 0
 ReadsLineFields (Ok done) old new number line = (late_fault old line ≡ None) × (new ≡ reading_after old number line)
 ReadsLineFields (Err (faults.At fault at)) old new number line = (late_fault old line ≡ Some fault) × (at ≡ number)
 ReadsLineFields (Err faults.NoMemory) old new number line = Unit {0}
 
--- a fault of a call line that shows in its arguments
+-- a fault of a call line that shows in its fields
 abbrev pub call_fault : LineCall → Option ℕ
 call_fault call = if is_malformed_call call then Some 6 else (if is_outside_call call then Some 7 else None)
 
@@ -60,6 +61,7 @@ fault_for shape_faults.Twice line = faults.At 8 line
 fault_for shape_faults.Threads line = faults.At 9 line
 fault_for shape_faults.NoMemory line = faults.NoMemory
 
+-- the callers that were declared so far
 abbrev pub callers_so_far : Option ShapeValue → List CallerId
 callers_so_far None = []
 callers_so_far (Some w) = w.callers

@@ -5,12 +5,12 @@ use Rattle.rank_script.specs.Rounds.{round_with}
 use Rattle.rank_script.specs.declared.ring_rounds.RoundLines.TheInside.{Inside}
 use Rattle.rank_script.specs.declared.scripts.ScriptLine.{ScriptLine}
 
--- the lines of a rank in so many rounds from one on
+-- the lines of a rank in `count` bench rounds, from one of them on
 abbrev pub lines_from : (seed ranks rounds rank round count : ℕ) → List ScriptLine
 lines_from seed ranks rounds rank round zero = []
 lines_from seed ranks rounds rank round (suc count) = round_lines seed ranks rounds rank round ++ lines_from seed ranks rounds rank (suc round) count
 
--- those of the present round from the present line on, and those of the rounds after it
+-- the lines of the present bench round from the present line on, and those of the bench rounds after it
 abbrev pub lines_left : Inside → List ScriptLine
 lines_left r = drop r.place (round_lines r.ring.seed r.ring.ranks r.ring.rounds r.ring.rank r.round) ++ lines_from r.ring.seed r.ring.ranks r.ring.rounds r.ring.rank (suc r.round) r.later
 

@@ -1,4 +1,4 @@
--- The lines of a round as a record. (own choice)
+-- The lines of a bench round as a record. (own choice)
 use Rattle.std.specs.Prelude.{ℕ, ◌+◌, List, [], ◌∷◌, None, Some}
 use Rattle.gaspi_types.specs.declared.calls.Call.TheVariants as calls
 use Rattle.gaspi_types.specs.declared.calls.Timeout.TheVariants.{Looks, Block}
@@ -15,7 +15,7 @@ store_with number sent = once_line number (calls.Store (record { seg = 0; offset
 abbrev pub load_with : ℕ → List ℕ → ScriptLine
 load_with number received = once_line number (calls.Load (record { seg = 0; offset = 8; size = 8 })) (Looks 1) (Some (replies.Bytes received))
 
--- the lines of a round, in which a rank sends these bytes to its right neighbour and gets those; the first has a number
+-- the lines of a bench round, in which a rank sends these bytes to its right neighbour and gets those; the first has this number
 abbrev pub round_with : ℕ → ℕ → List ℕ → List ℕ → Round
 round_with number right sent received = record {
   store = store_with number sent;

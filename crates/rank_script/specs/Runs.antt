@@ -13,10 +13,12 @@ use Rattle.rank_script.specs.declared.scripts.RunOutcome.TheVariants as outcomes
 use Rattle.rank_script.specs.declared.scripts.RunStop.{RunStop}
 use Rattle.rank_script.specs.declared.scripts.RunStop.TheVariants as halts
 
+-- a timeout of looks without end
 abbrev pub is_block : Timeout → Bool
 is_block (Looks n) = false
 is_block Block = true
 
+-- a reply that is a timeout
 abbrev pub is_timeout : Reply → Bool
 is_timeout replies.Done = false
 is_timeout (replies.Value n) = false
@@ -35,7 +37,7 @@ is_stuck line reply = is_block line.timeout && is_timeout reply
 abbrev pub is_retried : ScriptLine → ℕ → Reply → Bool
 is_retried line made reply = is_timeout reply && nat_lt (made + 1) line.tries
 
--- the last reply of a line is not the one that it says
+-- the last reply of a line is not the one that the line expects
 abbrev pub is_failed : ScriptLine → Reply → Bool
 is_failed line reply = differs line.expected
   where
@@ -43,7 +45,7 @@ is_failed line reply = differs line.expected
     differs None = false
     differs (Some expected) = not (same_reply reply expected)
 
--- How far a run has come: the present line with how often its call was made, and the lines behind it, or how it ended.
+-- How far a run has come: the present line with how often its call was made, and the lines after it, or how it ended.
 pub data RunPosition : Type 0 where
   AtLine : (line : ScriptLine) (made : ℕ) (lines : List ScriptLine) → RunPosition
   RunEnded : (outcome : RunOutcome) → RunPosition
@@ -53,7 +55,7 @@ abbrev pub at_first_line : List ScriptLine → RunPosition
 at_first_line [] = RunEnded outcomes.Ended
 at_first_line (line ∷ lines) = AtLine line 0 lines
 
--- after the reply of the present call
+-- how far a run has come after the reply of the present call
 abbrev pub advanced : RunPosition → Reply → RunPosition
 advanced (RunEnded outcome) reply = RunEnded outcome
 advanced (AtLine line made lines) reply =
@@ -61,12 +63,13 @@ advanced (AtLine line made lines) reply =
     else (if is_retried line made reply then AtLine line (made + 1) lines
     else (if is_failed line reply then RunEnded (outcomes.Failed line.number) else at_first_line lines))
 
--- ended before the present call, which is not made
+-- a run that was ended before the present call, which is not made
 abbrev pub stopped : RunPosition → RunStop → RunPosition
 stopped (RunEnded outcome) halted = RunEnded outcome
 stopped (AtLine line made lines) halts.Limit = RunEnded (outcomes.Limit line.number)
 stopped (AtLine line made lines) halts.NoMemory = RunEnded (outcomes.NoMemory line.number)
 
+-- how a run ended, where it has
 abbrev pub outcome_of : RunPosition → Option RunOutcome
 outcome_of (AtLine line made lines) = None
 outcome_of (RunEnded outcome) = Some outcome

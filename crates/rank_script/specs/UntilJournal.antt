@@ -4,11 +4,12 @@ use Rattle.call_texts.specs.Lines.{fed_lines, plain_line}
 use Rattle.rank_script.specs.Lines.{input_limit}
 use Rattle.rank_script.specs.WorldText.{WorldReading, TextFault, empty_reading, read_lines, is_journal_line, journal_from}
 
+-- the lines before the journal, where it is looked for; otherwise all
 abbrev pub lines_until : Bool → List (List ℕ) → List (List ℕ)
 lines_until journal [] = []
 lines_until journal (line ∷ lines) = if journal && is_journal_line (plain_line line) then [] else line ∷ lines_until journal lines
 
--- what they give
+-- what those lines give, as a world text
 abbrev pub until_text : Bool → List ℕ → Result WorldReading TextFault
 until_text journal bytes =
     if nat_lt input_limit (length bytes) then Err (record { number = 1; line = 0 })

@@ -30,11 +30,13 @@ pub record WorldReading : Type 0 where
   pub world : Option ShapeValue
   pub scripts : List Script
 
+-- what no line has said
 abbrev pub empty_reading : WorldReading
 empty_reading = record { world = None; scripts = [] }
 
 -- The words of a line.
 
+-- the first word of a line; one without bytes where there is none
 abbrev pub first_word : List (List ℕ) → List ℕ
 first_word [] = []
 first_word (word ∷ words) = word
@@ -54,9 +56,11 @@ is_thread_word word = bytes_eq (codes "thread") word
 abbrev pub is_again_word : List ℕ → Bool
 is_again_word word = bytes_eq (codes "again") word
 
+-- the word is `=`
 abbrev pub is_equals_word : List ℕ → Bool
 is_equals_word word = bytes_eq (codes "=") word
 
+-- the words are those of a comment: the first begins with #
 abbrev pub is_comment : List (List ℕ) → Bool
 is_comment [] = false
 is_comment (word ∷ words) = begins_hash word
@@ -67,16 +71,16 @@ is_comment (word ∷ words) = begins_hash word
 
 -- The parts of a line.
 
--- The call of a line: the word behind `again`, none without it; the call's word; its arguments, and its timeout where it
--- takes one, up to the first `=`; and the words behind that, where there is one.
+-- The call of a line: the word after `again`, none without it; the call's word; its fields, and its timeout where it takes one, up to
+-- the first `=`; and the words after that, where there is one.
 pub record LineCall : Type 0 where
   pub tries : Option (List ℕ)
   pub word : CallWord
   pub given : List (List ℕ)
   pub expected : Option (List (List ℕ))
 
--- A line by its parts: a declaration with the words behind its first, a call, `again` with at most one word behind it, so
--- without its call, or none of these.
+-- A line by its kind: a declaration with the words after its first, a call, `again` with at most one word after it, so without its
+-- call, or none of these.
 pub data Line : Type 0 where
   WorldLine : (words : List (List ℕ)) → Line
   SegmentLine : (words : List (List ℕ)) → Line
@@ -90,24 +94,24 @@ abbrev pub before_equals : List (List ℕ) → List (List ℕ)
 before_equals [] = []
 before_equals (word ∷ words) = if is_equals_word word then [] else word ∷ before_equals words
 
--- the words behind the first `=`, where there is one
+-- the words after the first `=`, where there is one
 abbrev pub after_equals : List (List ℕ) → Option (List (List ℕ))
 after_equals [] = None
 after_equals (word ∷ words) = if is_equals_word word then Some words else after_equals words
 
--- the line of a call with that word, where it is one's, and with the words behind it
+-- the line of a call with that word, where it is one's, and with the words after it
 abbrev pub call_line : Option (List ℕ) → Option CallWord → List (List ℕ) → Line
 call_line tries None words = UnknownLine
 call_line tries (Some word) words =
     CallLine (record { tries = tries; word = word; given = before_equals words; expected = after_equals words })
 
--- the line of `again` and the words behind it
+-- the line of `again` and the words after it
 abbrev pub again_line : List (List ℕ) → Line
 again_line [] = LoneAgain
 again_line (tries ∷ []) = LoneAgain
 again_line (tries ∷ word ∷ words) = call_line (Some tries) (call_word_of word) words
 
--- the words of a line, cut into its parts
+-- the line that has these words
 abbrev pub line_fields : List (List ℕ) → Line
 line_fields [] = UnknownLine
 line_fields (word ∷ words) =
@@ -124,10 +128,12 @@ timeout_of word =
     if bytes_eq (codes "test") word then Some (Some 1)
     else (if bytes_eq (codes "block") word then Some None else option_and_then (λ n. Some (Some n)) (number_of word))
 
+-- a number of looks is within its limits; none is looks without end
 abbrev pub is_timeout_within : Option ℕ → Bool
 is_timeout_within None = true
 is_timeout_within (Some looks) = is_between 1 100000000 looks
 
+-- the timeout of this number of looks
 abbrev pub as_timeout : Option ℕ → Timeout
 as_timeout None = Block
 as_timeout (Some looks) = Looks looks
@@ -144,10 +150,11 @@ last_word (word ∷ next ∷ words) = last_word (next ∷ words)
 abbrev pub line_tries : LineCall → Option ℕ
 line_tries call = option_map_or number_of call.tries (Some 1)
 
+-- a number of tries is within its limits
 abbrev pub are_tries_within : ℕ → Bool
 are_tries_within tries = is_between 1 1000000 tries
 
--- the arguments of a line's call: the words given, but the last of a call that takes a timeout
+-- the fields of a line's call: the words given, but the last of a call that takes a timeout
 abbrev pub line_arguments : LineCall → List (List ℕ)
 line_arguments call = if has_timeout call.word then take (length call.given - 1) call.given else call.given
 
@@ -159,17 +166,18 @@ line_call call = call_by call.word (line_arguments call)
 abbrev pub line_timeout : LineCall → Option (Option ℕ)
 line_timeout call = if has_timeout call.word then timeout_of (last_word call.given) else Some (Some 1)
 
--- what a line expects: nothing, or a reply; none where the words behind `=` spell no reply
+-- what a line expects: nothing, or a reply; none where the words after `=` spell no reply
 abbrev pub line_expected : LineCall → Option (Option Reply)
 line_expected call = option_map_or (λ reply. option_map Some (reply_of reply)) call.expected (Some None)
 
 -- Declarations.
 
+-- each of these words is a number
 abbrev pub all_numbers : List (List ℕ) → Bool
 all_numbers [] = true
 all_numbers (word ∷ words) = is_some (number_of word) && all_numbers words
 
--- the number at a place of the words; 0 where there is none
+-- the number that the word with this index is; 0 where there is none
 abbrev pub number_at : List (List ℕ) → ℕ → ℕ
 number_at words place = value_or (number_in words place)
   where
@@ -180,7 +188,7 @@ number_at words place = value_or (number_in words place)
     number_in : List (List ℕ) → ℕ → Option ℕ
     number_in words place = option_and_then number_of (Rattle.std.specs.List.slice_get words place)
 
--- the limits that the words of a world line give
+-- the limits that the six words after `world` give
 abbrev pub limits_of : List (List ℕ) → Limits
 limits_of words = record {
   ranks = number_at words 0;
@@ -191,18 +199,20 @@ limits_of words = record {
   events = number_at words 5;
 }
 
--- a number, the word `thread` and a number
+-- the words after `rank` are a number, the word `thread` and a number
 abbrev pub is_section_line : List (List ℕ) → Bool
 is_section_line (rank ∷ thread ∷ number ∷ words) = is_some (number_of rank) && (is_thread_word thread && is_some (number_of number))
 is_section_line _ = false
 
--- the caller that the words of a section line give
+-- the caller that the words after `rank` give
 abbrev pub section_caller : List (List ℕ) → CallerId
 section_caller words = record { rank = number_at words 0; thread = number_at words 2 }
 
+-- the shape with the segment that the words after `segment` declare, or the fault of that
 abbrev pub segment_declared : ShapeValue → List (List ℕ) → Result ShapeValue ShapeFault
 segment_declared w words = segment_added w (number_at words 0) (number_at words 1) (number_at words 2)
 
+-- the shape with the caller that the words after `rank` declare, or the fault of that
 abbrev pub caller_declared : ShapeValue → List (List ℕ) → Result ShapeValue ShapeFault
 caller_declared w words = caller_added w (number_at words 0) (number_at words 2)
 
@@ -230,6 +240,7 @@ is_threads_fault _ = false
 -- The faults of a line with words that is no comment. Each is a test of its own on the line's parts and on what the lines
 -- before it said.
 
+-- a line is a world line
 abbrev pub is_world_line : Line → Bool
 is_world_line (WorldLine words) = true
 is_world_line _ = false
@@ -238,7 +249,7 @@ is_world_line _ = false
 abbrev pub lacks_world : WorldReading → Line → Bool
 lacks_world said line = is_none said.world && not (is_world_line line)
 
--- S3: the first word is no word of a line or call; behind `again` and one word more stands no word of a call
+-- S3: the first word is no word of a line or call; or the word after `again` and one word more is that of no call
 abbrev pub is_unknown : Line → Bool
 is_unknown UnknownLine = true
 is_unknown _ = false
@@ -252,8 +263,8 @@ is_misplaced said (CallLine call) = length said.scripts == 0
 is_misplaced said LoneAgain = length said.scripts == 0
 is_misplaced said UnknownLine = false
 
--- A call has its arguments and its timeout, and something behind `=`. Where the number of a list is not of the form of a
--- number, its arguments are not counted.
+-- The number of a call's fields is wrong, with its timeout, or nothing comes after `=`. Where the count of a list is no number, the
+-- fields are not counted.
 abbrev pub is_miscounted_call : LineCall → Bool
 is_miscounted_call call =
     option_map_or (λ count. not (length call.given == count)) (given_count call.word call.given) false
@@ -268,6 +279,7 @@ is_miscounted (CallLine call) = is_miscounted_call call
 is_miscounted LoneAgain = true
 is_miscounted UnknownLine = false
 
+-- a word of a call line is not what it must be
 abbrev pub is_malformed_call : LineCall → Bool
 is_malformed_call call =
     is_none (line_tries call) || (is_none (line_call call) || (is_none (line_timeout call) || is_none (line_expected call)))
@@ -281,6 +293,7 @@ is_malformed (CallLine call) = is_malformed_call call
 is_malformed LoneAgain = false
 is_malformed UnknownLine = false
 
+-- the tries or the timeout of a call line are outside their limits
 abbrev pub is_outside_call : LineCall → Bool
 is_outside_call call =
     not (option_map_or are_tries_within (line_tries call) false && option_map_or is_timeout_within (line_timeout call) false)
@@ -340,22 +353,27 @@ with_line (script ∷ next ∷ scripts) line = script ∷ with_line (next ∷ sc
 abbrev pub with_section : List Script → CallerId → List Script
 with_section scripts caller = scripts ++ record { caller = caller; lines = [] } ∷ []
 
+-- the shape after a declaration; a declaration that is refused leaves it as it was
 abbrev pub world_after : Option ShapeValue → Option (Result ShapeValue ShapeFault) → Option ShapeValue
 world_after old (Some (Ok new)) = Some new
 world_after old _ = old
 
+-- the scripts after a line: with a section or a script line more, or as they were
 abbrev pub scripts_after : List Script → ℕ → Line → List Script
 scripts_after scripts number (SectionLine words) = with_section scripts (section_caller words)
 scripts_after scripts number (CallLine call) = with_line scripts (script_line number call)
 scripts_after scripts number _ = scripts
 
+-- what the lines have said after a line without a fault
 abbrev pub reading_after : WorldReading → ℕ → Line → WorldReading
 reading_after said number line =
     record { world = world_after said.world (declared said.world line); scripts = scripts_after said.scripts number line }
 
+-- a comment, or a line without words
 abbrev pub is_skipped : List (List ℕ) → Bool
 is_skipped words = is_comment words || (length words == 0)
 
+-- the same after a line as its bytes are, which may be skipped
 abbrev pub after_line : WorldReading → ℕ → List ℕ → WorldReading
 after_line said number line =
     if is_skipped (words_of line) then said else reading_after said number (line_fields (words_of line))
@@ -393,11 +411,13 @@ Reads (Err faults.NoMemory) text = Unit {0}
 abbrev pub AreScriptsOf : ShapeValue → List Script → Type 0
 AreScriptsOf w scripts = map (λ s. s.caller) scripts ≡ w.callers
 
+-- a script is that of a caller
 abbrev pub is_script_of : CallerId → Script → Bool
 is_script_of caller script = is_caller caller.rank caller.thread script.caller
 
 -- Where a journal begins in an input: at the first line whose first word is `journal`.
 
+-- the first word of a line is `journal`
 abbrev pub is_journal_line : List ℕ → Bool
 is_journal_line line = bytes_eq (codes "journal") (first_word (words_of line))
 
@@ -411,7 +431,7 @@ journal_from byte number (line ∷ lines) =
 abbrev pub journal_offset : List ℕ → Option (ℕ × ℕ)
 journal_offset bytes = journal_from 0 1 (fed_lines bytes)
 
--- the world text of an input: what stands before its journal, or all of it
+-- the world text of an input: what comes before its journal, or all of it
 abbrev pub world_text_bytes : List ℕ → List ℕ
 world_text_bytes input = before (journal_offset input)
   where

@@ -1,4 +1,6 @@
-//! The arguments of lines.
+//! The fields of lines, which are the words after the first: those of a world, a segment and a section line, and the timeout and the
+//! tries of a call line. A `read_` function gives none where a word is not what it must be (S6). A number outside its limits (S7) is
+//! another answer: `Limit`, or none of `timeout_of` and `tries_of`.
 
 ghost use Rattle.std.specs.Prelude.{◌≡◌, map, length, true, Some, None, IfSome, if◌then◌else◌};
 ghost use Rattle.gaspi_types.specs.World.{shape_of};
@@ -13,10 +15,11 @@ use std::alloc::Global;
 /// The most looks that a timeout may have.
 const MOST_LOOKS: u64 = 100_000_000;
 
-/// How often a line may have its call made at most.
+/// The most tries that a line may have.
 const MOST_TRIES: u64 = 1_000_000;
 
-/// The shape that the words of a world line declare; none where a word is no number.
+/// The shape that the six words after `world` declare. None where one of them is no number (S6); the error `Limit` where one is a
+/// number outside its limits (S7).
 pub(crate) fn read_shape(alloc: Global, words: &[&[u8]]) -> Option<Result<Shape, ShapeFault>>
     requires { length words.now ≡ 6 }
     ensures { let words = map (λ word. word.now) words.now in
@@ -26,7 +29,8 @@ pub(crate) fn read_shape(alloc: Global, words: &[&[u8]]) -> Option<Result<Shape,
     Some(Shape::new(alloc, ranks, queues, depth, notes, inbox, events))
 }
 
-/// The six limits that the words of a world line give; none where a word is no number.
+/// The six numbers after `world`, for `read_shape`; none where a word is no number. Whether they are within their limits is not tested
+/// here.
 fn read_limits(words: &[&[u8]]) -> Option<(u64, u64, u64, u64, u64, u64)>
     requires { length words.now ≡ 6 }
     ensures { let words = map (λ word. word.now) words.now in result ≡ (if all_numbers words
@@ -45,7 +49,8 @@ fn read_limits(words: &[&[u8]]) -> Option<(u64, u64, u64, u64, u64, u64)>
     Some((ranks, queues, depth, notes, inbox, events))
 }
 
-/// The rank, the number and the size that the words of a segment line give; none where a word is no number.
+/// The rank, the segment id and the size that the three words after `segment` give; none where a word is no number. Whether they are
+/// within their limits is tested by `Shape::add_segment`.
 pub(crate) fn read_segment(words: &[&[u8]]) -> Option<(u64, u64, u64)>
     requires { length words.now ≡ 3 }
     ensures { let words = map (λ word. word.now) words.now in
@@ -60,7 +65,8 @@ pub(crate) fn read_segment(words: &[&[u8]]) -> Option<(u64, u64, u64)>
     Some((rank, segment, size))
 }
 
-/// The rank and the thread that the words of a section line give; none where a word is not of its form.
+/// The rank and the thread that the three words after `rank` give: a number, `thread`, a number. None where a word is not so. Whether
+/// they are within their limits is tested by `Shape::add_caller`.
 pub(crate) fn read_section(words: &[&[u8]]) -> Option<(u64, u64)>
     requires { length words.now ≡ 3 }
     ensures { let words = map (λ word. word.now) words.now in
@@ -77,7 +83,8 @@ pub(crate) fn read_section(words: &[&[u8]]) -> Option<(u64, u64)>
     Some((rank, thread))
 }
 
-/// How many looks a word allows, where it is a timeout: a number of looks, or looks without end.
+/// How many looks a timeout allows: 1 for `test`, an inner none for `block`, which is without end, or the number that the word is. The
+/// outer none where the word is no timeout. Whether the number is within its limits is tested by `timeout_of`.
 pub(crate) fn read_looks(word: &[u8]) -> Option<Option<u64>>
     ensures { result ≡ timeout_of word.now }
 {
@@ -91,7 +98,8 @@ pub(crate) fn read_looks(word: &[u8]) -> Option<Option<u64>>
     Some(Some(looks))
 }
 
-/// The timeout of that many looks, where they are within the limits.
+/// The timeout of that many looks; without end where `looks` is none. None where their number is outside its limits (S7). A timeout
+/// that is given has one look at least.
 pub(crate) fn timeout_of(looks: Option<u64>) -> Option<Timeout>
     ensures timeout { result ≡ (if is_timeout_within looks then Some (as_timeout looks) else None) }
     ensures look { IfSome result (λ timeout. has_look_in timeout ≡ true) }
@@ -103,7 +111,7 @@ pub(crate) fn timeout_of(looks: Option<u64>) -> Option<Timeout>
     }
 }
 
-/// That many tries, where they are within the limits.
+/// That many tries; none where their number is outside its limits (S7).
 pub(crate) fn tries_of(tries: u64) -> Option<u32>
     ensures { result ≡ (if are_tries_within tries then Some tries else None) }
 {

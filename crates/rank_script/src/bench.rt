@@ -1,4 +1,5 @@
-//! The world of `bench`: ranks in a ring, each of which sends a number to its right neighbour in each round.
+//! The world of `bench`, made without a text: ranks in a ring, each of which sends a number to its right neighbour in each bench
+//! round. Its shape and scripts are made here, and the lines of the scripts in `ring_rounds`.
 
 ghost use Rattle.std.specs.Prelude.{◌≡◌, ◌+◌, ◌<◌, ◌≤◌, IfOk, OnOk};
 ghost use Rattle.rank_script.specs.Bench.{bench_shape, bench_segments, bench_callers};
@@ -9,10 +10,9 @@ use crate::scripts::{Script, ScriptLines, Scripts};
 use gaspi_types::{CallerId, NoMemory, RankId, Shape, ShapeFault, ThreadId};
 use std::alloc::Global;
 
-/// The world of `bench`, with 1 to 16 ranks in a ring, and 1 to 5,000 rounds. In each round a rank stores a number of the
-/// generator that starts from the seed, posts it to its right neighbour, and looks whether the one that came is its left
-/// neighbour's. A line has the number that it has in the same world as a text. `NoMemory` comes only where memory is refused;
-/// the memory taken is in proportion to the ranks: the lines are made round by round, by the cursor that walks them.
+/// The world of `bench`, with 1 to 16 ranks in a ring, and 1 to 5,000 bench rounds. In each a rank stores a number of the generator
+/// that starts from the seed, sends it to its right neighbour, and expects that of its left neighbour. A line has the number that it
+/// would have in a text of this world. The only failure is out of memory; what is taken is in proportion to the ranks.
 pub fn bench_world(
     alloc: Global,
     seed: u32,
@@ -29,7 +29,7 @@ pub fn bench_world(
     Ok((shape, scripts))
 }
 
-/// The shape of the world: a segment of sixteen bytes and a caller for each rank.
+/// The shape of that world: a segment of sixteen bytes and a caller for each rank. The only failure is out of memory.
 fn bench_shape(alloc: Global, ranks: u32, rounds: u32) -> Result<Shape, NoMemory>
     requires ranks { (1 ≤ ranks) × (ranks ≤ 16) }
     requires rounds { rounds ≤ 5000 }
@@ -45,7 +45,8 @@ fn bench_shape(alloc: Global, ranks: u32, rounds: u32) -> Result<Shape, NoMemory
     Ok(shape)
 }
 
-/// Declares the segment of a rank and its caller, where those of the ranks below it are declared.
+/// Declares the segment and the caller of a rank, for `bench_shape`. Those of all ranks below it are declared, and no others. Where
+/// memory runs out, the segment may be declared already.
 fn declare_rank(shape: &mut Shape, rank: u32) -> Result<(), NoMemory>
     requires rank { rank < shape.old.limits.ranks }
     requires events { 0 < shape.old.limits.events }
@@ -63,7 +64,7 @@ fn declare_rank(shape: &mut Shape, rank: u32) -> Result<(), NoMemory>
     }
 }
 
-/// `NoMemory`, which the fault of a declaration is.
+/// Out of memory, for `declare_rank`: its declarations have no other fault.
 fn no_memory(fault: ShapeFault) -> NoMemory
     requires { fault ≡ ShapeFault.NoMemory }
 {
@@ -73,7 +74,7 @@ fn no_memory(fault: ShapeFault) -> NoMemory
     NoMemory
 }
 
-/// The scripts of all ranks.
+/// The scripts of all ranks, in order. Their lines take no memory here. The only failure is out of memory.
 fn bench_scripts(alloc: Global, seed: u32, ranks: u32, rounds: u32) -> Result<Scripts, NoMemory>
     requires ranks { ranks ≤ 16 }
     requires rounds { (1 ≤ rounds) × (rounds ≤ 5000) }

@@ -1,4 +1,5 @@
-//! The calls of lines: `again` and a number may stand before a call, and `=` and a reply behind it.
+//! Call lines: their words by what they are for, and what these give: the tries, the call, the timeout and the expected reply. `again`
+//! and a number may come before a call, and `=` and a reply after it.
 
 ghost use Rattle.std.specs.Prelude.{◌≡◌, ◌≢◌, map, IfOk, IfSome};
 ghost use Rattle.std.specs.List.{position};
@@ -15,21 +16,22 @@ use gaspi_texts::{CallWord, read_number, read_reply_words};
 use gaspi_types::{Call, NoMemory};
 use std::alloc::Global;
 
-/// The call of a line by its parts.
+/// The words of a call line, by what they are for.
 #[derive(Clone, Copy)]
 pub(crate) struct CallParts<'b, 'a> {
-    /// The word behind `again`; none without it.
+    /// The word after `again`; none without `again`.
     pub(crate) tries: Option<&'a [u8]>,
+    /// The call's word.
     pub(crate) word: CallWord,
-    /// Its arguments, and its timeout where it takes one: up to the first `=`.
+    /// The call's fields, and its timeout where it takes one: the words up to the first `=`.
     pub(crate) given: &'b [&'a [u8]],
-    /// The words behind the first `=`, where there is one.
+    /// The words after the first `=`; none where there is no `=`.
     pub(crate) expected: Option<&'b [&'a [u8]]>,
 }
 
 impl<'b, 'a> CallParts<'b, 'a> {
-    /// Whether it has another number of arguments, its timeout among them, or nothing behind `=`. Where the number of a
-    /// list is not of the form of a number, its arguments are not counted.
+    /// Whether there are too few or too many fields, with the timeout, or no word after `=` (S5). Where the count of a list is no
+    /// number, the fields are not counted.
     pub(crate) fn is_miscounted(self) -> bool
         ensures { result ≡ is_miscounted_call (call_in self.entry) }
     {
@@ -37,7 +39,7 @@ impl<'b, 'a> CallParts<'b, 'a> {
             || self.expected.is_some_and(|reply| reply.is_empty())
     }
 
-    /// How often it is made at most: once without `again`; none where the word behind it is no number.
+    /// How often the call is made at most: once without `again`. None where the word after `again` is no number (S6).
     pub(crate) fn read_tries(self) -> Option<u64>
         ensures { result ≡ line_tries (call_in self.entry) }
     {
@@ -47,7 +49,7 @@ impl<'b, 'a> CallParts<'b, 'a> {
         }
     }
 
-    /// Its arguments: the words given, but the last of a call that takes a timeout.
+    /// The call's fields alone: the words given, less the last of a call that takes a timeout.
     fn arguments(self) -> &'b [&'a [u8]]
         ensures { map (λ word. word.now) result.now ≡ line_arguments (call_in self.entry) }
     {
@@ -57,7 +59,7 @@ impl<'b, 'a> CallParts<'b, 'a> {
         &self.given[..self.given.len().saturating_sub(1)]
     }
 
-    /// The call, its timeout aside; none where its words spell none.
+    /// The call, without its timeout, and never an `end`. None where its fields spell no call (S6). The only failure is out of memory.
     pub(crate) fn read_call(self, alloc: Global) -> Result<Option<Call>, NoMemory>
         ensures exact { IfOk result (λ call. call ≡ line_call (call_in self.entry)) }
         ensures plain { IfOk result (λ call. IfSome call (λ made. made ≢ End)) }
@@ -66,7 +68,8 @@ impl<'b, 'a> CallParts<'b, 'a> {
         read_arguments(alloc, self.word, self.arguments())
     }
 
-    /// How many looks its words allow. A call that takes no timeout makes one look.
+    /// How many looks the line allows: one where its call takes no timeout, an inner none for looks without end. The outer none where
+    /// the last word is no timeout (S6).
     pub(crate) fn read_looks(self) -> Option<Option<u64>>
         ensures { result ≡ line_timeout (call_in self.entry) }
     {
@@ -77,7 +80,8 @@ impl<'b, 'a> CallParts<'b, 'a> {
         }
     }
 
-    /// What it expects: nothing, or a reply; none where the words behind `=` spell no reply.
+    /// The reply that the line expects, or an inner none where it expects none. The outer none where the words after `=` are no reply
+    /// (S6). The only failure is out of memory.
     pub(crate) fn read_expected(
         self,
         alloc: Global,
@@ -94,7 +98,7 @@ impl<'b, 'a> CallParts<'b, 'a> {
     }
 }
 
-/// The last of the words; no byte where there is none.
+/// The last of the words; one without bytes where there is none.
 fn last_word<'a>(words: &[&'a [u8]]) -> &'a [u8]
     ensures { result.now ≡ last_word (map (λ word. word.now) words.now) }
 {
@@ -104,7 +108,7 @@ fn last_word<'a>(words: &[&'a [u8]]) -> &'a [u8]
     }
 }
 
-/// The words before the first `=`, and those behind it where there is one.
+/// The words before the first `=`, and those after it; none where there is no `=`.
 pub(crate) fn before_and_after_equals<'b, 'a>(
     words: &'b [&'a [u8]],
 ) -> (&'b [&'a [u8]], Option<&'b [&'a [u8]]>)
@@ -117,7 +121,7 @@ pub(crate) fn before_and_after_equals<'b, 'a>(
     }
 }
 
-/// The place of the first `=`.
+/// The index of the first word that is `=`.
 fn equals_in(words: &[&[u8]]) -> Option<usize>
     ensures { result ≡ position (λ word. is_equals_word word.now) words.now }
 {

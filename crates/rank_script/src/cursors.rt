@@ -1,4 +1,5 @@
-//! Walking a script, call by call.
+//! A cursor walks a script call by call. The present call is the one to be made next, and the present line has it. The tests of a line
+//! and a reply, which say where it goes on, are here too.
 
 ghost use Rattle.std.specs.Prelude.{◌≡◌, ◌+◌, ◌<◌, ◌^◌, true, IfOk};
 ghost use Rattle.std.specs.Option.{option_map};
@@ -14,9 +15,9 @@ use std::marker::Model;
 /// How far a run of a script has come: the lines whose calls are still to be made, or how the run ended.
 #[derive(Debug, Drop)]
 pub struct Cursor<'a> {
-    /// The lines that are left, the present one first.
+    /// The lines whose calls are still to be made, the present one first.
     left: Remaining<'a>,
-    /// How often the present line's call was made.
+    /// How often the present line's call was made already.
     made: u32,
     /// How the run ended, where no line is left.
     ending: RunOutcome,
@@ -33,7 +34,8 @@ impl<'a> Model for Cursor<'a> {
 }
 
 impl<'a> Cursor<'a> {
-    /// Before the first line. Lines that no memory holds take that of one round here, and none while the run goes on.
+    /// A run before its first line. Where the lines are those of `bench`, memory for one bench round is taken here; the run takes none
+    /// later. The only failure is out of memory.
     pub fn new(alloc: Global, script: &'a Script) -> Result<Cursor<'a>, NoMemory>
         ensures { IfOk result (λ cursor. cursor ≡ at_first_line script.now.lines) }
     {
@@ -44,7 +46,7 @@ impl<'a> Cursor<'a> {
         })
     }
 
-    /// The call to be made next, with its timeout; none exactly where the run has ended.
+    /// The present call with its timeout; none exactly where the run has ended.
     pub fn present(&self) -> Option<(&Call, Timeout)>
         ensures { option_map (λ call. (call.0.now, call.1)) result ≡ present_of self.now }
     {
@@ -52,8 +54,9 @@ impl<'a> Cursor<'a> {
         Some((&line.call, line.timeout.get()))
     }
 
-    /// Goes on after the reply of the present call: the same call again where it timed out and its line has tries left,
-    /// and else the next line, unless a line that blocks has timed out or the reply is not the expected one.
+    /// Goes on after the reply of the present call. A timeout on a line that blocks ends the run as stuck. After another timeout the
+    /// same call is present again, while its line has tries left. Then a reply that is not the expected one ends the run as failed;
+    /// otherwise the next line is present. A run that has ended stays as it is.
     pub fn advance(&mut self, reply: &Reply)
         ensures { self.new ≡ advanced self.old reply.now }
     {
@@ -74,7 +77,7 @@ impl<'a> Cursor<'a> {
         }
     }
 
-    /// Ends the run.
+    /// Ends the run with this outcome, for `advance` and `stop`.
     fn end(&mut self, outcome: RunOutcome)
         ensures { self.new ≡ RunEnded outcome }
     {
@@ -82,7 +85,7 @@ impl<'a> Cursor<'a> {
         self.ending = outcome;
     }
 
-    /// Ends the run before the present call. A run that has ended stays as it is.
+    /// Ends the run before the present call, which is not made; `halted` says why. A run that has ended stays as it is.
     pub fn stop(&mut self, halted: RunStop)
         ensures { self.new ≡ stopped self.old halted }
     {
@@ -96,7 +99,7 @@ impl<'a> Cursor<'a> {
         });
     }
 
-    /// The number of the line whose call is to be made next; 0 where the run has ended.
+    /// The number of the present line; 0 where the run has ended.
     pub fn line(&self) -> u64
         ensures { result ≡ line_of self.now }
     {
@@ -106,7 +109,7 @@ impl<'a> Cursor<'a> {
         }
     }
 
-    /// How the run ended, where it has.
+    /// How the run ended; none where it has not.
     pub fn outcome(&self) -> Option<RunOutcome>
         ensures { result ≡ outcome_of self.now }
     {
@@ -124,8 +127,8 @@ fn is_stuck(line: &ScriptLine, reply: &Reply) -> bool
     matches!(line.timeout.get(), Timeout::Block) && is_timeout(reply)
 }
 
-/// Whether a line's call is made again after a reply, where it was made so often before that reply's call: it timed out,
-/// and the line has tries left.
+/// Whether a line's call is made again after a reply: it timed out, and the line has tries left. `made` is how often the call was made
+/// before the one with this reply.
 fn is_retried(line: &ScriptLine, made: u32, reply: &Reply) -> bool
     ensures exact { result ≡ is_retried line.now made reply.now }
     ensures room { result ≡ true → made + 1 < 2 ^ 32 }
@@ -133,7 +136,7 @@ fn is_retried(line: &ScriptLine, made: u32, reply: &Reply) -> bool
     is_timeout(reply) && made < line.tries && made + 1 < line.tries
 }
 
-/// Whether a line expects another last reply.
+/// Whether a line expects another reply than this, which is its last. A line that expects none never does.
 fn is_failed(line: &ScriptLine, reply: &Reply) -> bool
     ensures { result ≡ is_failed line.now reply.now }
 {

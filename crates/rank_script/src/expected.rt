@@ -7,9 +7,10 @@ use gaspi_types::{NoMemory, Reply};
 use std::alloc::Global;
 use std::marker::Model;
 
-/// The reply that the last call of a line must have. Few lines have one, so it lies in memory of its own.
+/// The reply that the last call of a line must have. Few lines have one, so it is in memory of its own.
 #[derive(Debug, Drop)]
 pub struct ExpectedReply {
+    /// The reply, in memory of its own.
     reply: Box<Reply>,
 }
 
@@ -22,7 +23,7 @@ impl Model for ExpectedReply {
 }
 
 impl ExpectedReply {
-    /// Expects a reply.
+    /// The expectation of a reply. The only failure is out of memory.
     pub(crate) fn new(alloc: Global, reply: Reply) -> Result<ExpectedReply, NoMemory>
         ensures { IfOk result (λ expected. expected ≡ reply) }
     {
@@ -30,14 +31,14 @@ impl ExpectedReply {
         Ok(ExpectedReply { reply })
     }
 
-    /// The reply.
+    /// The reply that is expected.
     pub fn reply(&self) -> &Reply
         ensures { result.now ≡ self.now }
     {
         &self.reply
     }
 
-    /// Expects other bytes in place of as many. It takes no memory.
+    /// Replaces the bytes that are expected, of which there are eight, by others. It takes no memory.
     pub(crate) fn renew_bytes(&mut self, bytes: &[u8; 8])
         requires { (old : List ℕ) × (self.old ≡ Bytes old) × (length old ≡ 8) }
         ensures { self.new ≡ Bytes bytes.now }

@@ -3,14 +3,14 @@
 ghost use Rattle.std.specs.Prelude.{◌≡◌};
 ghost use Rattle.rank_script.specs.Generator.{drawn, after_draws};
 
-/// The generator's number after a draw: 69069 times the number, and 1, in 32 bits.
+/// The number that the generator draws after `x`: 69069 times `x`, and 1, modulo 2^32.
 pub fn drawn(x: u32) -> u32
     ensures { result ≡ drawn x }
 {
     ((69069 * u64::from(x) + 1) % 4_294_967_296) as u32
 }
 
-/// The number after so many draws from a seed.
+/// The number after `count` draws from a seed.
 pub(crate) fn after_draws(seed: u32, count: u32) -> u32
     ensures { result ≡ after_draws seed count }
 {

@@ -1,4 +1,5 @@
-//! World texts, and runs of their scripts.
+//! World texts, and runs of their scripts. `read_world` reads a text into a shape and scripts, or names its first fault; `bench_world`
+//! makes those of `bench` without a text. A `Cursor` walks a script call by call, and each reply says where it goes on.
 #![tactic(auto)]
 
 mod arguments;

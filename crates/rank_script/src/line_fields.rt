@@ -1,4 +1,5 @@
-//! Lines by their parts.
+//! Lines of a world text by their kinds: the first word says the kind, and nothing of the other words is read here. `is_word` compares
+//! words for all files that read lines.
 
 ghost use Rattle.std.specs.Prelude.{◌≡◌, map};
 ghost use Rattle.std.specs.Option.{option_copied};
@@ -10,25 +11,25 @@ ghost use Rattle.rank_script.specs.CutLines.{line_in};
 use crate::call_lines::{CallParts, before_and_after_equals};
 use gaspi_texts::CallWord;
 
-/// A line by its parts. The words of a declaration are those behind its first.
+/// A line by its kind, with its words after the first.
 #[derive(Clone, Copy)]
 pub(crate) enum LineParts<'b, 'a> {
-    /// The limits of the world.
+    /// The world line, with its limits.
     World(&'b [&'a [u8]]),
-    /// A declared segment.
+    /// The line of a declared segment.
     Segment(&'b [&'a [u8]]),
-    /// The caller whose lines follow.
+    /// The first line of a section, which names its caller.
     Section(&'b [&'a [u8]]),
-    /// A call of the present caller.
+    /// A call line of the newest section.
     Call(CallParts<'b, 'a>),
-    /// `again` with at most one word behind it, so without its call.
+    /// `again` with at most one word after it, so without a call.
     Again,
-    /// None of these.
+    /// None of these: there is no word, or the first word, or the call's word after `again`, is one of no kind.
     Unknown,
 }
 
 impl<'b, 'a> LineParts<'b, 'a> {
-    /// The parts of a line of these words.
+    /// The line that has these words.
     pub(crate) fn of(words: &'b [&'a [u8]]) -> LineParts<'b, 'a>
         ensures { line_in result ≡ line_fields (map (λ word. word.now) words.now) }
     {
@@ -50,7 +51,7 @@ impl<'b, 'a> LineParts<'b, 'a> {
         LineParts::of_call(None, first, later)
     }
 
-    /// The parts of a line of `again` and these words.
+    /// The line that has these words after `again`.
     fn of_again(words: &'b [&'a [u8]]) -> LineParts<'b, 'a>
         ensures { line_in result ≡ again_line (map (λ word. word.now) words.now) }
     {
@@ -60,8 +61,8 @@ impl<'b, 'a> LineParts<'b, 'a> {
         }
     }
 
-    /// The parts of a line of a call with this word, with the word behind `again`, where there is one, and the words
-    /// behind its own.
+    /// The call line of this call's word, with the words after it, and with the word after `again` as its tries, where there is one.
+    /// `Unknown` where `word` is that of no call.
     fn of_call(tries: Option<&'a [u8]>, word: &[u8], words: &'b [&'a [u8]]) -> LineParts<'b, 'a>
         ensures { line_in result ≡ call_line (option_copied tries.entry) (call_word_of word.now) (map (λ word. word.now) words.now) }
     {
@@ -77,21 +78,21 @@ impl<'b, 'a> LineParts<'b, 'a> {
         })
     }
 
-    /// Whether it is the world's line.
+    /// Whether it is a world line.
     pub(crate) fn is_world(self) -> bool
         ensures { result ≡ is_world_line (line_in self.entry) }
     {
         matches!(self, LineParts::World(_))
     }
 
-    /// Whether it is none of the others.
+    /// Whether it is of no kind (S3).
     pub(crate) fn is_unknown(self) -> bool
         ensures { result ≡ is_unknown (line_in self.entry) }
     {
         matches!(self, LineParts::Unknown)
     }
 
-    /// Whether it has another number of words than such a line has.
+    /// Whether it has too few or too many words for its kind (S5).
     pub(crate) fn is_miscounted(self) -> bool
         ensures { result ≡ is_miscounted (line_in self.entry) }
     {
@@ -106,7 +107,7 @@ impl<'b, 'a> LineParts<'b, 'a> {
     }
 }
 
-/// Whether a word is spelled so.
+/// Whether a word has exactly this spelling.
 pub(crate) fn is_word(word: &[u8], spelling: &[u8]) -> bool
     ensures { result ≡ bytes_eq spelling.now word.now }
 {

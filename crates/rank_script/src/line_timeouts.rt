@@ -23,7 +23,7 @@ impl Model for LineTimeout {
 }
 
 impl LineTimeout {
-    /// A timeout, which has a look at least.
+    /// A timeout as a line keeps it. It must have one look at least.
     pub fn new(timeout: Timeout) -> LineTimeout
         requires { has_look_in timeout ≡ true }
         ensures { result ≡ timeout }
@@ -34,7 +34,7 @@ impl LineTimeout {
         }
     }
 
-    /// The timeout.
+    /// The timeout that was given to `new`.
     pub fn get(&self) -> Timeout
         ensures { result ≡ self.now }
     {

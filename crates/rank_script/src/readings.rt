@@ -1,4 +1,5 @@
-//! Reading a world text line by line.
+//! A world text, read line by line: what the lines so far have said, and what one more line adds, or which fault it has. In contracts
+//! a reading accords where its scripts are those of the declared callers, in order.
 
 ghost use Rattle.std.specs.Prelude.{◌≡◌, ◌<◌, ◌+◌, map, length, true, false, None, Some, IsSome, OnOk, IfOk};
 ghost use Rattle.rank_script.specs.WorldText.{WorldLine, SegmentLine, SectionLine, CallLine, is_comment, is_unknown, lacks_world, is_misplaced, is_miscounted};
@@ -17,10 +18,12 @@ use call_texts::set_words;
 use gaspi_types::{Shape, ShapeFault};
 use std::alloc::Global;
 
-/// What the lines so far have said: the world, where its line has come, and the scripts, the newest last.
+/// What the lines so far have said.
 #[derive(Debug, Drop)]
 pub(crate) struct Reading {
+    /// The shape; none before the world line.
     pub(crate) shape: Option<Shape>,
+    /// The scripts of the sections so far, the newest last.
     pub(crate) scripts: Scripts,
 }
 
@@ -28,7 +31,7 @@ impl Reading {
     ghost use Rattle.rank_script.specs.WorldText.{empty_reading};
     ghost use Rattle.rank_script.specs.Readings.{reading_of, early_fault, ReadsLine, ReadsLineFields, Accords};
 
-    /// Nothing said. It takes no memory.
+    /// What no line has said: no shape and no script. It takes no memory.
     pub(crate) fn new(alloc: Global) -> Reading
         ensures { reading_of result ≡ empty_reading }
     {
@@ -38,7 +41,9 @@ impl Reading {
         }
     }
 
-    /// Reads the next line, with its words in a list that is kept from one line to the next.
+    /// Reads the next line, which has this number, and adds what it says; or answers its fault with the smallest number, or out of
+    /// memory. After an error the reading is not used any more. `list` is for the words: it is refilled, so that its memory serves all
+    /// lines.
     pub(crate) fn read_line<'a>(
         &mut self,
         alloc: Global,
@@ -74,7 +79,7 @@ impl Reading {
         }
     }
 
-    /// The first of the faults of a line that show before its arguments are read.
+    /// The smallest number of the faults that a line shows before its fields are read, 1 to 5; none where it has none of these.
     fn early_fault(&self, line: &[u8], parts: LineParts) -> Option<u32>
         ensures { result ≡ early_fault (reading_of self.now) line.now (line_in parts.entry) }
     {
@@ -96,7 +101,7 @@ impl Reading {
         None
     }
 
-    /// Whether a line of these parts may not come next.
+    /// Whether a line of this kind may not come next: fault S4.
     fn is_misplaced(&self, parts: LineParts) -> bool
         ensures { result ≡ is_misplaced (reading_of self.now) (line_in parts.entry) }
     {
@@ -108,7 +113,8 @@ impl Reading {
         }
     }
 
-    /// Reads the arguments of a line that has its place.
+    /// Reads the fields of a line that has none of the faults S1 to S5, for `read_line`, and adds what they say; or answers the
+    /// smallest of the faults S6 to S9, or out of memory. The functions below do so for each kind.
     fn read_line_fields(
         &mut self,
         alloc: Global,
@@ -131,7 +137,7 @@ impl Reading {
         }
     }
 
-    /// Reads the limits of the world.
+    /// Reads the six words after `world`, and sets the shape, which must be none yet.
     fn read_world_line(
         &mut self,
         alloc: Global,
@@ -153,7 +159,7 @@ impl Reading {
         }
     }
 
-    /// Reads a declared segment.
+    /// Reads the three words after `segment`, and adds a declared segment to the shape, which must be there.
     fn read_segment_line(&mut self, number: u64, words: &[&[u8]]) -> Result<(), ScriptFault>
         requires count { length words.now ≡ 3 }
         requires world { IsSome self.old.shape }
@@ -172,7 +178,7 @@ impl Reading {
         }
     }
 
-    /// Reads the caller of a section, and opens it.
+    /// Reads the three words after `rank`, adds the caller to the shape, which must be there, and opens the caller's script.
     fn read_section_line(
         &mut self,
         alloc: Global,
@@ -201,7 +207,7 @@ impl Reading {
         Ok(())
     }
 
-    /// Reads a call, and adds it to the newest script.
+    /// Reads the words of a call line, and appends the line to the newest script, of which there must be one.
     fn read_call_line(
         &mut self,
         alloc: Global,
@@ -218,7 +224,7 @@ impl Reading {
     }
 }
 
-/// The line of a script that a call line gives.
+/// The script line that a call line gives, for `read_call_line`; or its fault S6 or S7, or out of memory.
 fn read_script_line(alloc: Global, number: u64, parts: CallParts) -> Result<ScriptLine, ScriptFault>
     ensures exact { GivesLine result number (call_in parts.entry) }
     ensures plain { IfOk result IsPlain }
@@ -251,21 +257,21 @@ fn read_script_line(alloc: Global, number: u64, parts: CallParts) -> Result<Scri
     })
 }
 
-/// The fault of a line with a word that is not of its form.
+/// The fault S6, of a line with a word that is not what it must be.
 fn malformed(line: u64) -> ScriptFault
     ensures { result ≡ At 6 line }
 {
     ScriptFault::At { number: 6, line }
 }
 
-/// Whether words are those of a comment.
+/// Whether these are the words of a comment: the first begins with `#`.
 fn is_comment(words: &[&[u8]]) -> bool
     ensures { result ≡ is_comment (map (λ word. word.now) words.now) }
 {
     matches!(words, [[b'#', ..], ..])
 }
 
-/// The fault of a line whose declaration is refused.
+/// The fault of a line whose declaration the shape refuses: S7 to S9, or out of memory.
 fn fault_for(fault: ShapeFault, line: u64) -> ScriptFault
     ensures { result ≡ fault_for fault line }
 {

@@ -1,4 +1,4 @@
-//! The lines of a script that are left.
+//! The lines of a script whose calls are still to be made, as a cursor walks them.
 
 ghost use Rattle.std.specs.Prelude.{◌≡◌, ◌∷◌, [], drop, IfOk, IfSome, None};
 
@@ -8,12 +8,13 @@ use gaspi_types::NoMemory;
 use std::alloc::Global;
 use std::marker::Model;
 
-/// The lines of a script that are left, the present one first.
+/// The lines of a script from the present one on: first those of a rank in the ring of `bench`, and then those that the script has in
+/// memory.
 #[derive(Debug, Drop)]
 pub(crate) struct Remaining<'a> {
-    /// Those of a rank in a ring that are left, where there are any.
+    /// Those of a rank in the ring; none where there are none or all are done.
     rounds: Option<RoundLines>,
-    /// The lines behind them.
+    /// The lines after them.
     others: &'a [ScriptLine],
 }
 
@@ -28,7 +29,8 @@ impl<'a> Model for Remaining<'a> {
 }
 
 impl<'a> Remaining<'a> {
-    /// All lines of a script. Those of a rank in a ring take the memory of one round.
+    /// All lines of a script. Where there are lines of `bench`, memory for one bench round is taken here, and none later. The only
+    /// failure is out of memory.
     pub(crate) fn new(alloc: Global, lines: &'a ScriptLines) -> Result<Remaining<'a>, NoMemory>
         ensures { IfOk result (λ remaining. remaining ≡ lines.now) }
     {
@@ -53,7 +55,7 @@ impl<'a> Remaining<'a> {
         }
     }
 
-    /// Goes on to the next line. It takes no memory.
+    /// Goes on to the next line; where no line is left, nothing changes. It takes no memory.
     pub(crate) fn step(&mut self)
         ensures { self.new ≡ drop 1 self.old }
     {
@@ -71,7 +73,7 @@ impl<'a> Remaining<'a> {
         }
     }
 
-    /// Leaves no line.
+    /// Drops all lines that are left.
     pub(crate) fn clear(&mut self)
         ensures { self.new ≡ [] }
     {

@@ -1,4 +1,6 @@
-//! The lines of a rank in a ring, of which those of one round stand in memory.
+//! The lines of a rank in the ring of `bench`. Only the seven of one bench round are in memory at a time: `renew` functions overwrite
+//! them with those of the next, and take no memory. `sent` is the number that the rank sends in a bench round, `received` the one that
+//! comes to it.
 
 ghost use Rattle.std.specs.Prelude.{◌≡◌, ◌+◌, ◌<◌, ◌≤◌, ◌∷◌, List, ℕ, [], length, drop, slice_get, IfOk, Some, true, false};
 ghost use Rattle.byteorder.specs.Endian.{little_bytes};
@@ -19,7 +21,7 @@ use gaspi_types::{
 use std::alloc::Global;
 use std::marker::Model;
 
-/// A line whose call is made once.
+/// The line with this number, whose call is made once. The timeout has one look at least.
 fn once_line(
     number: u64,
     call: Call,
@@ -47,7 +49,7 @@ fn number_bytes(number: u32) -> [u8; 8]
     bytes
 }
 
-/// Writes another number to the line that stores one, which gets another line number. It takes no memory.
+/// Makes the `store` line of one bench round that of another, with this line number, which stores `sent`.
 fn renew_store(line: &mut ScriptLine, number: u64, sent: u32)
     requires { (n : ℕ) × (bytes : List ℕ) × (line.old ≡ store_with n bytes) × (length bytes ≡ 8) }
     ensures { line.new ≡ store_with number (little_bytes 8 sent) }
@@ -58,7 +60,7 @@ fn renew_store(line: &mut ScriptLine, number: u64, sent: u32)
     }
 }
 
-/// Writes another number to the line that expects one, which gets another line number. It takes no memory.
+/// Makes the `load` line of one bench round that of another, with this line number, which expects `received`.
 fn renew_load(line: &mut ScriptLine, number: u64, received: u32)
     requires { (n : ℕ) × (bytes : List ℕ) × (line.old ≡ load_with n bytes) × (length bytes ≡ 8) }
     ensures { line.new ≡ load_with number (little_bytes 8 received) }
@@ -69,21 +71,28 @@ fn renew_load(line: &mut ScriptLine, number: u64, received: u32)
     }
 }
 
-/// The lines of a round.
+/// The seven lines of a bench round, in their order.
 #[derive(Debug)]
 struct Round {
+    /// The number that the rank sends is stored.
     store: ScriptLine,
+    /// A write of it to the right neighbour is posted, with a notification.
     post: ScriptLine,
+    /// The queue is waited for.
     wait: ScriptLine,
+    /// The notification of the left neighbour is waited for.
     waitsome: ScriptLine,
+    /// Its slot is reset.
     reset: ScriptLine,
+    /// The number that came is loaded and compared.
     load: ScriptLine,
+    /// A barrier of all ranks.
     barrier: ScriptLine,
 }
 
 impl Round {
-    /// The lines of a round in which a rank sends a number to its right neighbour and gets another; the first line has that
-    /// number.
+    /// The lines of a bench round in which a rank sends `sent` to its right neighbour and gets `received`. `number` is that of the
+    /// first line. The only failure is out of memory.
     fn new(
         alloc: Global,
         number: u64,
@@ -138,7 +147,7 @@ impl Round {
         })
     }
 
-    /// The line at a place.
+    /// The line with this index in the bench round.
     fn at(&self, place: u32) -> &ScriptLine
         requires { place < 7 }
         ensures { slice_get (lines_in self.now) place ≡ Some result.now }
@@ -154,7 +163,7 @@ impl Round {
         }
     }
 
-    /// Overwrites the lines with those of another round. It takes no memory.
+    /// Overwrites the lines with those of another bench round, whose first line has this number. It takes no memory.
     fn renew(&mut self, number: u64, sent: u32, received: u32)
         requires number { number < 1000000 }
         requires round { (n right : ℕ) × (s r : List ℕ) × (self.old ≡ round_with n right s r) × (length s ≡ 8) × (length r ≡ 8) }
@@ -170,10 +179,11 @@ impl Round {
     }
 }
 
-/// Lets a line go. A proof of what drops seven of them has a call for each.
+/// Drops a line. `Round` calls it for each of its seven lines, so that its proof has seven calls and no more.
 fn drop_line(_line: ScriptLine) {}
 
 impl Drop for Round {
+    /// Drops the seven lines.
     fn drop(self) {
         let Round {
             store,
@@ -194,20 +204,23 @@ impl Drop for Round {
     }
 }
 
-/// The lines of a rank in a ring that are left, of which those of the present round stand in memory. At least one is left.
+/// The lines of a rank in the ring from the present one on, of which there is one at least. Those of the present bench round are in
+/// memory.
 #[derive(Debug, Drop)]
 pub(crate) struct RoundLines {
+    /// The rank, with its ring.
     ring: RingRank,
-    /// The present round.
+    /// The present bench round, from 0.
     round: u32,
-    /// How many rounds come after it.
+    /// How many bench rounds come after it.
     later: u32,
-    /// The place of the present line in its round.
+    /// The index of the present line in its bench round.
     place: u32,
-    /// The number that the rank sends in the present round.
+    /// The number that the rank sends in the present bench round.
     sent: u32,
-    /// The number that comes to it in that round.
+    /// The number that comes to the rank in it.
     received: u32,
+    /// The lines of the present bench round.
     lines: Round,
 }
 
@@ -225,7 +238,7 @@ impl Model for RoundLines {
 }
 
 impl RoundLines {
-    /// All lines of a rank.
+    /// All lines of a rank in the ring. Memory for one bench round is taken here, and none later. The only failure is out of memory.
     pub(crate) fn new(alloc: Global, ring: RingRank) -> Result<RoundLines, NoMemory>
         ensures { IfOk result (λ lines. lines ≡ bench_lines ring.seed ring.ranks ring.rounds ring.rank ring.rounds) }
     {
@@ -249,8 +262,8 @@ impl RoundLines {
         self.lines.at(self.place)
     }
 
-    /// Goes on to the next line, where there is one; behind the last of a round the lines are overwritten with those of the
-    /// next. It takes no memory.
+    /// Goes on to the next line; after the last of a bench round the lines are overwritten with those of the next. False where no line
+    /// comes after the present one: then nothing changes. It takes no memory.
     pub(crate) fn step(&mut self) -> bool
         ensures some { 1 ≤ length self.old }
         ensures more { result ≡ true → self.new ≡ drop 1 self.old }

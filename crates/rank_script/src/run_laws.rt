@@ -1,4 +1,4 @@
-//! Laws of runs. Each is a clause of a function without a body.
+//! Laws of runs: the contract of a function that does nothing.
 
 ghost use Rattle.std.specs.Prelude.{◌≡◌, ◌⊎◌, ◌<◌, ℕ, List, [], ◌∷◌, ◌++◌, Some, true};
 ghost use Rattle.gaspi_types.specs.declared.calls.Call.{Call};
@@ -8,10 +8,10 @@ ghost use Rattle.rank_script.specs.declared.scripts.ScriptLine.{ScriptLine};
 ghost use Rattle.rank_script.specs.declared.scripts.RunOutcome.{RunOutcome};
 ghost use Rattle.rank_script.specs.Runs.{RunPosition, AtLine, RunEnded, at_first_line, advanced, end_pair, Follows, IsStopped, IsRun};
 
-/// Pairs that lead to a line, and one more with its call, lead to where the line's reply leads. Pairs that lead to an
-/// ending make a whole run with it, once the caller's end is added; so do pairs that lead to a line before which the
-/// run is stopped. Where a line's call is to be made again, it was made less often than the line allows. A run goes on
-/// behind a line that expects a reply only after that reply.
+/// Pairs of calls with replies lead a run from one line to another. One more pair leads to where its reply leads (`onward`). Pairs
+/// that lead to an ending, or to a line before which the run is stopped, are a whole run once the caller's end is added (`ended`,
+/// `stopped`). A call that is made again was made less often than its line allows (`bounded`). A run goes on after a line that expects
+/// a reply only with that reply (`met`).
 pub fn runs()
     ensures onward { (p : RunPosition) (pairs : List (Call × Reply)) (line : ScriptLine) (made : ℕ) (lines : List ScriptLine) (reply : Reply)
         → Follows p pairs (AtLine line made lines) → Follows p (pairs ++ (line.call, reply) ∷ []) (advanced (AtLine line made lines) reply) }

@@ -1,4 +1,5 @@
-//! Scripts: the calls that a caller makes, line by line.
+//! Scripts and their lines, how a run of a script ends, and why a world text is refused. In contracts a line is plain where its call
+//! is no `end`, and looking where its timeout has one look at least: all lines in `Scripts` are both.
 
 ghost use Rattle.std.specs.Prelude.{◌≡◌, ◌<◌, ◌++◌, ◌∷◌, [], length, ◌==◌, find, option_copied, slice_get, Some, OnOk, OnErr};
 ghost use Rattle.rank_script.specs.declared.scripts.ScriptFault.TheVariants.{NoMemory};
@@ -16,18 +17,23 @@ use thiserror::Error;
 pub struct ScriptLine {
     /// Its number in the text, from 1.
     pub number: u64,
+    /// The call, without its timeout.
     pub call: Call,
+    /// How many looks each of these calls may have.
     pub timeout: LineTimeout,
-    /// How often the call is made at most, from 1.
+    /// How often the call is made at most, 1 or more.
     pub tries: u32,
-    /// The reply that the last of these calls must have, where the line says one.
+    /// The reply that the last of these calls must have; none where any will do.
     pub expected: Option<ExpectedReply>,
 }
 
-/// The lines of a script: those of a rank in a ring, where there is one, which no memory holds, and then others.
+/// The lines of a script: first those of a rank in the ring of `bench`, which a cursor makes bench round by bench round, and then
+/// those in memory.
 #[derive(Debug, Drop)]
 pub struct ScriptLines {
+    /// The rank whose lines come first; none in a script that was read.
     pub(crate) ring: Option<RingRank>,
+    /// The lines in memory.
     pub(crate) others: Sequence<ScriptLine>,
 }
 
@@ -44,7 +50,7 @@ impl Model for ScriptLines {
 impl ScriptLines {
     ghost use Rattle.rank_script.specs.Bench.{bench_lines};
 
-    /// No line. It takes no memory.
+    /// No lines. It takes no memory.
     pub(crate) fn new(alloc: Global) -> ScriptLines
         ensures { result ≡ [] }
     {
@@ -54,7 +60,7 @@ impl ScriptLines {
         }
     }
 
-    /// The lines of a rank in a ring. It takes no memory.
+    /// The lines of a rank in the ring of `bench`. It takes no memory.
     pub(crate) fn of_ring(alloc: Global, ring: RingRank) -> ScriptLines
         ensures { result ≡ bench_lines ring.seed ring.ranks ring.rounds ring.rank ring.rounds }
     {
@@ -64,7 +70,7 @@ impl ScriptLines {
         }
     }
 
-    /// Adds a line at the end. Without memory nothing changes.
+    /// Appends a line. Where memory runs out, nothing changes.
     pub(crate) fn push(&mut self, line: ScriptLine) -> Result<(), NoMemory>
         ensures ok { OnOk result (self.new ≡ self.old ++ line ∷ []) }
         ensures err { OnErr result (self.new ≡ self.old) }
@@ -76,7 +82,9 @@ impl ScriptLines {
 /// The script of a caller.
 #[derive(Debug, Drop)]
 pub struct Script {
+    /// Whose calls they are.
     pub caller: CallerId,
+    /// The lines, in order.
     pub lines: ScriptLines,
 }
 
@@ -89,25 +97,25 @@ pub enum RunOutcome {
     Failed { line: u64 },
     /// By a timeout on a line that blocks.
     Stuck { line: u64 },
-    /// Before a line whose call had no room.
+    /// Before a line for whose call the rank had no room.
     Limit { line: u64 },
-    /// Before a line whose call found no memory.
+    /// Before a line at whose call memory ran out.
     NoMemory { line: u64 },
 }
 
-/// Why a run is ended from outside.
+/// Why a run is ended before its present call, by whoever makes the calls.
 #[derive(Clone, Copy, Debug, PartialEq, Eq)]
 pub enum RunStop {
     /// The rank has no room for the present call.
     Limit,
-    /// Out of memory.
+    /// Memory ran out at the present call.
     NoMemory,
 }
 
-/// Why a world text is refused.
+/// Why a world text was not read.
 #[derive(Debug, Drop, Error)]
 pub enum ScriptFault {
-    /// The fault with that number, 1 to 9, in that line.
+    /// The line with this number, from 1, has this fault, S1 to S9. A text that is too long has S1 at line 0.
     #[error("fault S{number} line {line}")]
     At { number: u32, line: u64 },
     /// Out of memory.
@@ -118,15 +126,17 @@ pub enum ScriptFault {
 impl From<NoMemory> for ScriptFault {
     ghost from_gives = { λ _ fault. fault ≡ NoMemory };
 
+    /// Out of memory, as a fault.
     fn from(_error: NoMemory) -> ScriptFault {
         ScriptFault::NoMemory
     }
 }
 
-/// The scripts of a world, in the order of its callers. No line of them makes an end: a caller's end is no call of its
-/// script. The call of each line may look at least once.
+/// The scripts of a world, in the order of its callers. No line of them makes an end: a caller's end is no call of its script. The
+/// call of each line may look at least once.
 #[derive(Debug, Drop)]
 pub struct Scripts {
+    /// In the order of the callers.
     scripts: Sequence<Script>,
 }
 
@@ -146,7 +156,7 @@ impl Scripts {
     ghost use Rattle.rank_script.specs.WorldText.{is_script_of, with_section, with_line};
     ghost use Rattle.rank_script.specs.PlainScripts.{IsPlain, MayLook, HasPlainLines, HasLookingLines, ArePlain, AreLooking};
 
-    /// No script. It takes no memory.
+    /// No scripts. It takes no memory.
     pub fn new(alloc: Global) -> Scripts
         ensures { result ≡ [] }
     {
@@ -155,7 +165,7 @@ impl Scripts {
         }
     }
 
-    /// How many scripts there are.
+    /// How many scripts there are. The contract says also that all lines are plain and looking.
     pub fn len(&self) -> usize
         ensures count { result ≡ length self.now }
         ensures plain { ArePlain self.now }
@@ -171,7 +181,7 @@ impl Scripts {
         self.scripts.len() == 0
     }
 
-    /// The script at a place.
+    /// The script with this index.
     pub fn at(&self, place: usize) -> &Script
         requires { place < length self.now }
         ensures { slice_get self.now place ≡ Some result.now }
@@ -179,7 +189,7 @@ impl Scripts {
         self.scripts.at(place)
     }
 
-    /// The script of a caller, where it has one.
+    /// The script of a caller; none where it has none.
     pub fn of(&self, caller: CallerId) -> Option<&Script>
         ensures { option_copied result ≡ find (is_script_of caller) self.now }
     {
@@ -189,7 +199,7 @@ impl Scripts {
             .find(|script| script.caller == caller)
     }
 
-    /// Opens the script of a caller, behind the others. Without memory nothing changes.
+    /// Appends a script without lines, for a caller. Where memory runs out, nothing changes.
     pub(crate) fn open(&mut self, alloc: Global, caller: CallerId) -> Result<(), NoMemory>
         ensures ok { OnOk result (self.new ≡ with_section self.old caller) }
         ensures err { OnErr result (self.new ≡ self.old) }
@@ -200,7 +210,7 @@ impl Scripts {
         })
     }
 
-    /// Adds a line to the newest script. Without memory nothing changes.
+    /// Appends a line, which is plain and looking, to the newest script. Where memory runs out, nothing changes.
     pub(crate) fn add_line(&mut self, line: ScriptLine) -> Result<(), NoMemory>
         requires some { 0 < length self.old }
         requires plain { IsPlain line }
@@ -213,7 +223,7 @@ impl Scripts {
         script.lines.push(line)
     }
 
-    /// Adds a script, behind the others. Without memory nothing changes.
+    /// Appends a script, whose lines are plain and looking. Where memory runs out, nothing changes.
     pub(crate) fn add(&mut self, script: Script) -> Result<(), NoMemory>
         requires plain { HasPlainLines script }
         requires look { HasLookingLines script }

@@ -1,4 +1,4 @@
-//! Where a journal begins in an input.
+//! Where a journal begins in an input: at the first line whose first word is `journal`.
 
 ghost use Rattle.std.specs.Prelude.{◌≡◌, ◌==◌, ◌≤◌, ◌+◌, length, not, find, IfSome};
 ghost use Rattle.std.specs.List.{slice_split};
@@ -9,8 +9,8 @@ ghost use Rattle.rank_script.specs.WorldText.{is_journal_line, journal_offset};
 use crate::line_fields::is_word;
 use call_texts::{first_line, plain_line};
 
-/// The byte at which the first line begins whose first word is `journal`, and that line's number, from 1; none exactly
-/// where no line begins so. It takes no memory.
+/// The byte at which the journal of an input begins, and the number of its first line, from 1; none exactly where there is no journal.
+/// It takes no memory.
 pub fn split_input(text: &[u8]) -> Option<(u64, u64)>
     ensures place { result ≡ journal_offset text.now }
     ensures within { IfSome result (λ found. (1 ≤ found.1) × (found.1 ≤ found.0 + 1) × (found.0 ≤ length text.now)) }
@@ -38,7 +38,7 @@ pub(crate) fn is_journal_line(line: &[u8]) -> bool
     }
 }
 
-/// The first word of a line that has one.
+/// The first word of a line; none where the line has no word.
 fn first_word(line: &[u8]) -> Option<&[u8]>
     ensures { option_map (λ word. word.now) result ≡ find (λ word. not (length word == 0)) (slice_split is_blank line.now) }
 {

@@ -1,4 +1,4 @@
-//! World texts.
+//! World texts as a whole: a text alone, or the beginning of an input whose journal comes after it.
 
 ghost use Rattle.std.specs.Prelude.{◌≡◌, ◌≤◌, ◌+◌, [], length, IfOk, IfSome};
 ghost use Rattle.gaspi_types.specs.World.{IsShape};
@@ -15,11 +15,11 @@ use call_texts::{first_line, plain_line};
 use gaspi_types::Shape;
 use std::alloc::Global;
 
-/// The most bytes that a world text may have, and an input that begins with one.
+/// The most bytes of a world text, and of an input that begins with one.
 pub const MOST_INPUT_BYTES: usize = 268_435_456;
 
-/// Reads a world text: the shape of the world that it declares, and the scripts of its callers. Where a line has a
-/// fault, the answer is the first such line and the smallest number of its faults.
+/// Reads a world text: the shape that it declares, and the scripts of its callers. Where a line has a fault, the error is the first
+/// such line with the smallest number of its faults. The only other failure is out of memory.
 pub fn read_world(alloc: Global, text: &[u8]) -> Result<(Shape, Scripts), ScriptFault>
     ensures exact { Reads result (world_text text.now) }
     ensures world { IfOk result (λ read. IsShape read.0) }
@@ -29,9 +29,9 @@ pub fn read_world(alloc: Global, text: &[u8]) -> Result<(Shape, Scripts), Script
     Ok((shape, scripts))
 }
 
-/// Reads the world text of an input, and finds where its journal begins: the byte at which the first line begins whose
-/// first word is `journal`, and that line's number, from 1. The world text is what stands before, or the whole input.
-/// Its faults are those that `read_world` names, and the whole input may not be too long.
+/// Reads an input: the world text at its beginning, and where its journal begins. That is the byte at which the first line begins
+/// whose first word is `journal`, and that line's number, from 1; none where no line begins so, and then the whole input is the world
+/// text. The errors are those of `read_world`; the whole input may not be too long.
 pub fn read_input(
     alloc: Global,
     text: &[u8],
@@ -45,7 +45,9 @@ pub fn read_input(
     read_until(alloc, text, true)
 }
 
-/// Reads the lines of a text, up to its journal where that is looked for.
+/// Reads the lines of a text, for `read_world` and `read_input`: up to its journal where `journal` is true, and all lines otherwise.
+/// The third answer is where the journal begins; none where it is not looked for, or is not there. The errors are those of
+/// `read_world`.
 fn read_until(
     alloc: Global,
     text: &[u8],
@@ -80,7 +82,8 @@ fn read_until(
     Ok((shape, scripts, None))
 }
 
-/// What was read, where the lines end before one of that number.
+/// The shape and the scripts that were read, where the lines end before the one with this number. Where no world line came, the fault
+/// is S1 in the line with this number.
 fn finish(reading: Reading, number: u64) -> Result<(Shape, Scripts), ScriptFault>
     requires { Accords (reading_of reading) }
     ensures exact { Reads result (read_lines (reading_of reading) number []) }

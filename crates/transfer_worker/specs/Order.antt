@@ -29,7 +29,7 @@ next_turn others.Quiet turns = (turns + 1) % 2 ^ 64
 next_turn others.Passed turns = turns
 
 module _ (w : ShapeValue) where
-  -- the rank of a try after so many others: the ranks come in their order from a first one on, and rank 0 after the last
+  -- the rank that is tried after this number of others: the ranks come in their order from a first one on, and rank 0 after the last
   abbrev pub tried_rank : ℕ → ℕ → ℕ
   tried_rank first tries = (first + tries) % w.limits.ranks
 
@@ -37,7 +37,7 @@ module _ (w : ShapeValue) where
   abbrev pub first_rank : ℕ → ℕ
   first_rank turns = turns % 2 ^ 64 % w.limits.ranks
 
-  -- So many ranks were tried one after another from a first one on, and none moved: what they come to.
+  -- Ranks were tried one after another from a first one on, and none moved: what they come to.
   abbrev pub HaveTried : {S : Type 0} → ℕ → ℕ → PassView S Event → Turn → PassView S Event → Type 0
   HaveTried first zero v so_far n = (n ≡ v) × (so_far ≡ Drained)
   HaveTried {S} first (suc tries) v so_far n =
@@ -74,6 +74,7 @@ module _ (w : ShapeValue) where
       (m : PassView S Event) × (before : Others) × (other : Others) × HaveTriedOthers begun first tries v before m
       × TriesOther begun (tried_rank first tries) m other n × (other ≢ others.Moved) × (so_far ≡ with_other before other)
 
+  -- after tries that did not move, or that passed over a quiet rank, one did
   pub record StopsAtOther {S : Type 0} (begun : PassView S Event) (first : ℕ) (v n : PassView S Event) : Type 0 where
     pub tries : ℕ
     pub few : tries < w.limits.ranks

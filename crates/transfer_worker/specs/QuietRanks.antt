@@ -6,7 +6,7 @@ use Rattle.gaspi_types.specs.declared.events.Event.{Event}
 use Rattle.commit_table.specs.declared.views.PassView.{PassView}
 use Rattle.transfer_worker.specs.Turns.{HasNoTransferSeen}
 
--- a count of a rank is known
+-- there is a count of a rank
 abbrev pub IsKnown : List (Option ℕ) → ℕ → Type 0
 IsKnown counts rank = (count : ℕ) × (slice_get counts rank ≡ Some (Some count))
 
@@ -16,7 +16,7 @@ module _ (w : ShapeValue) where
     pub since : IsPrefix begun.seen n.seen
     pub still : (rank : ℕ) → IsKnown counts rank → HasNoTransferSeen w begun n rank
 
-  -- What tries tell since a worker knew `begun`, and the counts that are known before and after them: so for each `begun` since which it
-  -- looked at the ranks whose counts it knows.
+  -- What tries say since a worker knew `begun`, and the counts that are known before and after them: this holds for each `begun` since
+  -- which it looked at the ranks whose counts it knows.
   abbrev pub TellsStill : {S : Type 0} → (PassView S Event → Type 0) → List (Option ℕ) → PassView S Event → List (Option ℕ) → PassView S Event → Type 0
   TellsStill {S} Tells before v after n = (begun : PassView S Event) → KnowsStill begun before v → Tells begun × KnowsStill begun after n

@@ -1,4 +1,4 @@
--- Ranks that are done. (GASPI: one-sided communication)
+-- Still ranks. (GASPI: one-sided communication)
 use Rattle.std.specs.Prelude.{◌≡◌, ◌≢◌, ℕ, false, Some, slice_get}
 use Rattle.gaspi_types.specs.declared.events.Transfer.{Transfer}
 use Rattle.gaspi_model.specs.Step.{is_active}

@@ -1,4 +1,4 @@
--- What a turn of a worker through all ranks of its world tells. (GASPI: one-sided communication)
+-- What a full turn of a worker came to. (GASPI: one-sided communication)
 use Rattle.std.specs.Prelude.{◌≡◌, ℕ, ◌<◌, true, List, [], ◌∷◌, ◌++◌, length, Ok}
 use mathlib.Core.List.{IsPrefix}
 use Rattle.gaspi_types.specs.World.{ShapeValue}
@@ -36,7 +36,7 @@ module _ (w : ShapeValue) where
   abbrev pub IsDrained : List Event → Type 0
   IsDrained history = (s : State) × (reached w history ≡ Ok s) × IsSettled s
 
-  -- one transfer was committed, behind a history that goes on from what had been seen
+  -- one transfer was committed, after a history that goes on from what had been seen
   pub record IsTransferMade {S : Type 0} (v n : PassView S Event) : Type 0 where
     pub origin : ℕ
     pub rank : origin < w.limits.ranks
@@ -66,27 +66,30 @@ module _ (w : ShapeValue) where
     pub until : IsPrefix history n.seen
     pub none : HasNoEnabledTransfer w history rank
 
-  -- and then a thread of it has not ended; or all have
+  -- and then a thread of it is active
   abbrev pub IsActive : {S : Type 0} → PassView S Event → PassView S Event → ℕ → Type 0
   IsActive v n rank = (still : HasNoTransferSeen v n rank) × HasActive w still.history rank
 
+  -- and then no thread of it is active
   abbrev pub IsEnded : {S : Type 0} → PassView S Event → PassView S Event → ℕ → Type 0
   IsEnded v n rank = (still : HasNoTransferSeen v n rank) × HaveEnded w still.history rank
 
-  -- nothing was committed and nothing missed: each of these ranks was tried, with one look for each of so many tries
+  -- nothing was committed and nothing missed: each of these ranks was tried, with one look for each try
   pub record AreRanksTried {S : Type 0} (Is : ℕ → Type 0) (tries : ℕ) (v n : PassView S Event) : Type 0 where
     pub commits : n.commits ≡ v.commits
     pub missed : n.missed ≡ v.missed
     pub looks : (these : List ℕ) × (n.looks ≡ v.looks ++ these) × (length these ≡ tries)
     pub still : (rank : ℕ) → Is rank → HasNoTransferSeen v n rank
 
-  -- each rank was tried, and a thread of one has not ended; or nothing is left to do
+  -- each rank was tried, and a thread of one has not ended
   abbrev pub IsIdle : {S : Type 0} → PassView S Event → PassView S Event → Type 0
   IsIdle v n = AreRanksTried (λ rank. rank < w.limits.ranks) w.limits.ranks v n × ((rank : ℕ) × (rank < w.limits.ranks) × IsActive v n rank)
 
+  -- each rank was tried, and the world is settled
   abbrev pub AreDone : {S : Type 0} → PassView S Event → PassView S Event → Type 0
   AreDone v n = AreRanksTried (λ rank. rank < w.limits.ranks) w.limits.ranks v n × IsDrained n.seen
 
+  -- what a full turn came to, by its answer
   abbrev pub Turned : {S : Type 0} → PassView S Event → Turn → PassView S Event → Type 0
   Turned v Moved n = IsTransferMade v n
   Turned v Busy n = HasMissed v n

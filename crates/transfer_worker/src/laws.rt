@@ -1,4 +1,5 @@
-//! Laws of ranks that are done: the contract of a function that does nothing.
+//! A law of still ranks, of which no transfer may come next and whose threads have all ended: the contract of a function that does
+//! nothing.
 
 ghost use Rattle.std.specs.Prelude.{◌≡◌, ◌<◌, ℕ, List, Ok};
 ghost use Rattle.gaspi_types.specs.declared.events.Event.{Event};
@@ -8,8 +9,8 @@ ghost use Rattle.gaspi_model.specs.Step.{after};
 ghost use Rattle.gaspi_model.specs.declared.states.State.{State};
 ghost use Rattle.transfer_worker.specs.StillRanks.{IsStill};
 
-/// A rank whose threads have ended and of which no transfer may come next stays so, whatever comes. Where every rank is so, nothing is
-/// left to do. So a worker may look at one rank after another.
+/// A still rank stays still, whatever events come (`stays`). Where every rank is still, the state is settled (`settled`). So a worker
+/// that looks at one rank after another may conclude that its world is settled.
 pub fn still_ranks()
     ensures stays { (s t : State) (events : List Event) (rank : ℕ) → after s events ≡ Ok t → IsStill s rank → IsStill t rank }
     ensures settled { (s : State) → IsSound s → ((rank : ℕ) → rank < s.limits.ranks → IsStill s rank) → IsSettled s }

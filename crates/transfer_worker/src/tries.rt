@@ -1,4 +1,6 @@
-//! The tries of a turn: a transfer of each rank is tried, from one rank on.
+//! The tries of a turn: the ranks are tried in their order, from `first` on and with rank 0 after the last, up to the first that
+//! moved. There are two kinds. A full turn (`try_ranks`) passes over no rank, and makes one transfer at most. The other kind
+//! (`try_others`) passes over quiet ranks, and may make several transfers of a lane.
 
 ghost use Rattle.std.specs.Prelude.{◌≡◌, ◌<◌, true};
 ghost use Rattle.commit_table.specs.Calls.{IsOf, HoldsNone};
@@ -13,7 +15,8 @@ use crate::turns::{Turn, with_try};
 use gaspi_types::RankId;
 use gaspi_world::{Moving, Pass, World, world_histories};
 
-/// Tries all ranks in their order, from one rank on, and stops at the first that moved.
+/// The tries of a full turn: every rank in its order, from `first` on, up to the first that moved. It waits for nothing, and takes no
+/// memory.
 pub fn try_ranks(world: &World, pass: &mut Pass, first: u32) -> Turn
     requires pass { IsOf world.now pass.old }
     requires free { HoldsNone pass.old.known }
@@ -40,20 +43,20 @@ pub fn try_ranks(world: &World, pass: &mut Pass, first: u32) -> Turn
     so_far
 }
 
-/// What a try of the ranks comes to that are not known to be quiet, the others.
+/// What the tries of the others came to: of those ranks that are not known to be quiet.
 #[derive(Clone, Copy, Debug, PartialEq, Eq)]
 pub enum Others {
     /// Transfers of a lane were made.
     Moved,
-    /// None was, and at a try another thread held a shard that the transfer needed.
+    /// None was made, and at a try a shard was missed.
     Busy,
-    /// None was, and at no try another thread held such a shard.
+    /// None was made, and at no try a shard was missed.
     Quiet,
     /// No rank was tried: all are quiet, as far as is known.
     Passed,
 }
 
-/// What ranks that did not move come to with one more.
+/// What tries come to with that of one rank more, which came to `other`. `so_far` is what those before came to; none of them moved.
 fn with_other(so_far: Others, other: Others) -> Others
     ensures { result ≡ with_other so_far other }
 {
@@ -65,7 +68,8 @@ fn with_other(so_far: Others, other: Others) -> Others
     }
 }
 
-/// Tries a rank, where it is not known to be quiet.
+/// Tries a rank, where it is not known to be quiet (`Passed`). Where no transfer of it may come next, its count is added to `quiet`:
+/// the one that was read before the try.
 fn try_other(world: &World, pass: &mut Pass, origin: RankId, quiet: &mut QuietRanks<'_>) -> Others
     requires pass { IsOf world.now pass.old }
     requires free { HoldsNone pass.old.known }
@@ -90,7 +94,8 @@ fn try_other(world: &World, pass: &mut Pass, origin: RankId, quiet: &mut QuietRa
     }
 }
 
-/// Tries those ranks that are not known to be quiet, from one rank on, and stops at the first that moved.
+/// The tries of a turn that passes over quiet ranks: the others in their order, from `first` on, up to the first that moved. Ranks at
+/// which nothing was found are added to `quiet`. It waits for nothing, and takes no memory.
 pub fn try_others(world: &World, pass: &mut Pass, first: u32, quiet: &mut QuietRanks<'_>) -> Others
     requires pass { IsOf world.now pass.old }
     requires free { HoldsNone pass.old.known }

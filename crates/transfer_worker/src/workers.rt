@@ -1,4 +1,4 @@
-//! Workers.
+//! A worker of a world: its turns, and its pauses while all ranks are quiet.
 
 ghost use Rattle.std.specs.Prelude.{◌≡◌, ◌<◌, ◌+◌, ◌%◌, ◌^◌, true};
 ghost use Rattle.commit_table.specs.Calls.{IsOf, HoldsNone};
@@ -17,13 +17,16 @@ use std::sync::Wait;
 /// A worker in its world, by its pass.
 #[derive(Drop)]
 pub struct Worker<'a> {
+    /// Its world.
     pub world: &'a World,
+    /// Its pass, which is that of a worker, and holds no shard between turns.
     pub pass: &'a mut Pass,
-    /// How many turns it made, modulo 2^64. The next one begins at the rank of that number, modulo how many ranks there are.
+    /// The number of its next turn, modulo 2^64. A turn begins at the rank of its number, modulo how many ranks there are.
     pub turns: u64,
 }
 
-/// The number of the turn after one with that number: where no rank was tried, it was no turn.
+/// The number of the next turn, where the one with number `turns` came to `others`: the same where no rank was tried, since that was
+/// no turn.
 fn next_turn(others: Others, turns: u64) -> u64
     ensures { result ≡ next_turn others turns }
 {
@@ -43,7 +46,7 @@ impl<'a> Worker<'a> {
         (self.turns % ranks) as u32
     }
 
-    /// Counts a turn.
+    /// Counts a turn, modulo 2^64.
     fn count(&mut self)
         ensures same { (self.new.world ≡ self.old.world) × (self.new.pass ≡ self.old.pass) }
         ensures turns { self.new.turns ≡ (self.old.turns + 1) % 2 ^ 64 }
@@ -51,8 +54,8 @@ impl<'a> Worker<'a> {
         self.turns = self.turns.wrapping_add(1);
     }
 
-    /// Tries each rank once, from another one on in each turn, and stops at the first that moved. It waits for nothing, and takes no memory.
-    /// (GASPI: one-sided communication)
+    /// Makes a full turn: tries each rank once, from the one of its number on, up to the first that moved. It waits for nothing, and
+    /// takes no memory. (GASPI: one-sided communication)
     pub fn turn(&mut self) -> Turn
         requires pass { IsOf self.old.world.now self.old.pass.now }
         requires free { HoldsNone self.old.pass.now.known }
@@ -71,7 +74,7 @@ impl<'a> Worker<'a> {
         try_ranks(self.world, self.pass, first)
     }
 
-    /// Makes a turn past those ranks that are known to be quiet. Where no rank was tried, it is not counted.
+    /// Makes a turn that passes over the quiet ranks, for `drain`. Where no rank was tried, it is not counted.
     fn go_past(&mut self, quiet: &mut QuietRanks<'_>) -> Others
         requires pass { IsOf self.old.world.now self.old.pass.now }
         requires free { HoldsNone self.old.pass.now.known }
@@ -88,7 +91,8 @@ impl<'a> Worker<'a> {
         others
     }
 
-    /// Pauses where all ranks are quiet, and makes a turn where none has posted meanwhile: whether nothing is left to do.
+    /// Pauses, for `drain`, where no transfer was found; and where all ranks are quiet after that, makes a full turn. True where the
+    /// turn found the world settled.
     fn rest<R: Wait>(&mut self, rt: &R, pauses: &mut BackOff, quiet: &QuietRanks<'_>) -> bool
         requires pass { IsOf self.old.world.now self.old.pass.now }
         requires free { HoldsNone self.old.pass.now.known }
@@ -109,9 +113,9 @@ impl<'a> Worker<'a> {
         }
     }
 
-    /// Makes turns until all callers have ended and all that was posted has arrived, but for what waits in broken queues. A turn goes
-    /// through those ranks alone that have posted since a try found nothing, and may make several transfers of a lane; where none has
-    /// posted for a while, it goes through all. It takes no memory. (GASPI: one-sided communication)
+    /// Makes turns until the world is settled. A turn passes over ranks that have posted nothing since a try found nothing there, and
+    /// may make several transfers of a lane; where no rank has posted for a while, a full turn is made. It waits by pauses, holds no
+    /// shard then, and takes no memory. (GASPI: one-sided communication)
     pub fn drain<R: Wait>(&mut self, rt: &R)
         requires pass { IsOf self.old.world.now self.old.pass.now }
         requires free { HoldsNone self.old.pass.now.known }
