@@ -1,5 +1,5 @@
--- Which writes a notification stands for: those of its lane that were posted before it, and after the last purge of their queue.
--- (GASPI: notification order, queue_purge)
+-- Which writes a notification covers: those of its lane that were posted before it, and not purged since. (GASPI: notification
+-- order, queue_purge)
 use Rattle.std.specs.Prelude.{◌≡◌, ℕ, ◌+◌, ◌<◌, true, false, List, take, Some, slice_get}
 use Rattle.gaspi_types.specs.World.{ShapeValue}
 use Rattle.gaspi_types.specs.declared.events.Event.{Event}
@@ -12,12 +12,12 @@ use Rattle.call_journal.specs.declared.answers.CoveredWrite.{CoveredWrite}
 use Rattle.call_journal.specs.declared.answers.Explanation.{Explanation}
 use Rattle.call_journal.specs.declared.answers.Explanation.TheVariants.{Writes, NoNotification, Illegal}
 
--- a notification that stands in a lane is put at a place
+-- a notification that is in a lane is put at a place
 pub record IsNotificationPut (w : ShapeValue) (history : List Event) (place origin queue target number : ℕ) : Type 0 where
   pub there : slice_get history place ≡ Some (Put origin queue target number Applied)
   pub stands : IsNotificationInLane w (take place history) origin queue target number
 
--- a write is posted by the event at a place: it stands in its lane after that event, and not before it
+-- a write is posted by the event at a place: it is in its lane after that event, and not before it
 pub record IsPostedAt (w : ShapeValue) (history : List Event) (post origin queue target number : ℕ) : Type 0 where
   pub after : IsWriteInLane w (take (post + 1) history) origin queue target number
   pub before : IsWriteInLane w (take post history) origin queue target number → ⊥
@@ -27,7 +27,7 @@ abbrev pub IsUnpurged : List Event → (from to origin queue : ℕ) → Type 0
 IsUnpurged history from to origin queue =
     (place : ℕ) (event : Event) → from < place → place < to → slice_get history place ≡ Some event → is_purge_of origin queue event ≡ false
 
--- a write for which the notification with a number stands that is put at a place: it has a smaller number, was posted before that
+-- a write that is covered by the notification with a number that is put at a place: the write has a smaller number, was posted before that
 -- place, and its queue was not purged in between
 pub record IsCovered (w : ShapeValue) (history : List Event) (place origin queue target note post number : ℕ) : Type 0 where
   pub smaller : number < note
@@ -35,7 +35,7 @@ pub record IsCovered (w : ShapeValue) (history : List Event) (place origin queue
   pub posted : IsPostedAt w history post origin queue target number
   pub unpurged : IsUnpurged history post place origin queue
 
--- these are all the writes for which the notification stands that is put at a place, by rising number, and their puts stand where they
+-- these are all writes that are covered by the notification that is put at a place, by rising number, and their puts are where they
 -- say, before that place
 pub record IsExplained (w : ShapeValue) (history : List Event) (place : ℕ) (writes : List CoveredWrite) : Type 0 where
   pub origin : ℕ

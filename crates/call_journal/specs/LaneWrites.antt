@@ -1,4 +1,4 @@
--- The writes of a lane, as the events of a journal tell them. (own choice)
+-- The writes of a lane, as the events of a journal show them. (own choice)
 use Rattle.std.specs.Prelude.{ℕ, zero, suc, ◌+◌, ◌-◌, ◌==◌, ◌&&◌, Bool, true, false, List, [], ◌∷◌, ◌++◌, map, nat_lt, Option, None, Some, if◌then◌else◌}
 use Rattle.gaspi_types.specs.CallRows.{row_of, entries_of}
 use Rattle.gaspi_types.specs.declared.call_rows.Posting.{Posting}
@@ -30,11 +30,12 @@ posts_notification (WriteNotify call) = true
 posts_notification (WriteListNotify call) = true
 posts_notification call = false
 
--- what a caller of a rank posted by an event
+-- what a call posts when it is done
 abbrev pub post_in : Call → Option Posting → Option Post
 post_in call None = None
 post_in call (Some to) = Some (record { posting = to; writes = writes_in call; notified = posts_notification call })
 
+-- what an event has posted for an origin
 abbrev pub post_of : ℕ → Event → Option Post
 post_of origin (Called c call replies.Done) = if c.rank == origin then post_in call (row_of call).posting else None
 post_of origin event = None
@@ -53,11 +54,12 @@ abbrev pub put_in : EntryPut → Event → Option ℕ
 put_in at (Put origin queue target number Applied) = if (origin == at.origin) && ((queue == at.queue) && (target == at.target)) then Some number else None
 put_in at event = None
 
--- the entry that an event has put, and the one at a place of a journal
+-- the put of an event
 abbrev pub put_of : Event → Option EntryPut
 put_of (Put origin queue target number Applied) = Some (record { origin = origin; queue = queue; target = target; number = number })
 put_of event = None
 
+-- the put at a place of a journal
 abbrev pub put_at : List Event → ℕ → Option EntryPut
 put_at journal place = of_event (slice_get journal place)
   where
@@ -65,15 +67,16 @@ put_at journal place = of_event (slice_get journal place)
     of_event None = None
     of_event (Some event) = put_of event
 
--- the writes of a lane after a put
+-- a write with the place of its put, where it has that number
 abbrev pub put_here : ℕ → ℕ → LaneWrite → LaneWrite
 put_here number place x = if x.number == number then record x { put = Some place } else x
 
+-- the writes of a lane after a put at a place
 abbrev pub with_put : Option ℕ → ℕ → List LaneWrite → List LaneWrite
 with_put None place writes = writes
 with_put (Some number) place writes = map (put_here number place) writes
 
--- so many writes of a post at a place, numbered on from a number
+-- the writes of a post at a place, as many as a count says, numbered on from a number
 abbrev pub new_writes : ℕ → ℕ → ℕ → List LaneWrite
 new_writes place number zero = []
 new_writes place number (suc count) = record { post = place; number = number; put = None } ∷ new_writes place (number + 1) count
@@ -93,13 +96,15 @@ abbrev pub writes_after : EntryPut → ℕ → Event → ℕ → List LaneWrite 
 writes_after at place event next writes =
     (if is_purge_of at.origin at.queue event then [] else with_put (put_in at event) place writes) ++ new_writes place next (writes_to at (post_of at.origin event))
 
--- of the writes with a smaller number those that are put, with the places of their puts
+-- a write with the place of its put, where it is put
 abbrev pub arrived_with : LaneWrite → Option ℕ → List CoveredWrite
 arrived_with x None = []
 arrived_with x (Some put) = record { post = x.post; number = x.number; put = put } ∷ []
 
+-- the same, where its number is below another
 abbrev pub arrived_one : ℕ → LaneWrite → List CoveredWrite
 arrived_one number x = if nat_lt x.number number then arrived_with x x.put else []
 
+-- of the writes with a number below another those that are put
 abbrev pub arrived : ℕ → List LaneWrite → List CoveredWrite
 arrived number writes = flat_map (arrived_one number) writes

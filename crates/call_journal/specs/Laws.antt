@@ -20,7 +20,7 @@ pub record RanToTheEnd (seed ranks rounds : ℕ) (journal : List Event) : Type 0
   pub settled : IsSettled state
   pub runs : (rank : ℕ) → rank < ranks → IsRun (bench_lines seed ranks rounds rank rounds) (recorded_calls rank 0 journal) Ended
 
--- the numbers that so many ranks send in a round, added
+-- the numbers that the first ranks send in a bench round, added
 abbrev pub draws_until : ℕ → ℕ → ℕ → ℕ → ℕ
 draws_until seed ranks round zero = 0
 draws_until seed ranks round (suc rank) = draws_until seed ranks round rank + bench_draw seed ranks round rank

@@ -1,4 +1,4 @@
--- The numbers that are told of a journal. (own choice)
+-- The bench numbers of a journal. (own choice)
 use Rattle.std.specs.Prelude.{◌≡◌, ℕ, zero, suc, ◌+◌, ◌%◌, ◌^◌, Bool, true, false, ◌==◌, not, List, count_by, unwrap_or, Ok, Err}
 use Rattle.gaspi_types.specs.World.{ShapeValue}
 use Rattle.gaspi_types.specs.declared.calls.Call.TheVariants.{Reset}
@@ -34,7 +34,7 @@ abbrev pub is_found_reset : Event → Bool
 is_found_reset (Called caller (Reset call) reply) = is_set_value reply
 is_found_reset _ = false
 
--- the words at offset 8 of segment 0 of so many ranks, added, with 0 for a rank where there is none
+-- the memory words at offset 8 of segment 0 of the first ranks, added, with 0 for a rank where there is none
 abbrev pub words_until : State → ℕ → ℕ
 words_until s zero = 0
 words_until s (suc rank) = words_until s rank + unwrap_or (word_in s rank 0 8) 0
@@ -49,7 +49,7 @@ pub record AreNumbers (w : ShapeValue) (journal : List Event) (n : Numbers4) : T
   pub leads : reached w journal ≡ Ok state
   pub sum : n.sum ≡ words_until state w.limits.ranks % 2 ^ 64
 
--- why there are no numbers: the journal is not legal, for that cause, or memory was wanting
+-- why there are no numbers: the journal is not legal, for that cause, or memory ran out
 abbrev pub IsIllegal : ShapeValue → List Event → StepFault → Type 0
 IsIllegal w journal (fault.Illegal why) = reached w journal ≡ Err why
 IsIllegal w journal fault.NoMemory = Unit {0}

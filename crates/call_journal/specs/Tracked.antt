@@ -1,4 +1,4 @@
--- What is known of the writes of a lane at a place of a journal. (own choice)
+-- What is known of the writes of a lane before a place of a journal. (own choice)
 use Rattle.std.specs.Prelude.{◌≡◌, ℕ, ◌+◌, ◌<◌, ◌≤◌, Bool, true, List, [], ◌∷◌, take, Option, None, Some, Ok, slice_get}
 use Rattle.gaspi_types.specs.Lanes.{is_notify}
 use Rattle.gaspi_types.specs.World.{ShapeValue}
@@ -18,7 +18,7 @@ use Rattle.call_journal.specs.declared.lane_writes.LaneWrite.{LaneWrite}
 abbrev pub IsPutAt : List Event → EntryPut → (number place : ℕ) → Type 0
 IsPutAt journal at number place = slice_get journal place ≡ Some (Put at.origin at.queue at.target number Applied)
 
--- where the put of a write stands, or that it was not put since its post
+-- where the put of a write is, or that it was not put since its post
 abbrev pub HasPut : List Event → ℕ → EntryPut → (post number : ℕ) → Option ℕ → Type 0
 HasPut journal place at post number None = (k : ℕ) → post < k → k < place → IsPutAt journal at number k → ⊥
 HasPut journal place at post number (Some put) = (put < place) × IsPutAt journal at number put

@@ -1,4 +1,4 @@
--- Transcripts: what each caller was told. (own choice)
+-- Transcripts: the replies of each caller with their lines, and how its run ended. (own choice)
 use Rattle.std.specs.Prelude.{ℕ, List, [], ◌∷◌, ◌++◌, Option, None, Some, if◌then◌else◌, codes, find}
 use Rattle.std.specs.Fmt.{decimal}
 use Rattle.std.specs.List.{flat_map, range_with_len}
@@ -34,7 +34,7 @@ stuck_line c line = caller_word c ++ codes " stuck " ++ decimal line ++ codes "\
 abbrev pub limit_line : CallerId → ℕ → List ℕ
 limit_line c line = caller_word c ++ codes " limit " ++ decimal line ++ codes "\n"
 
--- no run that is told ended out of memory; its line is that of a run that stopped
+-- no run of a transcript is out of memory; its line is that of a run that stopped
 abbrev pub outcome_line : CallerId → RunOutcome → List ℕ
 outcome_line c outcomes.Ended = ended_line c
 outcome_line c (outcomes.Failed line) = failed_line c line
@@ -42,7 +42,7 @@ outcome_line c (outcomes.Stuck line) = stuck_line c line
 outcome_line c (outcomes.Limit line) = limit_line c line
 outcome_line c (outcomes.NoMemory line) = limit_line c line
 
--- what is told of the rest of a run: its calls with their lines, and how it ended; where the calls end before one that a
+-- the transcript of the rest of a run: its calls with their lines, and how it ended; where the calls end before one that a
 -- line would make, or have the end there, it stopped before it
 abbrev pub transcript : CallerId → RunPosition → List (Call × Reply) → List ℕ
 transcript c (RunEnded outcome) pairs = outcome_line c outcome
@@ -51,11 +51,13 @@ transcript c (AtLine line made lines) (pair ∷ pairs) =
     if is_end pair.0 then limit_line c line.number
     else call_line c line.number pair.1 ++ transcript c (advanced (AtLine line made lines) pair.1) pairs
 
+-- the transcript of a script, where there is one
 abbrev pub script_transcript : List Event → Option Script → List ℕ
 script_transcript journal None = []
 script_transcript journal (Some script) =
     transcript script.caller (at_first_line script.lines) (recorded_calls script.caller.rank script.caller.thread journal)
 
+-- the transcript of a thread of a rank; none where it has no script
 abbrev pub thread_transcript : List Script → List Event → ℕ → ℕ → List ℕ
 thread_transcript scripts journal rank thread = script_transcript journal (find (is_script_of (record { rank = rank; thread = thread })) scripts)
 

@@ -1,4 +1,4 @@
-//! Which writes a notification stands for.
+//! Which writes a notification covers: the command `why`.
 
 ghost use Rattle.std.specs.Prelude.{◌≡◌, ◌*◌, ◌≤◌, true, length, IfOk};
 ghost use Rattle.call_journal.specs.Explanations.{IsExplanation};
@@ -13,7 +13,8 @@ use gaspi_texts::Journal;
 use gaspi_types::{NoMemory, Shape};
 use std::alloc::Global;
 
-/// The answer for a place of a journal that is legal.
+/// The explanation of a place, where the journal is legal, which the caller has checked. The journal has to be as short as a
+/// legal one.
 fn explained(alloc: Global, journal: &Journal, place: u64) -> Result<Explanation, NoMemory>
     requires { length journal.now ≤ 16 * 65536 }
     ensures { IfOk result (λ answer. (w : ShapeValue) → IsShape w → is_legal w journal.now ≡ true → IsExplanation w journal.now place answer) }
@@ -29,10 +30,10 @@ fn explained(alloc: Global, journal: &Journal, place: u64) -> Result<Explanation
     Ok(Explanation::Writes(writes))
 }
 
-/// Which writes the notification stands for that is put at a place of a journal: those of its lane that were posted before it, and after
-/// the last purge of their queue. The whole journal is judged first, as by `check`. A place behind its end is that of no notification,
-/// and so is that of a take, of a put that failed, and of the put of a write, of a read or of the notification of a read. (GASPI:
-/// notification order, queue_purge)
+/// Which writes are covered by the notification that is put at a place of a journal: those of its lane that were posted before
+/// it, and not purged since. First the whole journal is checked, as by `check`. A place where no notification is put has no
+/// such writes: it may be behind the end, or have a take, a put that failed, or the put of a write, of a read or of the
+/// notification of a read. (GASPI: notification order, queue_purge)
 pub fn why(
     alloc: Global,
     shape: &Shape,

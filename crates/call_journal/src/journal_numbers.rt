@@ -1,4 +1,4 @@
-//! The numbers that are told of a journal.
+//! The bench numbers of a journal.
 
 ghost use Rattle.std.specs.Prelude.{◌≡◌, ◌+◌, ◌%◌, ◌^◌, ◌<◌, ◌≤◌, IfOk, IfErr, [], ◌∷◌, count_by};
 ghost use Rattle.call_journal.specs.Numbers.{AreNumbers, IsIllegal, is_call, is_found_reset, is_set_value, is_transfer, words_until};
@@ -9,7 +9,7 @@ use gaspi_types::{Call, Event, NoMemory, RankId, Reply, Shape};
 use plain_machine::Machine;
 use std::alloc::Global;
 
-/// What is told of a journal.
+/// The bench numbers of a journal.
 #[derive(Clone, Copy, Debug, PartialEq, Eq)]
 pub struct Numbers4 {
     /// Recorded calls, ends included.
@@ -18,12 +18,13 @@ pub struct Numbers4 {
     pub transfers: u64,
     /// Resets that found their notification set. (GASPI: notify_reset)
     pub notifications: u64,
-    /// The words at offset 8 of segment 0 of all ranks after the journal, added modulo 2^64. A rank without one adds nothing.
+    /// The memory words at offset 8 of segment 0 of all ranks after the journal, added modulo 2^64. A rank without one adds
+    /// nothing.
     pub sum: u64,
 }
 
 impl Numbers4 {
-    /// Counts an event.
+    /// Counts an event; `sum` stays. No count may be so high that it wraps.
     fn count(&mut self, event: &Event)
         requires calls { self.old.calls + 1 < 2 ^ 64 }
         requires transfers { self.old.transfers + 1 < 2 ^ 64 }
@@ -63,7 +64,7 @@ fn is_found_reset(event: &Event) -> bool
     }
 }
 
-/// The words at offset 8 of segment 0 of the first ranks, added modulo 2^64. A rank without one adds nothing.
+/// The memory words at offset 8 of segment 0 of the first `ranks` ranks, added modulo 2^64. A rank without one adds nothing.
 fn sum_of_words(machine: &Machine, ranks: u32) -> u64
     requires { ranks ≤ 16 }
     ensures { result ≡ words_until machine.now ranks % 2 ^ 64 }
@@ -76,8 +77,8 @@ fn sum_of_words(machine: &Machine, ranks: u32) -> u64
     sum
 }
 
-/// The numbers of a journal, which is replayed from the opening state of a world. It is illegal exactly where an event is no step, for
-/// the cause of the first such event.
+/// The bench numbers of a journal, of which each event is made on a machine in memory. The error is the cause of the first
+/// event that is no step, or `NoMemory`.
 pub fn bench_numbers(alloc: Global, shape: &Shape, journal: &Journal) -> Result<Numbers4, StepFault>
     ensures numbers { IfOk result (λ n. AreNumbers shape.now journal.now n) }
     ensures illegal { IfErr result (λ fault. IsIllegal shape.now journal.now fault) }

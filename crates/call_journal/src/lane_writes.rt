@@ -1,4 +1,7 @@
-//! The writes of a lane, as the events of a journal tell them.
+//! The writes of one lane, that of the put `at`, as the events of a journal show them: each is posted, put, or purged. For
+//! `why`.
+//!
+//! `at` is the put of an entry: its lane is the one that is followed. What a list has after `NoMemory` is not said.
 
 ghost use Rattle.std.specs.Prelude.{◌≡◌, ℕ, ◌+◌, ◌*◌, ◌^◌, ◌<◌, ◌≤◌, ◌||◌, ◌++◌, [], true, length, if◌then◌else◌, IfOk, OnOk, Some};
 ghost use Rattle.gaspi_model.specs.Order.{is_purge_of};
@@ -13,7 +16,7 @@ use gaspi_texts::Journal;
 use gaspi_types::{Call, Event, NoMemory, Outcome, Posting, QueueId, RankId, Reply, Sequence};
 use std::alloc::Global;
 
-/// The put of an entry: its lane and its number.
+/// A put: the lane and the number of its entry.
 #[derive(Clone, Copy, Debug, PartialEq, Eq)]
 pub struct EntryPut {
     pub origin: RankId,
@@ -22,8 +25,8 @@ pub struct EntryPut {
     pub number: u32,
 }
 
-/// What a call posted that is done: how many entries, to which lane, how many of them are writes, which come first, and whether a
-/// notification is the last.
+/// What a post that is done has posted: how many entries to which lane, how many of them are writes, which come first, and
+/// whether the last is a notification.
 #[derive(Clone, Copy, Debug, PartialEq, Eq)]
 pub struct Post {
     pub posting: Posting,
@@ -31,7 +34,8 @@ pub struct Post {
     pub notified: bool,
 }
 
-/// A write: the place of the call that posted it, its number, and the place of its put, where it is put.
+/// A write of the lane: the place of the call that posted it, its number, and the place of its put, or None where it is not
+/// put.
 #[derive(Clone, Copy, Debug, PartialEq, Eq)]
 pub struct LaneWrite {
     pub post: u64,
@@ -39,7 +43,7 @@ pub struct LaneWrite {
     pub put: Option<u64>,
 }
 
-/// How many writes a call posts that is done.
+/// How many writes a call posts when it is done; they come first.
 fn writes_in(call: &Call) -> u32
     ensures value { result ≡ writes_in call.now }
     ensures few { result ≤ entries_of call.now }
@@ -52,7 +56,7 @@ fn writes_in(call: &Call) -> u32
     }
 }
 
-/// Whether a call posts a notification.
+/// Whether the last entry that a call posts is a notification.
 fn posts_notification(call: &Call) -> bool
     ensures { result ≡ posts_notification call.now }
 {
@@ -62,7 +66,7 @@ fn posts_notification(call: &Call) -> bool
     )
 }
 
-/// What a caller of a rank posted by an event, where it did.
+/// What an event has posted; None where it is no post of a caller of that origin that is done.
 fn post_of(event: &Event, origin: RankId) -> Option<Post>
     ensures { result ≡ post_of origin event.now }
 {
@@ -79,7 +83,7 @@ fn post_of(event: &Event, origin: RankId) -> Option<Post>
     }
 }
 
-/// Whether a post goes to the lane of an entry.
+/// Whether a post of the lane's origin is to the lane.
 fn goes_to(at: &EntryPut, post: &Post) -> bool
     ensures { result ≡ goes_to at.now post.now }
 {
@@ -87,7 +91,7 @@ fn goes_to(at: &EntryPut, post: &Post) -> bool
         && post.posting.queue == u64::from(at.queue.number())
 }
 
-/// How many entries were posted.
+/// How many entries were posted; 0 where there is no post.
 fn entries_in(post: Option<Post>) -> u32
     ensures { result ≡ entries_in post }
 {
@@ -97,7 +101,7 @@ fn entries_in(post: Option<Post>) -> u32
     }
 }
 
-/// How many writes were posted to the lane of an entry.
+/// How many writes were posted to the lane.
 fn writes_to(at: &EntryPut, post: Option<Post>) -> u32
     ensures { result ≡ writes_to at.now post }
 {
@@ -107,7 +111,8 @@ fn writes_to(at: &EntryPut, post: Option<Post>) -> u32
     }
 }
 
-/// Whether an entry itself was posted, as the notification of a post, where the first of the post had that number.
+/// Whether the post has posted the entry of `at` itself, as its notification. `next` is the number of the first entry of the
+/// post.
 fn is_notification_of(at: &EntryPut, next: u32, post: Option<Post>) -> bool
     ensures { result ≡ is_notification_of at.now next post }
 {
@@ -120,7 +125,7 @@ fn is_notification_of(at: &EntryPut, next: u32, post: Option<Post>) -> bool
     }
 }
 
-/// The entry that an event has put, where it has put one.
+/// The put of an event, or None where the event is no put that is applied.
 fn put_of(event: &Event) -> Option<EntryPut>
     ensures { result ≡ put_of event.now }
 {
@@ -135,7 +140,7 @@ fn put_of(event: &Event) -> Option<EntryPut>
     }
 }
 
-/// The entry that the event at a place of a journal has put, where it has put one.
+/// The put at a place of a journal, or None where no put that is applied is there.
 pub fn put_at(journal: &Journal, place: u64) -> Option<EntryPut>
     ensures { result ≡ put_at journal.now place }
 {
@@ -145,7 +150,7 @@ pub fn put_at(journal: &Journal, place: u64) -> Option<EntryPut>
     }
 }
 
-/// The number of the entry of that lane that an event has put, where it has put one.
+/// The number of the entry that an event puts, or None where the event is no put of the lane that is applied.
 fn put_in(at: &EntryPut, event: &Event) -> Option<u32>
     ensures { result ≡ put_in at.now event.now }
 {
@@ -158,7 +163,7 @@ fn put_in(at: &EntryPut, event: &Event) -> Option<u32>
     }
 }
 
-/// Whether an event is a purge of the queue of that lane that was done.
+/// Whether an event is a purge of the lane's queue that is done.
 fn is_purge(at: &EntryPut, event: &Event) -> bool
     ensures { result ≡ is_purge_of at.now.origin at.now.queue event.now }
 {
@@ -170,7 +175,8 @@ fn is_purge(at: &EntryPut, event: &Event) -> bool
     }
 }
 
-/// Tells of the write with a number that it is put at a place.
+/// Sets the place of the put of the write with a number, where there is such a write. The numbers of the writes have to rise,
+/// since they are searched.
 fn mark(writes: &mut Vec<LaneWrite>, number: u32, place: u64)
     requires { (next : ℕ) × Rise 0 writes.old.items next }
     ensures { writes.new.items ≡ with_put (Some number) place writes.old.items }
@@ -180,8 +186,8 @@ fn mark(writes: &mut Vec<LaneWrite>, number: u32, place: u64)
     }
 }
 
-/// Leaves of the writes of a lane what an event at a place leaves: none after a purge of the queue, and else all, with the place where
-/// it has put one of them.
+/// Changes the writes of the lane by the event at a place, but for those that it posts: a purge removes all, and a put sets the
+/// place of its write's put.
 fn keep(writes: &mut Vec<LaneWrite>, at: &EntryPut, place: u64, event: &Event)
     requires { (next : ℕ) × Rise 0 writes.old.items next }
     ensures { writes.new.items ≡ (if is_purge_of at.now.origin at.now.queue event.now then [] else with_put (put_in at.now event.now) place writes.old.items) }
@@ -195,7 +201,7 @@ fn keep(writes: &mut Vec<LaneWrite>, at: &EntryPut, place: u64, event: &Event)
     }
 }
 
-/// Adds so many writes of a post, numbered on from a number.
+/// Adds the `count` writes of a post at a place, with numbers one after another from `first` on.
 fn add(writes: &mut Vec<LaneWrite>, place: u64, first: u32, count: u32) -> Result<(), NoMemory>
     requires { first + count < 2 ^ 32 }
     ensures { OnOk result (writes.new.items ≡ writes.old.items ++ new_writes place first count) }
@@ -210,19 +216,20 @@ fn add(writes: &mut Vec<LaneWrite>, place: u64, first: u32, count: u32) -> Resul
     Ok(())
 }
 
-/// What the events of a journal up to a place tell of the lane of an entry.
+/// What the events of a journal before some place show of the lane.
 #[derive(Debug, Drop)]
 pub struct LaneWrites {
     /// The number of the next entry of its origin.
     pub next: u32,
-    /// Whether the entry itself was posted as a notification.
+    /// Whether the entry of `at` itself was posted, as a notification.
     pub notified: bool,
     /// The writes that were posted since the last purge of its queue, by rising number.
     pub writes: Vec<LaneWrite>,
 }
 
 impl LaneWrites {
-    /// Takes the event at a place in.
+    /// Changes the three fields by the event at a place. The next number has to be small (`few`), and the numbers of the writes
+    /// rise (`rise`).
     fn track(&mut self, at: &EntryPut, place: u64, event: &Event) -> Result<(), NoMemory>
         requires few { self.old.next ≤ 2 ^ 30 }
         requires rise { Rise 0 self.old.writes.items self.old.next }
@@ -239,7 +246,8 @@ impl LaneWrites {
     }
 }
 
-/// What the events before a place of a journal tell of the lane of an entry.
+/// What the events before a place of a journal show of the lane. The journal has to be as short as a legal one, so that no
+/// number is too large.
 pub fn lane_writes(
     alloc: Global,
     journal: &Journal,
@@ -263,7 +271,7 @@ pub fn lane_writes(
     Ok(found)
 }
 
-/// The writes with a smaller number that are put.
+/// Those of the writes that are put and have a number below `number`, as covered writes.
 pub fn arrived(
     alloc: Global,
     writes: &[LaneWrite],

@@ -1,5 +1,5 @@
-//! Journals judged and counted: whether a journal is legal, and else which event is the first that is no step; which writes a notification
-//! stands for; how many calls, transfers and notifications it records; and what each caller was told, line by line.
+//! What is found in journals: whether one is legal, and else which event is the first that is no step; which writes a
+//! notification covers; the bench numbers and their laws; and the transcripts.
 #![tactic(auto)]
 
 mod answers;

@@ -1,4 +1,5 @@
-//! The calls of each caller in a history, found in one pass.
+//! The calls of each caller in a history, found for all callers at once, for transcripts. What a table has after `NoMemory` is
+//! not said.
 
 ghost use Rattle.std.specs.Prelude.{◌≡◌, ◌++◌, ◌∷◌, [], List, replicate, OnOk, IfOk};
 ghost use Rattle.gaspi_types.specs.Tables.{changed_at};
@@ -15,10 +16,10 @@ pub struct RecordedCall<'a> {
     pub reply: &'a Reply,
 }
 
-/// The calls of each caller, by rank and thread.
+/// The recorded calls of each caller, by rank and thread, each list in the order of the history.
 pub type RecordedCalls<'a> = Sequence<Sequence<Sequence<RecordedCall<'a>>>>;
 
-/// No call of any thread of a rank.
+/// An empty list for each of four threads of a rank.
 fn empty_row<'a>(alloc: Global) -> Result<Sequence<Sequence<RecordedCall<'a>>>, NoMemory>
     ensures { IfOk result (λ row. row ≡ replicate 4 []) }
 {
@@ -29,7 +30,7 @@ fn empty_row<'a>(alloc: Global) -> Result<Sequence<Sequence<RecordedCall<'a>>>, 
     Ok(row)
 }
 
-/// No call of any caller.
+/// The table without a call, for 16 ranks with four threads each.
 fn empty_table<'a>(alloc: Global) -> Result<RecordedCalls<'a>, NoMemory>
     ensures { IfOk result (λ table. table ≡ replicate 16 (replicate 4 [])) }
 {
@@ -40,7 +41,7 @@ fn empty_table<'a>(alloc: Global) -> Result<RecordedCalls<'a>, NoMemory>
     Ok(table)
 }
 
-/// Adds a call to those of its caller.
+/// Adds a call behind the others of its caller. The table has to have a list for each caller.
 fn add_call<'a>(
     table: &mut RecordedCalls<'a>,
     caller: CallerId,
@@ -54,7 +55,7 @@ fn add_call<'a>(
     calls.push(own)
 }
 
-/// The calls of all callers in a history.
+/// The recorded calls of all callers in a history.
 pub fn own_calls<'a>(alloc: Global, history: &'a [Event]) -> Result<RecordedCalls<'a>, NoMemory>
     ensures { IfOk result (λ table. IsCallTable table history.now) }
 {

@@ -1,4 +1,5 @@
-//! Transcripts: what each caller was told, line by line, and how its run ended.
+//! Transcripts: the replies of each caller, with the line of its script that made each call, and how its run ended. What the
+//! text of a private function has after `NoMemory` is not said.
 
 ghost use Rattle.std.specs.Prelude.{◌≡◌, ◌<◌, ◌++◌, ◌||◌, [], List, OnOk, OnErr, codes, is_some};
 ghost use Rattle.std.specs.Fmt.{decimal};
@@ -14,7 +15,7 @@ use gaspi_texts::{Journal, write_number, write_reply};
 use gaspi_types::{Bytes, Call, CallerId, NoMemory, RankId, Reply, Shape, ThreadId};
 use rank_script::{Cursor, RunOutcome, Script, Scripts};
 
-/// Adds a caller as its rank and thread.
+/// Adds a caller: its rank, a dot, and its thread.
 fn write_caller(text: &mut Bytes, caller: CallerId) -> Result<(), NoMemory>
     ensures { OnOk result (text.new ≡ text.old ++ caller_word caller) }
 {
@@ -23,7 +24,7 @@ fn write_caller(text: &mut Bytes, caller: CallerId) -> Result<(), NoMemory>
     write_number(text, u64::from(caller.thread.number()))
 }
 
-/// Adds the line of a recorded call.
+/// Adds the line of a recorded call: its caller, the line of the script, and the reply.
 fn write_call(text: &mut Bytes, caller: CallerId, line: u64, reply: &Reply) -> Result<(), NoMemory>
     ensures { OnOk result (text.new ≡ text.old ++ call_line caller line reply.now) }
 {
@@ -43,7 +44,7 @@ fn write_ended(text: &mut Bytes, caller: CallerId) -> Result<(), NoMemory>
     text.append(b" ended\n")
 }
 
-/// Adds the line of a run that came to another end at a line, with the word of that end.
+/// Adds the line of a run with another outcome, with the word of that outcome and the line of the script.
 fn write_at_line(text: &mut Bytes, caller: CallerId, word: &[u8], line: u64) -> Result<(), NoMemory>
     ensures { OnOk result (text.new ≡ text.old ++ (caller_word caller ++ (word.now ++ (decimal line ++ codes "\n")))) }
 {
@@ -53,7 +54,7 @@ fn write_at_line(text: &mut Bytes, caller: CallerId, word: &[u8], line: u64) -> 
     text.append(b"\n")
 }
 
-/// Adds the line of how a run ended.
+/// Adds the line of the outcome of a run. A run that is out of memory has the word of one at the event limit.
 fn write_outcome(text: &mut Bytes, caller: CallerId, outcome: RunOutcome) -> Result<(), NoMemory>
     ensures { OnOk result (text.new ≡ text.old ++ outcome_line caller outcome) }
 {
@@ -67,7 +68,7 @@ fn write_outcome(text: &mut Bytes, caller: CallerId, outcome: RunOutcome) -> Res
     }
 }
 
-/// Adds the line of how a run ended: where it goes on, it came to the event limit at its present line.
+/// Adds the line of the outcome of a run. One that has not ended came to the event limit at its present line.
 fn write_ending(text: &mut Bytes, caller: CallerId, cursor: &Cursor<'_>) -> Result<(), NoMemory>
     ensures { OnOk result (text.new ≡ text.old ++ transcript caller cursor.now []) }
 {
@@ -83,14 +84,14 @@ fn is_end(call: &Call) -> bool
     call.row().ends
 }
 
-/// Whether a run makes no more calls: it is over, or its caller ends.
+/// Whether a run makes no more calls: it has ended, or the next call is the end of its caller.
 fn is_over(cursor: &Cursor<'_>, call: &Call) -> bool
     ensures { result ≡ (is_some (outcome_of cursor.now) || is_end call.now) }
 {
     cursor.outcome().is_some() || is_end(call)
 }
 
-/// Adds the transcript of one caller, from its own calls.
+/// Adds the transcript of a caller, of which `calls` are the recorded calls.
 fn write_transcript(
     text: &mut Bytes,
     script: &Script,
@@ -109,7 +110,7 @@ fn write_transcript(
     write_ending(text, script.caller, &cursor)
 }
 
-/// Adds the transcript of a caller that has a script.
+/// Adds the transcript of a caller, where it has a script. The table has to have its calls.
 fn write_thread(
     text: &mut Bytes,
     caller: CallerId,
@@ -127,7 +128,7 @@ fn write_thread(
     write_transcript(text, script, calls.as_slice())
 }
 
-/// Adds the transcripts of a rank's callers, by thread.
+/// Adds the transcripts of the callers of a rank, by thread.
 fn write_rank(
     text: &mut Bytes,
     rank: u32,
@@ -165,8 +166,7 @@ fn append_transcripts(
     Ok(())
 }
 
-/// Adds the transcripts of all callers of a world, by rank and thread: what each was told, line by line, and how its run
-/// ended. Without memory nothing changes.
+/// Adds the transcripts of all callers of a world, by rank and thread. After `NoMemory` nothing has changed.
 pub fn write_transcripts(
     text: &mut Bytes,
     shape: &Shape,

@@ -1,4 +1,4 @@
-//! Journals judged.
+//! Whether a journal is legal: the command `check`.
 
 ghost use Rattle.std.specs.Prelude.{◌≡◌, IfOk};
 ghost use Rattle.gaspi_model.specs.ContributionCounts.{ContributesOnce};
@@ -12,16 +12,16 @@ use gaspi_types::{NoMemory, Shape};
 use plain_machine::Machine;
 use std::alloc::Global;
 
-/// Whether a journal is legal.
+/// The verdict on a journal.
 #[derive(Clone, Copy, Debug, PartialEq, Eq)]
 pub enum Verdict {
-    /// Each of its events is a step.
+    /// The journal is legal: each of its events is a step.
     Legal,
     /// The event at that place, from 0, is the first that is no step, for that cause.
     Illegal { place: u64, why: Why },
 }
 
-/// Replays a journal from the opening state of a world.
+/// The verdict on a journal, of which each event is made on a machine in memory, from the opening state on.
 fn replay(alloc: Global, shape: &Shape, journal: &Journal) -> Result<Verdict, NoMemory>
     ensures { IfOk result (λ verdict. IsVerdict shape.now journal.now verdict) }
 {
@@ -39,8 +39,8 @@ fn replay(alloc: Global, shape: &Shape, journal: &Journal) -> Result<Verdict, No
     Ok(Verdict::Legal)
 }
 
-/// Whether a journal is legal. In a legal one no notification value is handed out twice, and no rank has given to a group twice. (GASPI:
-/// notifications, collectives)
+/// The verdict on a journal. In a legal one no notification value is handed out twice, and no contribution counts twice.
+/// (GASPI: notifications, collectives)
 pub fn check(alloc: Global, shape: &Shape, journal: &Journal) -> Result<Verdict, NoMemory>
     ensures verdict { IfOk result (λ verdict. IsVerdict shape.now journal.now verdict) }
     ensures handed { IfOk result (λ verdict. verdict ≡ Legal → HandsOutOnce shape.now journal.now) }

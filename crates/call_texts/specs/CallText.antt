@@ -1,4 +1,4 @@
--- The texts of calls.
+-- The texts of calls: a call's word and the fields of its form, read and written.
 use Rattle.std.specs.Prelude.{ℕ, ◌+◌, Bool, true, false, List, [], ◌∷◌, length, Option, Some, None, find, filter, ◌==◌, if◌then◌else◌, codes}
 use Rattle.std.specs.List.{join_with_byte}
 use Rattle.std.specs.Str.{bytes_eq}
@@ -87,9 +87,11 @@ word_row Create = record { spelling = codes "create"; form = Number ∷ Number �
 -- nothing
 word_row State = record { spelling = codes "state"; form = [] }
 
+-- the spelling of a call's word
 abbrev pub spelling_of : CallWord → List ℕ
 spelling_of word = (word_row word).spelling
 
+-- the form of a call's word
 abbrev pub form_of : CallWord → List Field
 form_of word = (word_row word).form
 
@@ -98,19 +100,19 @@ abbrev pub call_words : List CallWord
 call_words =
     Alloc ∷ Register ∷ Delete ∷ Store ∷ Load ∷ Write ∷ Read ∷ Notify ∷ WriteNotify ∷ ReadNotify ∷ WriteList ∷ WriteListNotify ∷ ReadList ∷ ReadListNotify ∷ Wait ∷ Purge ∷ Qsize ∷ Waitsome ∷ Reset ∷ PassiveSend ∷ PassiveReceive ∷ FetchAdd ∷ CompareSwap ∷ GroupCreate ∷ GroupAdd ∷ GroupDelete ∷ Commit ∷ Barrier ∷ Allreduce ∷ Create ∷ State ∷ []
 
--- those whose spelling has so many bytes
+-- the words whose spelling has that many bytes
 unfoldable pub words_of_length : ℕ → List CallWord
 words_of_length count = filter (λ call. length (spelling_of call) == count) call_words
 
--- the call's word that is spelled so
+-- the call's word with a spelling
 unfoldable pub call_word_of : List ℕ → Option CallWord
 call_word_of word = find (λ call. bytes_eq (spelling_of call) word) call_words
 
--- how many of the words behind it are its arguments; none where the number of items or elements is not of the form of a number
+-- how many of the words behind it spell its fields; none where the number of items or elements is not of the form of a number
 abbrev pub arguments_of : CallWord → List (List ℕ) → Option ℕ
 arguments_of word words = form_words (form_of word) words
 
--- whether a timeout belongs to the call (GASPI: timeouts)
+-- whether its call takes a timeout (GASPI: timeouts)
 abbrev pub has_timeout : CallWord → Bool
 has_timeout Wait = true
 has_timeout Waitsome = true
@@ -122,7 +124,7 @@ has_timeout Allreduce = true
 has_timeout Create = true
 has_timeout word = false
 
--- whether items or elements are among its fields
+-- whether its form has items or elements
 abbrev pub takes_items : CallWord → Bool
 takes_items WriteList = true
 takes_items WriteListNotify = true
@@ -131,13 +133,13 @@ takes_items ReadListNotify = true
 takes_items Allreduce = true
 takes_items word = false
 
--- how many words stand behind it: its arguments, and a timeout where one belongs to the call
+-- how many words follow it: those of its fields, and one for a timeout where its call takes one
 abbrev pub given_count : CallWord → List (List ℕ) → Option ℕ
 given_count word words = do
   arguments ← arguments_of word words
   Some (arguments + (if has_timeout word then 1 else 0))
 
--- whether the call's text holds a list, which takes memory as it is read
+-- whether its form has bytes, items or elements, which take memory as they are read
 abbrev pub holds_list : CallWord → Bool
 holds_list word = has_list (form_of word)
 
@@ -148,7 +150,7 @@ pub record Spelled : Type 0 where
   pub word : CallWord
   pub fields : Fields (form_of word)
 
--- what spells a call; the end of a caller has a word of its own, which no script has
+-- the word and the fields of a call; the end of a caller has a word of its own, which no script has
 abbrev pub spelled : Call → Option Spelled
 spelled (calls.Alloc call) = Some (record { word = Alloc; fields = (call.seg, (call.size, tt)) })
 spelled (calls.Register call) = Some (record { word = Register; fields = (call.seg, (call.rank, tt)) })
@@ -245,13 +247,13 @@ call_taken word words = do
 abbrev pub with_nothing_left : {A : Type 0} → A × List (List ℕ) → Option A
 with_nothing_left taken = if length taken.1 == 0 then Some taken.0 else None
 
--- the call of a word whose arguments these words are, exactly
+-- the call of a word whose fields these words spell, exactly
 abbrev pub call_by : CallWord → List (List ℕ) → Option Call
 call_by word arguments = do
   taken ← call_taken word arguments
   with_nothing_left taken
 
--- the call that words spell: a call's word and exactly its arguments, without a timeout
+-- the call that words spell: a call's word and exactly its fields, without a timeout
 unfoldable pub call_of : List (List ℕ) → Option Call
 call_of [] = None
 call_of (first ∷ arguments) = do
@@ -282,7 +284,7 @@ call_of_text text = recorded_call_of (words_of text)
 
 -- Writing.
 
--- the words of what spells a call, in the one form that is written
+-- the words of a call's word and its fields, in the one form that is written
 abbrev pub words_of_spelled : Option Spelled → List (List ℕ)
 words_of_spelled None = end_word ∷ []
 words_of_spelled (Some s) = spelling_of s.word ∷ words_of_fields (form_of s.word) s.fields

@@ -1,4 +1,4 @@
--- The words for types and operations, and numbers of a type as words of a text. (own choice)
+-- The words of types and operations, and numbers of a type as words of a text. (own choice)
 use Rattle.std.specs.Prelude.{ℕ, ℤ, pos, neg_ℤ, ◌==◌, List, [], ◌∷◌, Option, Some, None, find, if◌then◌else◌, codes}
 use Rattle.std.specs.Option.{option_map}
 use Rattle.std.specs.Str.{bytes_eq}
@@ -10,8 +10,9 @@ use Rattle.gaspi_types.specs.declared.collectives.Op.TheVariants.{Min, Max, Sum}
 use Rattle.call_texts.specs.Numbers.{number_of}
 use Rattle.call_texts.specs.Steps.{◌>>=◌}
 
--- Words that stand for types and operations.
+-- The words of types and operations.
 
+-- the word of a type
 abbrev pub type_word : NumType → List ℕ
 type_word Int = codes "INT"
 type_word Uint = codes "UINT"
@@ -20,16 +21,19 @@ type_word Ulong = codes "ULONG"
 type_word Float = codes "FLOAT"
 type_word Double = codes "DOUBLE"
 
+-- the word of an operation
 abbrev pub op_word : Op → List ℕ
 op_word Min = codes "MIN"
 op_word Max = codes "MAX"
 op_word Sum = codes "SUM"
 
--- the type or operation that a word stands for
+-- the type or operation with a word
 
+-- the type with a word
 unfoldable pub type_of : List ℕ → Option NumType
 type_of word = find (λ t. bytes_eq (type_word t) word) (Int ∷ Uint ∷ Long ∷ Ulong ∷ Float ∷ Double ∷ [])
 
+-- the operation with a word
 unfoldable pub op_of : List ℕ → Option Op
 op_of word = find (λ op. bytes_eq (op_word op) word) (Min ∷ Max ∷ Sum ∷ [])
 

@@ -47,7 +47,7 @@ abbrev pub words_of_item : Item → List (List ℕ)
 words_of_item item =
     decimal item.seg ∷ decimal item.offset ∷ decimal item.rseg ∷ decimal item.roffset ∷ decimal item.size ∷ []
 
--- a field's words in the one form that is written; items stand behind their number, and so do elements, behind their type
+-- a field's words in the one form that is written; items are behind their number, and so are elements, behind their type
 abbrev pub words_of_field : (field : Field) → FieldValue field → List (List ℕ)
 words_of_field Number n = decimal n ∷ []
 words_of_field Value n = decimal n ∷ []
@@ -74,7 +74,7 @@ item_spelled words = do
   size ← first_spells number_of roffset.1
   Some (record { seg = seg.0; offset = offset.0; rseg = rseg.0; roffset = roffset.0; size = size.0 }, size.1)
 
--- so many items that the words in front spell, one after the other, and the words behind them
+-- the items, as many as a number says, that the words in front spell, one after the other, and the words behind them
 abbrev pub items_spelled : ℕ → List (List ℕ) → Option (List Item × List (List ℕ))
 items_spelled zero words = Some ([], words)
 items_spelled (suc count) words = do
@@ -82,11 +82,11 @@ items_spelled (suc count) words = do
   others ← items_spelled count first.1
   Some (first.0 ∷ others.0, others.1)
 
--- so many words in front, where there are as many, and the words behind them
+-- the first words, as many as a number says, where there are as many, and the words behind them
 abbrev pub words_split : ℕ → List (List ℕ) → Option (List (List ℕ) × List (List ℕ))
 words_split count words = if nat_le count (length words) then Some (take count words, drop count words) else None
 
--- a type, the number of elements, and so many elements of the type that the words in front spell, and the words behind them
+-- a type and its elements, as many as their number says, that the words in front spell, and the words behind them
 abbrev pub elements_spelled : List (List ℕ) → Option (TypedNumbers × List (List ℕ))
 elements_spelled words = do
   num_type ← first_spells type_of words
@@ -106,14 +106,14 @@ field_spelled Items words = do
 field_spelled Operation words = first_spells op_of words
 field_spelled Elements words = elements_spelled words
 
--- whether it is a list, which takes memory as it is read
+-- whether a field is bytes, items or elements, which take memory as they are read
 abbrev pub is_list : Field → Bool
 is_list Bytes = true
 is_list Items = true
 is_list Elements = true
 is_list field = false
 
--- how many of the words in front a field takes; none where the number of its items or elements is not of the form of a number
+-- how many of the words in front belong to a field; none where the number of its items or elements is not of the form of a number
 abbrev pub field_words : Field → List (List ℕ) → Option ℕ
 field_words Items (word ∷ words) = do
   count ← number_of word
@@ -131,10 +131,12 @@ abbrev pub Fields : List Field → Type 0
 Fields [] = Unit {0}
 Fields (field ∷ form) = FieldValue field × Fields form
 
+-- the values of a form's fields are in the ranges of their types
 abbrev pub AreInRange : (form : List Field) → Fields form → Type 0
 AreInRange [] fields = Unit {0}
 AreInRange (field ∷ form) fields = IsInRange field fields.0 × AreInRange form fields.1
 
+-- the words of a form's fields, in the one form that is written
 abbrev pub words_of_fields : (form : List Field) → Fields form → List (List ℕ)
 words_of_fields [] fields = []
 words_of_fields (field ∷ form) fields = words_of_field field fields.0 ++ words_of_fields form fields.1
@@ -147,11 +149,12 @@ fields_spelled (field ∷ form) words = do
   others ← fields_spelled form first.1
   Some ((first.0, others.0), others.1)
 
+-- whether a form has bytes, items or elements
 abbrev pub has_list : List Field → Bool
 has_list [] = false
 has_list (field ∷ form) = is_list field || has_list form
 
--- how many of the words in front a form takes, one field after the other
+-- how many of the words in front belong to a form, one field after the other
 abbrev pub form_words : List Field → List (List ℕ) → Option ℕ
 form_words [] words = Some 0
 form_words (field ∷ form) words = do

@@ -1,4 +1,4 @@
--- Words behind a text: how texts are put together. (own choice)
+-- Words added behind a text. (own choice)
 use Rattle.std.specs.Prelude.{ℕ, ℤ, List, ◌∷◌}
 use Rattle.std.specs.List.{flat_map}
 use Rattle.std.specs.Fmt.{decimal, signed_decimal}

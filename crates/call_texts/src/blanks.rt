@@ -1,4 +1,5 @@
-//! The words of a text.
+//! The words of a text, which blanks separate: spaces and tabs. A piece is what is between two blanks; it may be empty, and is
+//! a word where it is not.
 
 ghost use Rattle.std.specs.Prelude.{◌≡◌, ◌<◌, ◌++◌, length, map, position, IfOk, IfSome, MatchOption, OnOk};
 ghost use Rattle.call_texts.specs.Words.{is_blank, words_of, words_in_piece};
@@ -6,24 +7,24 @@ ghost use Rattle.call_texts.specs.Words.{is_blank, words_of, words_in_piece};
 use gaspi_types::NoMemory;
 use std::alloc::Global;
 
-/// Whether a byte stands between words: a space or a tab.
+/// Whether a byte is a blank: a space or a tab.
 fn is_blank(byte: u8) -> bool
     ensures { result ≡ is_blank byte }
 {
     byte == b' ' || byte == b'\t'
 }
 
-/// The place of the first blank.
+/// The index of the first blank, or None where there is no blank.
 fn blank_in(text: &[u8]) -> Option<usize>
     ensures place { result ≡ position is_blank text.now }
     ensures bound { IfSome result (λ place. place < length text.now) }
 {
-    // Most bytes are past the space, which one comparison tells.
+    // Most bytes are over the space, so that the first comparison decides.
     text.iter()
         .position(|byte| *byte <= b' ' && is_blank(*byte))
 }
 
-/// What stands before the first blank of a text, and the text behind that blank; none where there is no blank.
+/// The piece before the first blank of a text, and the text behind that blank; None where there is no blank.
 fn first_piece(text: &[u8]) -> Option<(&[u8], &[u8])>
     ensures words { MatchOption result (words_of text.now ≡ words_in_piece text.now)
         (λ parts. words_of text.now ≡ words_in_piece parts.0.now ++ words_of parts.1.now) }
@@ -33,7 +34,7 @@ fn first_piece(text: &[u8]) -> Option<(&[u8], &[u8])>
     Some((&text[..end], &text[end + 1..]))
 }
 
-/// Adds what stands between two blanks to the words: a word, where anything stands there.
+/// Adds a piece to the words, unless it is empty. After `NoMemory` what the list holds is not said.
 fn push_piece<'a>(list: &mut Vec<&'a [u8]>, piece: &'a [u8]) -> Result<(), NoMemory>
     ensures { OnOk result (map (λ word. word.now) list.new.items ≡ map (λ word. word.now) list.old.items ++ words_in_piece piece.now) }
 {
@@ -43,8 +44,8 @@ fn push_piece<'a>(list: &mut Vec<&'a [u8]>, piece: &'a [u8]) -> Result<(), NoMem
     Ok(())
 }
 
-/// Puts the words of a text into a list, in their order and in place of what it held: the longest runs of bytes other
-/// than spaces and tabs. What the list holds without memory is not said.
+/// Puts the words of a text into a list, in their order and in place of what it held: the longest runs of bytes other than
+/// spaces and tabs. After `NoMemory` what the list holds is not said.
 pub fn set_words<'a>(list: &mut Vec<&'a [u8]>, text: &'a [u8]) -> Result<(), NoMemory>
     ensures { OnOk result (map (λ word. word.now) list.new.items ≡ words_of text.now) }
 {

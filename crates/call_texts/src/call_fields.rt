@@ -1,4 +1,8 @@
-//! Calls put together from the fields that words spell.
+//! The calls with fields, each made of the fields of its form, for `call_reading.rt`.
+//!
+//! `read_X_call` reads the fields of the call X from the words in front, in the order of its form, and removes these words. It
+//! answers None where a word does not spell its field; then, and after `NoMemory`, what words remain is not said. Only the
+//! calls with bytes, items or elements take memory.
 #![tactic(auto, unfolding(crate::specs::CallText::call_taken))]
 
 ghost use Rattle.std.specs.Prelude.{◌≡◌, IfOk};
@@ -16,6 +20,7 @@ use gaspi_types::{
 };
 use std::alloc::Global;
 
+/// Reads a call `alloc` from the words in front.
 pub(crate) fn read_alloc_call(fields: &mut FieldWords) -> Option<Call>
     ensures { option_map (λ call. (call, words_in fields.new)) result ≡ call_taken call_words.Alloc (words_in fields.old) }
 {
@@ -25,6 +30,7 @@ pub(crate) fn read_alloc_call(fields: &mut FieldWords) -> Option<Call>
     }))
 }
 
+/// Reads a call `register` from the words in front.
 pub(crate) fn read_register_call(fields: &mut FieldWords) -> Option<Call>
     ensures { option_map (λ call. (call, words_in fields.new)) result ≡ call_taken call_words.Register (words_in fields.old) }
 {
@@ -34,6 +40,7 @@ pub(crate) fn read_register_call(fields: &mut FieldWords) -> Option<Call>
     }))
 }
 
+/// Reads a call `delete` from the words in front.
 pub(crate) fn read_delete_call(fields: &mut FieldWords) -> Option<Call>
     ensures { option_map (λ call. (call, words_in fields.new)) result ≡ call_taken call_words.Delete (words_in fields.old) }
 {
@@ -42,6 +49,7 @@ pub(crate) fn read_delete_call(fields: &mut FieldWords) -> Option<Call>
     }))
 }
 
+/// Reads a call `store` from the words in front, and takes memory for its bytes.
 pub(crate) fn read_store_call(
     alloc: Global,
     fields: &mut FieldWords,
@@ -60,6 +68,7 @@ pub(crate) fn read_store_call(
     Ok(Some(Call::Store(Store { seg, offset, bytes })))
 }
 
+/// Reads a call `load` from the words in front.
 pub(crate) fn read_load_call(fields: &mut FieldWords) -> Option<Call>
     ensures { option_map (λ call. (call, words_in fields.new)) result ≡ call_taken call_words.Load (words_in fields.old) }
 {
@@ -70,6 +79,7 @@ pub(crate) fn read_load_call(fields: &mut FieldWords) -> Option<Call>
     }))
 }
 
+/// Reads a call `write` from the words in front.
 pub(crate) fn read_write_call(fields: &mut FieldWords) -> Option<Call>
     ensures { option_map (λ call. (call, words_in fields.new)) result ≡ call_taken call_words.Write (words_in fields.old) }
 {
@@ -84,6 +94,7 @@ pub(crate) fn read_write_call(fields: &mut FieldWords) -> Option<Call>
     }))
 }
 
+/// Reads a call `read` from the words in front.
 pub(crate) fn read_read_call(fields: &mut FieldWords) -> Option<Call>
     ensures { option_map (λ call. (call, words_in fields.new)) result ≡ call_taken call_words.Read (words_in fields.old) }
 {
@@ -98,6 +109,7 @@ pub(crate) fn read_read_call(fields: &mut FieldWords) -> Option<Call>
     }))
 }
 
+/// Reads a call `notify` from the words in front.
 pub(crate) fn read_notify_call(fields: &mut FieldWords) -> Option<Call>
     ensures { option_map (λ call. (call, words_in fields.new)) result ≡ call_taken call_words.Notify (words_in fields.old) }
 {
@@ -110,6 +122,7 @@ pub(crate) fn read_notify_call(fields: &mut FieldWords) -> Option<Call>
     }))
 }
 
+/// Reads a call `write_notify` from the words in front.
 pub(crate) fn read_write_notify_call(fields: &mut FieldWords) -> Option<Call>
     ensures { option_map (λ call. (call, words_in fields.new)) result ≡ call_taken call_words.WriteNotify (words_in fields.old) }
 {
@@ -126,6 +139,7 @@ pub(crate) fn read_write_notify_call(fields: &mut FieldWords) -> Option<Call>
     }))
 }
 
+/// Reads a call `read_notify` from the words in front.
 pub(crate) fn read_read_notify_call(fields: &mut FieldWords) -> Option<Call>
     ensures { option_map (λ call. (call, words_in fields.new)) result ≡ call_taken call_words.ReadNotify (words_in fields.old) }
 {
@@ -141,6 +155,7 @@ pub(crate) fn read_read_notify_call(fields: &mut FieldWords) -> Option<Call>
     }))
 }
 
+/// Reads a call `write_list` from the words in front, and takes memory for its items.
 pub(crate) fn read_write_list_call(
     alloc: Global,
     fields: &mut FieldWords,
@@ -159,6 +174,7 @@ pub(crate) fn read_write_list_call(
     Ok(Some(Call::WriteList(WriteList { rank, queue, items })))
 }
 
+/// Reads a call `write_list_notify` from the words in front, and takes memory for its items.
 pub(crate) fn read_write_list_notify_call(
     alloc: Global,
     fields: &mut FieldWords,
@@ -193,6 +209,7 @@ pub(crate) fn read_write_list_notify_call(
     })))
 }
 
+/// Reads a call `read_list` from the words in front, and takes memory for its items.
 pub(crate) fn read_read_list_call(
     alloc: Global,
     fields: &mut FieldWords,
@@ -211,6 +228,7 @@ pub(crate) fn read_read_list_call(
     Ok(Some(Call::ReadList(ReadList { rank, queue, items })))
 }
 
+/// Reads a call `read_list_notify` from the words in front, and takes memory for its items.
 pub(crate) fn read_read_list_notify_call(
     alloc: Global,
     fields: &mut FieldWords,
@@ -241,6 +259,7 @@ pub(crate) fn read_read_list_notify_call(
     })))
 }
 
+/// Reads a call `wait` from the words in front.
 pub(crate) fn read_wait_call(fields: &mut FieldWords) -> Option<Call>
     ensures { option_map (λ call. (call, words_in fields.new)) result ≡ call_taken call_words.Wait (words_in fields.old) }
 {
@@ -249,6 +268,7 @@ pub(crate) fn read_wait_call(fields: &mut FieldWords) -> Option<Call>
     }))
 }
 
+/// Reads a call `purge` from the words in front.
 pub(crate) fn read_purge_call(fields: &mut FieldWords) -> Option<Call>
     ensures { option_map (λ call. (call, words_in fields.new)) result ≡ call_taken call_words.Purge (words_in fields.old) }
 {
@@ -257,6 +277,7 @@ pub(crate) fn read_purge_call(fields: &mut FieldWords) -> Option<Call>
     }))
 }
 
+/// Reads a call `qsize` from the words in front.
 pub(crate) fn read_qsize_call(fields: &mut FieldWords) -> Option<Call>
     ensures { option_map (λ call. (call, words_in fields.new)) result ≡ call_taken call_words.Qsize (words_in fields.old) }
 {
@@ -265,6 +286,7 @@ pub(crate) fn read_qsize_call(fields: &mut FieldWords) -> Option<Call>
     }))
 }
 
+/// Reads a call `waitsome` from the words in front.
 pub(crate) fn read_waitsome_call(fields: &mut FieldWords) -> Option<Call>
     ensures { option_map (λ call. (call, words_in fields.new)) result ≡ call_taken call_words.Waitsome (words_in fields.old) }
 {
@@ -275,6 +297,7 @@ pub(crate) fn read_waitsome_call(fields: &mut FieldWords) -> Option<Call>
     }))
 }
 
+/// Reads a call `reset` from the words in front.
 pub(crate) fn read_reset_call(fields: &mut FieldWords) -> Option<Call>
     ensures { option_map (λ call. (call, words_in fields.new)) result ≡ call_taken call_words.Reset (words_in fields.old) }
 {
@@ -284,6 +307,7 @@ pub(crate) fn read_reset_call(fields: &mut FieldWords) -> Option<Call>
     }))
 }
 
+/// Reads a call `passive_send` from the words in front.
 pub(crate) fn read_passive_send_call(fields: &mut FieldWords) -> Option<Call>
     ensures { option_map (λ call. (call, words_in fields.new)) result ≡ call_taken call_words.PassiveSend (words_in fields.old) }
 {
@@ -295,6 +319,7 @@ pub(crate) fn read_passive_send_call(fields: &mut FieldWords) -> Option<Call>
     }))
 }
 
+/// Reads a call `passive_receive` from the words in front.
 pub(crate) fn read_passive_receive_call(fields: &mut FieldWords) -> Option<Call>
     ensures { option_map (λ call. (call, words_in fields.new)) result ≡ call_taken call_words.PassiveReceive (words_in fields.old) }
 {
@@ -305,6 +330,7 @@ pub(crate) fn read_passive_receive_call(fields: &mut FieldWords) -> Option<Call>
     }))
 }
 
+/// Reads a call `fetch_add` from the words in front.
 pub(crate) fn read_fetch_add_call(fields: &mut FieldWords) -> Option<Call>
     ensures { option_map (λ call. (call, words_in fields.new)) result ≡ call_taken call_words.FetchAdd (words_in fields.old) }
 {
@@ -316,6 +342,7 @@ pub(crate) fn read_fetch_add_call(fields: &mut FieldWords) -> Option<Call>
     }))
 }
 
+/// Reads a call `compare_swap` from the words in front.
 pub(crate) fn read_compare_swap_call(fields: &mut FieldWords) -> Option<Call>
     ensures { option_map (λ call. (call, words_in fields.new)) result ≡ call_taken call_words.CompareSwap (words_in fields.old) }
 {
@@ -328,6 +355,7 @@ pub(crate) fn read_compare_swap_call(fields: &mut FieldWords) -> Option<Call>
     }))
 }
 
+/// Reads a call `group_add` from the words in front.
 pub(crate) fn read_group_add_call(fields: &mut FieldWords) -> Option<Call>
     ensures { option_map (λ call. (call, words_in fields.new)) result ≡ call_taken call_words.GroupAdd (words_in fields.old) }
 {
@@ -337,6 +365,7 @@ pub(crate) fn read_group_add_call(fields: &mut FieldWords) -> Option<Call>
     }))
 }
 
+/// Reads a call `group_delete` from the words in front.
 pub(crate) fn read_group_delete_call(fields: &mut FieldWords) -> Option<Call>
     ensures { option_map (λ call. (call, words_in fields.new)) result ≡ call_taken call_words.GroupDelete (words_in fields.old) }
 {
@@ -345,6 +374,7 @@ pub(crate) fn read_group_delete_call(fields: &mut FieldWords) -> Option<Call>
     }))
 }
 
+/// Reads a call `commit` from the words in front.
 pub(crate) fn read_commit_call(fields: &mut FieldWords) -> Option<Call>
     ensures { option_map (λ call. (call, words_in fields.new)) result ≡ call_taken call_words.Commit (words_in fields.old) }
 {
@@ -353,6 +383,7 @@ pub(crate) fn read_commit_call(fields: &mut FieldWords) -> Option<Call>
     }))
 }
 
+/// Reads a call `barrier` from the words in front.
 pub(crate) fn read_barrier_call(fields: &mut FieldWords) -> Option<Call>
     ensures { option_map (λ call. (call, words_in fields.new)) result ≡ call_taken call_words.Barrier (words_in fields.old) }
 {
@@ -361,6 +392,7 @@ pub(crate) fn read_barrier_call(fields: &mut FieldWords) -> Option<Call>
     }))
 }
 
+/// Reads a call `allreduce` from the words in front, and takes memory for its elements.
 pub(crate) fn read_allreduce_call(
     alloc: Global,
     fields: &mut FieldWords,
@@ -379,6 +411,7 @@ pub(crate) fn read_allreduce_call(
     Ok(Some(Call::Allreduce(Allreduce { group, op, values })))
 }
 
+/// Reads a call `create` from the words in front.
 pub(crate) fn read_create_call(fields: &mut FieldWords) -> Option<Call>
     ensures { option_map (λ call. (call, words_in fields.new)) result ≡ call_taken call_words.Create (words_in fields.old) }
 {

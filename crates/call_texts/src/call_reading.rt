@@ -1,4 +1,5 @@
-//! Calls read from words.
+//! Calls read from a call's word and the words behind it, from words alone, or from a text. None is answered where they spell
+//! no call.
 
 ghost use Rattle.std.specs.Prelude.{◌≡◌, map, IfOk, OnErr, true};
 ghost use Rattle.std.specs.Option.{option_map};
@@ -20,7 +21,8 @@ use crate::field_words::FieldWords;
 use gaspi_types::{Call, NoMemory};
 use std::alloc::Global;
 
-/// The call of a word whose fields the words in front spell, which are taken. Only a list takes memory.
+/// The call with this word, and with the fields that the words in front spell, which are removed; None where these do not spell
+/// its fields. Only bytes, items and elements take memory.
 fn read_call_from(
     alloc: Global,
     word: CallWord,
@@ -64,7 +66,8 @@ fn read_call_from(
     }
 }
 
-/// The call of a word whose arguments these words are, exactly: a timeout is none of them. Only a list takes memory.
+/// The call with this word, whose fields these words spell, exactly; None where they do not, or where a word is left. A timeout
+/// is no field. Only bytes, items and elements take memory.
 pub fn read_arguments(
     alloc: Global,
     word: CallWord,
@@ -84,8 +87,8 @@ pub fn read_arguments(
     }
 }
 
-/// The call that words spell: a call's word and exactly its arguments, without a timeout. Only a list takes
-/// memory.
+/// The call that words spell, a call's word and exactly its fields, without a timeout; else None. Only bytes, items and
+/// elements take memory.
 #[tactic(auto, unfolding(crate::specs::CallText::call_of))]
 pub fn read_call_words(alloc: Global, words: &[&[u8]]) -> Result<Option<Call>, NoMemory>
     ensures ok { IfOk result (λ call. call ≡ call_of (map (λ word. word.now) words.now)) }
@@ -100,7 +103,7 @@ pub fn read_call_words(alloc: Global, words: &[&[u8]]) -> Result<Option<Call>, N
     }
 }
 
-/// The call that words spell, where the end of a caller is one.
+/// The same, where `end` also spells a call: the end of a caller, which no script has, but a journal.
 #[tactic(auto, unfolding(crate::specs::CallText::recorded_call_of))]
 pub fn read_recorded_call(alloc: Global, words: &[&[u8]]) -> Result<Option<Call>, NoMemory>
     ensures { IfOk result (λ call. call ≡ recorded_call_of (map (λ word. word.now) words.now)) }
@@ -113,7 +116,7 @@ pub fn read_recorded_call(alloc: Global, words: &[&[u8]]) -> Result<Option<Call>
     read_call_words(alloc, words)
 }
 
-/// The call that a text spells, its words apart by spaces and tabs. The end of a caller is one.
+/// The call that the words of a text spell, the end of a caller included; else None.
 pub fn read_call(alloc: Global, text: &[u8]) -> Result<Option<Call>, NoMemory>
     ensures { IfOk result (λ call. call ≡ call_of_text text.now) }
 {

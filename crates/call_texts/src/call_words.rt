@@ -1,4 +1,5 @@
-//! The words that calls begin with.
+//! The words with which the texts of calls begin: their spelling, the form of the fields behind each, and how many words
+//! follow.
 
 ghost use Rattle.std.specs.Prelude.{◌≡◌, ◌==◌, map, length, find};
 ghost use Rattle.std.specs.Option.{option_map};
@@ -8,7 +9,7 @@ ghost use Rattle.call_texts.specs.CallText.{spelling_of, form_of, words_of_lengt
 use crate::fields::Field::{self, Bytes, Elements, Items, Number, Operation, Value};
 use crate::form_counts::are_counted;
 
-/// The word that a call's text begins with.
+/// The word with which a call's text begins.
 #[derive(Clone, Copy, Debug, PartialEq, Eq)]
 pub enum CallWord {
     Alloc,
@@ -44,7 +45,7 @@ pub enum CallWord {
     State,
 }
 
-/// How a call's word is spelled, and the form of what follows it, a timeout aside.
+/// How a call's word is spelled, and its form: the kinds of the fields that follow, a timeout aside.
 #[derive(Clone, Copy)]
 struct WordRow {
     spelling: &'static [u8],
@@ -52,6 +53,7 @@ struct WordRow {
 }
 
 impl WordRow {
+    /// A spelling with its form.
     fn new(spelling: &'static [u8], form: &'static [Field]) -> WordRow
         ensures spelling { result.spelling.now ≡ spelling.now }
         ensures form { result.form.now ≡ form.now }
@@ -60,7 +62,7 @@ impl WordRow {
     }
 }
 
-/// The first of some words that is spelled so.
+/// The first of `words` with this spelling, or None.
 fn first_spelled(words: &[CallWord], spelling: &[u8]) -> Option<CallWord>
     ensures { result ≡ find (λ call. bytes_eq (spelling_of call) spelling.now) words.now }
 {
@@ -71,7 +73,7 @@ fn first_spelled(words: &[CallWord], spelling: &[u8]) -> Option<CallWord>
 }
 
 impl CallWord {
-    /// Its row.
+    /// The spelling of this word and its form.
     fn row(self) -> WordRow
         ensures spelling { result.spelling.now ≡ spelling_of self }
         ensures form { result.form.now ≡ form_of self }
@@ -122,14 +124,14 @@ impl CallWord {
         }
     }
 
-    /// Its spelling.
+    /// The spelling of this word.
     pub fn spelling(self) -> &'static [u8]
         ensures { result.now ≡ spelling_of self }
     {
         self.row().spelling
     }
 
-    /// Those whose spelling has so many bytes.
+    /// The words whose spelling has `count` bytes.
     #[tactic(auto, unfolding(crate::specs::CallText::words_of_length))]
     fn of_length(count: usize) -> &'static [CallWord]
         ensures { result.now ≡ words_of_length count }
@@ -175,14 +177,14 @@ impl CallWord {
         }
     }
 
-    /// The call's word that is spelled so.
+    /// The call's word with this spelling, or None.
     pub fn of(word: &[u8]) -> Option<CallWord>
         ensures { result ≡ call_word_of word.now }
     {
         first_spelled(CallWord::of_length(word.len()), word)
     }
 
-    /// Whether items or elements are among its fields.
+    /// Whether its form has items or elements.
     fn takes_items(self) -> bool
         ensures { result ≡ takes_items self }
     {
@@ -196,8 +198,8 @@ impl CallWord {
         )
     }
 
-    /// Whether these are as many words as stand behind it: its arguments, and its timeout where it takes one. None where
-    /// the number of items or elements is not of the form of a number.
+    /// Whether `words` are as many as follow this word: those of its fields, and one for a timeout where its call takes one.
+    /// None where the number of items or elements does not have the form of a number.
     #[tactic(auto, using(crate::proofs::FormCounts::plain_count))]
     pub fn has_count(self, words: &[&[u8]]) -> Option<bool>
         ensures { result ≡ option_map (λ count. length words.now == count) (given_count self (map (λ word. word.now) words.now)) }
@@ -210,7 +212,7 @@ impl CallWord {
         Some(words.len() == form.len() + timeouts)
     }
 
-    /// Whether its call has a timeout. (GASPI: timeouts)
+    /// Whether its call takes a timeout. (GASPI: timeouts)
     pub fn takes_timeout(self) -> bool
         ensures { result ≡ has_timeout self }
     {

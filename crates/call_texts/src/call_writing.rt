@@ -1,4 +1,4 @@
-//! Texts of calls.
+//! Texts of calls, in the one form that is written.
 
 ghost use Rattle.std.specs.Prelude.{◌≡◌, ◌++◌, take, length, OnOk, OnErr};
 ghost use Rattle.call_texts.specs.CallText.{call_text};
@@ -9,7 +9,7 @@ use crate::elements::{append_typed, op_word};
 use crate::words_written::{append_bytes, append_line, append_list, append_word};
 use gaspi_types::{Allreduce, Bytes, Call, NoMemory};
 
-/// Adds the text of an allreduce. Without memory the text keeps its front.
+/// Adds the text of an allreduce, for `append_call`. After `NoMemory` the text still begins with what it had.
 fn append_allreduce(text: &mut Bytes, call: &Allreduce) -> Result<(), NoMemory>
     ensures ok { OnOk result (text.new ≡ text.old ++ call_text (calls.Allreduce call.now)) }
     ensures err { OnErr result (take (length text.old) text.new ≡ text.old) }
@@ -19,7 +19,7 @@ fn append_allreduce(text: &mut Bytes, call: &Allreduce) -> Result<(), NoMemory>
     append_typed(text, &call.values)
 }
 
-/// Adds the text of a call. Without memory the text keeps its front.
+/// Adds the text of a call. After `NoMemory` the text still begins with what it had.
 fn append_call(text: &mut Bytes, call: &Call) -> Result<(), NoMemory>
     ensures ok { OnOk result (text.new ≡ text.old ++ call_text call.now) }
     ensures err { OnErr result (take (length text.old) text.new ≡ text.old) }
@@ -190,7 +190,7 @@ fn append_call(text: &mut Bytes, call: &Call) -> Result<(), NoMemory>
     }
 }
 
-/// Adds the text of a call, in the one form that is written. Without memory nothing changes.
+/// Adds the text of a call, in the one form that is written. After `NoMemory` nothing has changed.
 pub fn write_call(text: &mut Bytes, call: &Call) -> Result<(), NoMemory>
     ensures ok { OnOk result (text.new ≡ text.old ++ call_text call.now) }
     ensures err { OnErr result (text.new ≡ text.old) }

@@ -1,4 +1,5 @@
-//! The words for types and operations, and numbers of a type as words of a text.
+//! The words of types and operations, and the elements of an allreduce as words of a text, both ways: numbers of a type, which
+//! may have a sign.
 
 ghost use Rattle.std.specs.Prelude.{◌≡◌, ◌++◌, map, take, length, IfOk, IfSome, OnOk, OnErr};
 ghost use Rattle.gaspi_types.specs.NumberTypes.{AreInType};
@@ -13,7 +14,7 @@ use gaspi_types::{Bytes, NoMemory, NumType, Numbers, Op, Sequence, is_in_type};
 use itoa::Buffer;
 use std::alloc::Global;
 
-/// The word for a type of numbers.
+/// The word of a type of numbers.
 pub fn type_word(num_type: NumType) -> &'static [u8]
     ensures { result.now ≡ type_word num_type }
 {
@@ -27,7 +28,7 @@ pub fn type_word(num_type: NumType) -> &'static [u8]
     }
 }
 
-/// The word for an operation.
+/// The word of an operation.
 pub fn op_word(op: Op) -> &'static [u8]
     ensures { result.now ≡ op_word op }
 {
@@ -38,7 +39,7 @@ pub fn op_word(op: Op) -> &'static [u8]
     }
 }
 
-/// The type of numbers that a word stands for.
+/// The type of numbers with this word, or None.
 #[tactic(auto, unfolding(crate::specs::Elements::type_of))]
 pub fn read_type(word: &[u8]) -> Option<NumType>
     ensures { result ≡ type_of word.now }
@@ -56,7 +57,7 @@ pub fn read_type(word: &[u8]) -> Option<NumType>
     .find(|num_type| type_word(*num_type) == word)
 }
 
-/// The operation that a word stands for.
+/// The operation with this word, or None.
 #[tactic(auto, unfolding(crate::specs::Elements::op_of))]
 pub fn read_op(word: &[u8]) -> Option<Op>
     ensures { result ≡ op_of word.now }
@@ -67,7 +68,7 @@ pub fn read_op(word: &[u8]) -> Option<Op>
         .find(|op| op_word(*op) == word)
 }
 
-/// The number that a word spells, with an optional `-` before it.
+/// The number that a word spells, with an optional `-` before it; None where it spells none.
 #[tactic(auto, unfolding(crate::specs::Elements::signed_of))]
 fn read_signed(word: &[u8]) -> Option<i128>
     ensures { result ≡ signed_of word.now }
@@ -85,7 +86,7 @@ fn read_signed(word: &[u8]) -> Option<i128>
     }
 }
 
-/// The element of a type that a word spells.
+/// The number that a word spells, or None where it spells none in the range of the type.
 #[tactic(auto, unfolding(crate::specs::Elements::element_of))]
 fn read_element(num_type: NumType, word: &[u8]) -> Option<i128>
     ensures { result ≡ element_of num_type word.now }
@@ -98,7 +99,8 @@ fn read_element(num_type: NumType, word: &[u8]) -> Option<i128>
     }
 }
 
-/// The elements of a type that words spell, each in the type's range. Leading zeros and a sign before zero are allowed.
+/// The numbers of a type that words spell, or None where one of them spells none in the type's range. Leading zeros and a sign
+/// before zero are allowed.
 pub fn read_elements(
     alloc: Global,
     num_type: NumType,
@@ -117,7 +119,8 @@ pub fn read_elements(
     Ok(Some(elements))
 }
 
-/// Adds numbers in decimal, each behind a space, those below zero with a sign. Without memory the text keeps its front.
+/// Adds numbers in decimal, each behind a space, those below zero with a sign. After `NoMemory` the text still begins with what
+/// it had.
 pub fn append_elements(text: &mut Bytes, elements: &[i128]) -> Result<(), NoMemory>
     ensures ok { OnOk result (text.new ≡ text.old ++ spaced_elements elements.now) }
     ensures err { OnErr result (take (length text.old) text.new ≡ text.old) }
@@ -129,7 +132,8 @@ pub fn append_elements(text: &mut Bytes, elements: &[i128]) -> Result<(), NoMemo
     Ok(())
 }
 
-/// Adds a type, how many numbers of it there are, and these, each behind a space. Without memory the text keeps its front.
+/// Adds a type, how many numbers of it there are, and these, each behind a space. After `NoMemory` the text still begins with
+/// what it had.
 pub(crate) fn append_typed(text: &mut Bytes, numbers: &Numbers) -> Result<(), NoMemory>
     ensures ok { OnOk result (text.new ≡ text.old ++ spaced (words_of_field Elements numbers.now)) }
     ensures err { OnErr result (take (length text.old) text.new ≡ text.old) }

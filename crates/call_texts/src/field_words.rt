@@ -1,4 +1,6 @@
-//! The words of fields, taken from the front.
+//! The fields of a form, read from the words in front. Each function but `new` and `is_empty` reads one field, or what belongs
+//! to one, and removes its words. Where they do not spell it, it answers None; then, and after `NoMemory`, what words remain is
+//! not said.
 
 ghost use Rattle.std.specs.Prelude.{◌≡◌, ◌==◌, map, length, IfOk, OnErr, true};
 ghost use Rattle.std.specs.Option.{option_map};
@@ -13,14 +15,14 @@ use crate::numbers::{read_number, read_value};
 use gaspi_types::{Bytes, Item, NoMemory, NumType, Numbers, Op, Sequence};
 use std::alloc::Global;
 
-/// The words of fields that were not taken yet.
+/// The words of fields that were not read yet.
 #[derive(Drop)]
 pub(crate) struct FieldWords<'b, 'a> {
     words: &'b [&'a [u8]],
 }
 
 impl<'b, 'a> FieldWords<'b, 'a> {
-    /// These words, of which none was taken.
+    /// These words, of which none was read.
     pub(crate) fn new(words: &'b [&'a [u8]]) -> FieldWords<'b, 'a>
         ensures { words_in result ≡ map (λ word. word.now) words.now }
     {
@@ -34,7 +36,7 @@ impl<'b, 'a> FieldWords<'b, 'a> {
         self.words.is_empty()
     }
 
-    /// The number that the first word spells, which is taken.
+    /// The number that the first word spells.
     pub(crate) fn number(&mut self) -> Option<u64>
         ensures { option_map (λ n. (n, words_in self.new)) result ≡ field_spelled Number (words_in self.old) }
     {
@@ -45,7 +47,7 @@ impl<'b, 'a> FieldWords<'b, 'a> {
         read_number(word)
     }
 
-    /// The notification value that the first word spells, which is taken.
+    /// The notification value that the first word spells.
     pub(crate) fn value(&mut self) -> Option<u32>
         ensures { option_map (λ n. (n, words_in self.new)) result ≡ field_spelled Value (words_in self.old) }
     {
@@ -56,7 +58,7 @@ impl<'b, 'a> FieldWords<'b, 'a> {
         read_value(word)
     }
 
-    /// The bytes that the first word spells, which is taken.
+    /// The bytes that the first word spells.
     pub(crate) fn bytes(&mut self, alloc: Global) -> Result<Option<Bytes>, NoMemory>
         ensures { IfOk result (λ bytes. option_map (λ b. (b, words_in self.new)) bytes ≡ field_spelled Bytes (words_in self.old)) }
     {
@@ -67,7 +69,7 @@ impl<'b, 'a> FieldWords<'b, 'a> {
         read_bytes(alloc, word)
     }
 
-    /// The item that the first five words spell, which are taken.
+    /// The item that the first five words spell.
     fn item(&mut self) -> Option<Item>
         ensures { option_map (λ item. (item, words_in self.new)) result ≡ item_spelled (words_in self.old) }
     {
@@ -80,8 +82,8 @@ impl<'b, 'a> FieldWords<'b, 'a> {
         })
     }
 
-    /// The items that the words behind their number spell, which are taken. However large the number is, memory is taken
-    /// for no more items than there are words.
+    /// The items that the first words spell: how many there are, and then the five numbers of each. However large that number
+    /// is, memory is taken for no more items than there are words.
     pub(crate) fn items(&mut self, alloc: Global) -> Result<Option<Sequence<Item>>, NoMemory>
         ensures { IfOk result (λ items. option_map (λ i. (i, words_in self.new)) items ≡ field_spelled Items (words_in self.old)) }
     {
@@ -99,7 +101,7 @@ impl<'b, 'a> FieldWords<'b, 'a> {
         Ok(Some(items))
     }
 
-    /// The operation that the first word stands for, which is taken.
+    /// The operation with the first word.
     pub(crate) fn operation(&mut self) -> Option<Op>
         ensures { option_map (λ op. (op, words_in self.new)) result ≡ field_spelled Operation (words_in self.old) }
     {
@@ -110,7 +112,7 @@ impl<'b, 'a> FieldWords<'b, 'a> {
         read_op(word)
     }
 
-    /// The type that the first word stands for, which is taken.
+    /// The type with the first word.
     fn num_type(&mut self) -> Option<NumType>
         ensures { option_map (λ t. (t, words_in self.new)) result ≡ first_spells type_of (words_in self.old) }
     {
@@ -121,7 +123,7 @@ impl<'b, 'a> FieldWords<'b, 'a> {
         read_type(word)
     }
 
-    /// So many words in front, which are taken, where there are as many.
+    /// The first `count` words, or None where there are fewer.
     fn front(&mut self, count: u64) -> Option<&'b [&'a [u8]]>
         ensures { option_map (λ front. (map (λ word. word.now) front.now, words_in self.new)) result ≡ words_split count (words_in self.old) }
     {
@@ -133,8 +135,8 @@ impl<'b, 'a> FieldWords<'b, 'a> {
         Some(front)
     }
 
-    /// The numbers that the words behind their type and their number spell, which are taken. However large the number is,
-    /// memory is taken for no more numbers than there are words.
+    /// The elements that the first words spell: their type, how many there are, and these. However large that number is, memory
+    /// is taken for no more elements than there are words.
     pub(crate) fn elements(&mut self, alloc: Global) -> Result<Option<Numbers>, NoMemory>
         ensures { IfOk result (λ numbers. option_map (λ n. (n, words_in self.new)) numbers ≡ field_spelled Elements (words_in self.old)) }
     {

@@ -1,17 +1,17 @@
-//! The kinds of what follows a call's word.
+//! The kinds of fields that follow a call's word. A form is a list of them.
 
-/// A kind of field.
+/// The kind of a field.
 #[derive(Clone, Copy, Debug, PartialEq, Eq)]
 pub enum Field {
     /// A number below 2 ^ 64.
     Number,
     /// A notification value, below 2 ^ 32. (GASPI: notifications)
     Value,
-    /// Bytes in hex.
+    /// Bytes in hex, or `-` for none.
     Bytes,
-    /// The number of a list's items, and five numbers for each of them.
+    /// How many items a list has, and five numbers for each of them.
     Items,
-    /// What an allreduce makes of its numbers. (GASPI: allreduce)
+    /// The operation of an allreduce. (GASPI: allreduce)
     Operation,
     /// A type of numbers, how many there are, and these, each in the type's range. (GASPI: allreduce)
     Elements,

@@ -1,4 +1,4 @@
-//! How many words a form takes.
+//! How many words the fields of a form have, where some of these words say how many items or elements follow.
 
 ghost use Rattle.std.specs.Prelude.{◌≡◌, ◌+◌, ◌==◌, map, length, nat_le, drop, Some, None, if◌then◌else◌};
 ghost use Rattle.std.specs.Option.{option_map};
@@ -7,7 +7,7 @@ ghost use Rattle.call_texts.specs.Fields.{field_words, form_words};
 use crate::fields::Field;
 use crate::numbers::read_number;
 
-/// How many of the words in front a field takes. None where the number of its items or elements is not of the form of a
+/// How many of the words in front belong to a field. None where the number of its items or elements does not have the form of a
 /// number.
 fn word_count(field: Field, words: &[&[u8]]) -> Option<u128>
     ensures { result ≡ field_words field (map (λ word. word.now) words.now) }
@@ -26,7 +26,7 @@ fn word_count(field: Field, words: &[&[u8]]) -> Option<u128>
     }
 }
 
-/// The words behind so many. None where there are fewer.
+/// The words behind the first `count`, or None where there are fewer.
 fn words_behind<'b, 'a>(words: &'b [&'a [u8]], count: u128) -> Option<&'b [&'a [u8]]>
     ensures { option_map (λ rest. rest.now) result ≡ (if nat_le count (length words.now) then Some (drop count words.now) else None) }
 {
@@ -36,8 +36,8 @@ fn words_behind<'b, 'a>(words: &'b [&'a [u8]], count: u128) -> Option<&'b [&'a [
     Some(&words[count as usize..])
 }
 
-/// Whether the words are those that a form takes and so many more. None where the number of a list is not of the form of
-/// a number.
+/// Whether the words are those of a form and `more` others behind them. None where the number of items or elements does not
+/// have the form of a number.
 pub(crate) fn are_counted(form: &[Field], words: &[&[u8]], more: usize) -> Option<bool>
     ensures { result ≡ option_map (λ count. length words.now == count + more) (form_words form.now (map (λ word. word.now) words.now)) }
 {

@@ -1,4 +1,4 @@
-//! Bytes as words of a text.
+//! Bytes as words of a text, in hex, both ways.
 
 ghost use Rattle.std.specs.Prelude.{◌≡◌, ◌++◌, ◌<◌, ◌%◌, length, IfOk, OnOk, OnErr};
 ghost use Rattle.call_texts.specs.Hex.{bytes_of, hex_text};
@@ -7,8 +7,8 @@ use gaspi_types::{Bytes, NoMemory, Sequence};
 use hex::FromHexError;
 use std::alloc::Global;
 
-/// The bytes that a word spells: `-` for none, or an even number of hex digits of either case, at least two.
-/// Only a word of even length takes memory.
+/// The bytes that a word spells: `-` for none, or an even number of hex digits of either case, at least two; else None. Only a
+/// word of even length takes memory.
 #[tactic(auto, unfolding(crate::specs::Hex::bytes_of))]
 pub fn read_bytes(alloc: Global, word: &[u8]) -> Result<Option<Bytes>, NoMemory>
     ensures ok { IfOk result (λ bytes. bytes ≡ bytes_of word.now) }
@@ -27,8 +27,8 @@ pub fn read_bytes(alloc: Global, word: &[u8]) -> Result<Option<Bytes>, NoMemory>
     }
 }
 
-/// Adds the one spelling of bytes that is written to a text: `-` for none, or lower-case hex digits. Without memory
-/// nothing changes.
+/// Adds bytes in the one spelling that is written: `-` for none, or lower-case hex digits. After `NoMemory` nothing has
+/// changed.
 #[tactic(auto, unfolding(crate::specs::Hex::hex_text))]
 pub fn write_bytes(text: &mut Bytes, bytes: &[u8]) -> Result<(), NoMemory>
     ensures ok { OnOk result (text.new ≡ text.old ++ hex_text bytes.now) }

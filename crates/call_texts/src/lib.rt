@@ -1,4 +1,5 @@
-//! The lines and words of texts, and the texts of calls, both ways.
+//! Texts: their lines, words, numbers and bytes; and the texts of calls, both ways. What is written has one form, and what is
+//! read may have others.
 #![tactic(auto)]
 
 mod blanks;

@@ -1,11 +1,11 @@
-//! The lines of a text.
+//! The lines of a text: where the first one ends, and a line without its end.
 
 ghost use Rattle.std.specs.Prelude.{◌≡◌, ◌<◌, ◌∷◌, ◌++◌, length};
 ghost use Rattle.call_texts.specs.Lines.{fed_lines, plain_line, without_last};
 
 use memchr::memchr;
 
-/// The first line of a text that has one, with its line feed, which the last line may lack, and the text behind it.
+/// The first line of a text that is not empty, with its line feed, which the last line may lack; and the text behind it.
 pub fn first_line(text: &[u8]) -> (&[u8], &[u8])
     requires { 0 < length text.now }
     ensures lines { fed_lines text.now ≡ result.0.now ∷ fed_lines result.1.now }
@@ -18,8 +18,8 @@ pub fn first_line(text: &[u8]) -> (&[u8], &[u8])
     }
 }
 
-/// A line without its line feed, and without one carriage return before that. A line without a line feed keeps its
-/// carriage return.
+/// A line without its line feed, and without one carriage return before that. A line without a line feed keeps its carriage
+/// return.
 pub fn plain_line(line: &[u8]) -> &[u8]
     ensures { result.now ≡ plain_line line.now }
 {
@@ -33,7 +33,7 @@ pub fn plain_line(line: &[u8]) -> &[u8]
     }
 }
 
-/// A line without the carriage return at its end.
+/// A line without the carriage return at its end, where it has one.
 fn without_return(line: &[u8]) -> &[u8]
     ensures { result.now ≡ without_last 13 line.now }
 {

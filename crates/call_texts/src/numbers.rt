@@ -1,4 +1,4 @@
-//! Numbers as words of a text.
+//! Numbers without a sign as words of a text, both ways.
 
 ghost use Rattle.std.specs.Prelude.{◌≡◌, ◌++◌, OnOk, OnErr};
 ghost use Rattle.std.specs.Fmt.{decimal};
@@ -7,7 +7,7 @@ ghost use Rattle.call_texts.specs.Numbers.{number_of, value_of};
 use gaspi_types::{Bytes, NoMemory};
 use itoa::Buffer;
 
-/// The number that a word spells: decimal digits, leading zeros allowed, at most 18,446,744,073,709,551,615.
+/// The number that a word spells: decimal digits, leading zeros allowed, at most 18,446,744,073,709,551,615; else None.
 #[tactic(auto, unfolding(crate::specs::Numbers::number_of))]
 pub fn read_number(word: &[u8]) -> Option<u64>
     ensures { result ≡ number_of word.now }
@@ -27,7 +27,8 @@ pub fn read_number(word: &[u8]) -> Option<u64>
     Some(number)
 }
 
-/// The number of 32 bits that a word spells, as a notification value is: at most 4,294,967,295. (GASPI: notifications)
+/// The number of 32 bits that a word spells, as a notification value is: at most 4,294,967,295; else None. (GASPI:
+/// notifications)
 #[tactic(auto, unfolding(crate::specs::Numbers::number_of, crate::specs::Numbers::value_of))]
 pub fn read_value(word: &[u8]) -> Option<u32>
     ensures { result ≡ value_of word.now }
@@ -36,7 +37,7 @@ pub fn read_value(word: &[u8]) -> Option<u32>
     u32::try_from(number).ok()
 }
 
-/// Adds a number to a text, in decimal without leading zeros. Without memory nothing changes.
+/// Adds a number in decimal, without leading zeros. After `NoMemory` nothing has changed.
 pub fn write_number(text: &mut Bytes, number: u64) -> Result<(), NoMemory>
     ensures ok { OnOk result (text.new ≡ text.old ++ decimal number) }
     ensures err { OnErr result (text.new ≡ text.old) }

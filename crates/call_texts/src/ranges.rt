@@ -1,4 +1,5 @@
-//! Values in the ranges of their types. What is said here holds of every value of the type: the functions only read it.
+//! That the numbers, bytes and lists in a value are in the ranges of their types, which is so of every value. Each function
+//! only reads the value, and its contract says so.
 
 ghost use Rattle.hex.specs.Hex.{IsBytes};
 ghost use Rattle.call_texts.specs.CallText.{IsWritable};
@@ -18,12 +19,12 @@ pub fn bytes_are_in_range(bytes: &[u8])
     ensures { IsBytes bytes.now }
 {}
 
-/// The numbers of an item are those of their types.
+/// The numbers of an item are in the ranges of their types.
 fn item_is_in_range(_item: Item)
     ensures { IsItemInRange _item }
 {}
 
-/// The numbers of items are those of their types, and so is their number.
+/// So are the numbers of items, and how many items there are.
 fn items_are_in_range(items: &[Item])
     ensures { IsInRange Items items.now }
 {
@@ -32,24 +33,25 @@ fn items_are_in_range(items: &[Item])
     }
 }
 
-/// Numbers of a type are in its range, and how many there are is in that of its own.
+/// Numbers of a type are in its range, and how many there are is below 2^64.
 fn numbers_are_in_range(numbers: &Numbers)
     ensures { IsInRange Elements numbers.now }
 {
     let _read = numbers.items().len();
 }
 
-/// The numbers of a write with a notification are those of their types.
+/// The numbers of a `write_notify` are in the ranges of their types.
 fn write_notify_is_in_range(_call: WriteNotify)
     ensures { IsWritable (calls.WriteNotify _call) }
 {}
 
-/// The numbers of a read with its notification are those of their types.
+/// The numbers of a `read_notify` are in the ranges of their types.
 fn read_notify_is_in_range(_call: ReadNotify)
     ensures { IsWritable (calls.ReadNotify _call) }
 {}
 
-/// The numbers and the bytes of a call are those of their types, so its text reads back as that call.
+/// The numbers and bytes of a call are in the ranges of their types; so, by `calls_read_back`, its text reads back as that
+/// call.
 pub fn call_is_in_range(call: &Call)
     ensures { IsWritable call.now }
 {

@@ -1,4 +1,5 @@
-//! Laws of the texts. Each is a function without a body: what it ensures is the law.
+//! Laws of texts: what is written reads back, and what is read is counted and in range. A law is the contract of a function
+//! that does nothing.
 
 ghost use Rattle.std.specs.Prelude.{◌≡◌, ◌≢◌, ◌^◌, ◌<◌, ℕ, ℤ, List, length, map, Some, true};
 ghost use Rattle.std.specs.Fmt.{decimal, signed_decimal};
@@ -18,7 +19,7 @@ ghost use Rattle.call_texts.specs.Hex.{bytes_of, hex_text};
 ghost use Rattle.call_texts.specs.Numbers.{is_numeral, number_of, value_of};
 ghost use Rattle.call_texts.specs.Words.{words_of, IsWord, IsPlainWord};
 
-/// A text has the words that it was put together from.
+/// A text of words with one space between each two has these words.
 pub fn words_read_back()
     ensures { (words : List (List ℕ)) → AllByRecursion IsWord words → words_of (join_with_byte 32 words) ≡ words }
 {}
@@ -47,20 +48,20 @@ pub fn calls_read_back()
     ensures words { (call : Call) → IsWritable call → recorded_call_of (words_of_call call) ≡ Some call }
 {}
 
-/// The words of a script spell no end of a caller.
+/// No call's word with its fields spells the end of a caller.
 pub fn words_spell_no_end()
     ensures arguments { (word : CallWord) (words : List (List ℕ)) (call : Call) → call_by word words ≡ Some call → call ≢ End }
     ensures words { (words : List (List ℕ)) (call : Call) → call_of words ≡ Some call → call ≢ End }
 {}
 
-/// The words that spell a call are as many as its form takes of them, so none that spells one is miscounted; and the words that
+/// The words that spell the fields of a call are as many as its form has, so none of them is miscounted; and the words that
 /// spell elements are as many as these.
 pub fn read_words_are_counted()
     ensures elements { (t : NumType) (words : List (List ℕ)) (items : List ℤ) → elements_of t words ≡ Some items → length items ≡ length words }
     ensures call { (word : CallWord) (words : List (List ℕ)) (call : Call) → call_by word words ≡ Some call → arguments_of word words ≡ Some (length words) }
 {}
 
-/// A word's call has a timeout where the call's row says so. (GASPI: timeouts)
+/// A call's word takes a timeout where the row of its call says so. (GASPI: timeouts)
 pub fn timeouts_are_those_of_rows()
     ensures { (word : CallWord) (fields : Fields (form_of word)) → (row_of (call_with word fields)).times_out ≡ has_timeout word }
 {}
@@ -74,7 +75,7 @@ pub fn read_words_are_in_range()
     ensures call { (words : List (List ℕ)) (call : Call) → recorded_call_of words ≡ Some call → IsWritable call }
 {}
 
-/// What is written are plain words: a number is of digits, and bytes, elements and calls are of digits, letters, `_` and `-`.
+/// What is written are plain words, of digits, letters, `_` and `-`; a number is of digits.
 pub fn written_words_are_plain()
     ensures number { (n : ℕ) → n < 2 ^ 64 → is_numeral (decimal n) ≡ true }
     ensures bytes { (bytes : List ℕ) → IsBytes bytes → IsPlainWord (hex_text bytes) }

@@ -1,4 +1,4 @@
-//! Words added to a text, each behind one space.
+//! Words added to a text, each behind one space, but for the first word of a line or a list.
 
 ghost use Rattle.std.specs.Prelude.{◌≡◌, ◌++◌, ◌∷◌, map, take, length, OnOk, OnErr};
 ghost use Rattle.std.specs.Fmt.{decimal};
@@ -12,7 +12,7 @@ use crate::hexes::write_bytes;
 use crate::numbers::write_number;
 use gaspi_types::{Bytes, Item, NoMemory};
 
-/// Adds a word behind a space. Without memory the text keeps its front.
+/// Adds a space and a word. After `NoMemory` the text still begins with what it had.
 pub fn append_word(text: &mut Bytes, word: &[u8]) -> Result<(), NoMemory>
     ensures ok { OnOk result (text.new ≡ text.old ++ 32 ∷ word.now) }
     ensures err { OnErr result (take (length text.old) text.new ≡ text.old) }
@@ -21,7 +21,7 @@ pub fn append_word(text: &mut Bytes, word: &[u8]) -> Result<(), NoMemory>
     text.append(word)
 }
 
-/// Adds numbers in decimal, each behind a space. Without memory the text keeps its front.
+/// Adds numbers in decimal, each behind a space. After `NoMemory` the text still begins with what it had.
 pub fn append_numbers(text: &mut Bytes, numbers: &[u64]) -> Result<(), NoMemory>
     ensures ok { OnOk result (text.new ≡ text.old ++ spaced_numbers numbers.now) }
     ensures err { OnErr result (take (length text.old) text.new ≡ text.old) }
@@ -33,7 +33,7 @@ pub fn append_numbers(text: &mut Bytes, numbers: &[u64]) -> Result<(), NoMemory>
     Ok(())
 }
 
-/// Adds bytes in hex behind a space. Without memory the text keeps its front.
+/// Adds a space and bytes in hex. After `NoMemory` the text still begins with what it had.
 pub fn append_bytes(text: &mut Bytes, bytes: &[u8]) -> Result<(), NoMemory>
     ensures ok { OnOk result (text.new ≡ text.old ++ 32 ∷ hex_text bytes.now) }
     ensures err { OnErr result (take (length text.old) text.new ≡ text.old) }
@@ -42,7 +42,8 @@ pub fn append_bytes(text: &mut Bytes, bytes: &[u8]) -> Result<(), NoMemory>
     write_bytes(text, bytes)
 }
 
-/// Adds the number of items and behind it their numbers, each behind a space. Without memory the text keeps its front.
+/// Adds how many items there are, and the numbers of each, each number behind a space; for `append_list`. After `NoMemory` the
+/// text still begins with what it had.
 fn append_items(text: &mut Bytes, items: &[Item]) -> Result<(), NoMemory>
     ensures ok { OnOk result (text.new ≡ text.old ++ spaced (words_of_field Items items.now)) }
     ensures err { OnErr result (take (length text.old) text.new ≡ text.old) }
@@ -57,7 +58,8 @@ fn append_items(text: &mut Bytes, items: &[Item]) -> Result<(), NoMemory>
     Ok(())
 }
 
-/// Adds a first word, without a space, and numbers in decimal. Without memory the text keeps its front.
+/// Adds a first word, without a space, and numbers in decimal, each behind a space. After `NoMemory` the text still begins with
+/// what it had.
 pub fn append_line(text: &mut Bytes, word: &[u8], numbers: &[u64]) -> Result<(), NoMemory>
     ensures ok { OnOk result (text.new ≡ text.old ++ join_with_byte 32 (word.now ∷ map decimal numbers.now)) }
     ensures err { OnErr result (take (length text.old) text.new ≡ text.old) }
@@ -66,8 +68,8 @@ pub fn append_line(text: &mut Bytes, word: &[u8], numbers: &[u64]) -> Result<(),
     append_numbers(text, numbers)
 }
 
-/// Adds a first word, without a space, numbers in decimal, and items behind their number. Without memory the text keeps
-/// its front.
+/// Adds a first word, without a space; numbers in decimal; and how many items there are, and their numbers. After `NoMemory`
+/// the text still begins with what it had.
 pub(crate) fn append_list(
     text: &mut Bytes,
     word: &[u8],

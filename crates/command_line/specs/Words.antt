@@ -104,8 +104,8 @@ why_app = with_rule (new_app (codes "why")) place_rule
 abbrev pub bench_app : App
 bench_app = with_rule (with_rule (with_rule (new_app (codes "bench")) needed_seed_rule) ranks_rule) rounds_rule
 
--- the settings of the program: the words begin after its name, none of them asks for help or the version, and one names
--- a subcommand
+-- the settings of the program: the words begin after its name, none of them asks for help or the version, and one of them
+-- is a subcommand
 abbrev pub with_settings : Shape → Shape
 with_settings shape = record shape {
   no_binary_name = true;
@@ -115,6 +115,7 @@ with_settings shape = record shape {
   subcommand_required = true;
 }
 
+-- the program without its subcommands
 abbrev pub program_app : App
 program_app = on_top with_settings (new_app (codes "gaspirun"))
 
@@ -126,18 +127,19 @@ running_app = with_subcommand (with_subcommand program_app run_app.top) step_app
 abbrev pub judging_app : App
 judging_app = with_subcommand (with_subcommand running_app check_app.top) why_app.top
 
+-- the program
 abbrev pub the_app : App
 the_app = with_subcommand judging_app bench_app.top
 
 -- ---- what is read of the matches
 
--- the number of so many bits that a text spells
+-- the number of `bits` bits that a text spells
 abbrev pub number_of : ℕ → Text → Option ℕ
 number_of bits text =
     let digits = without_leading_plus text in
     if is_numeral digits && nat_lt (digits_value 10 digits) (2 ^ bits) then Some (digits_value 10 digits) else None
 
--- the number of so many bits that an option has
+-- the number of `bits` bits that an option has
 abbrev pub number_at : ℕ → Text → List Row → Option ℕ
 number_at bits id rows = option_and_then (number_of bits) (one_of id rows)
 
@@ -145,17 +147,21 @@ number_at bits id rows = option_and_then (number_of bits) (one_of id rows)
 abbrev pub flag_at : Text → List Row → Bool
 flag_at id rows = option_map_or (λ text. bytes_eq text (codes "true")) (first_of id rows) false
 
+-- what the words after `run` ask for
 abbrev pub run_of : List Row → Option Command
 run_of rows = option_and_then (λ workers. option_map (λ limit. Run workers limit (flag_at (codes "brief") rows))
     (number_at 32 (codes "limit") rows)) (number_at 32 (codes "workers") rows)
 
+-- what the words after `step` ask for
 abbrev pub step_of : List Row → Option Command
 step_of rows = option_and_then (λ seed. option_map (λ limit. Step seed limit (flag_at (codes "brief") rows))
     (number_at 32 (codes "limit") rows)) (number_at 32 (codes "seed") rows)
 
+-- what the words after `why` ask for
 abbrev pub why_of : List Row → Option Command
 why_of rows = option_map (λ place. Why place) (number_at 64 (codes "place") rows)
 
+-- what the words after `bench` ask for
 abbrev pub bench_of : List Row → Option Command
 bench_of rows = option_and_then (λ seed. option_and_then (λ ranks. option_map (λ rounds. Bench seed ranks rounds)
     (number_at 32 (codes "rounds") rows)) (number_at 32 (codes "ranks") rows)) (number_at 32 (codes "seed") rows)

@@ -1,4 +1,6 @@
-//! The command, its subcommands and their arguments.
+//! The command as `clap` has it: its options, its subcommands with their options, and the program of these. A contract says
+//! what each is as data (`rule`, `app`; `specs/Words`), and that every option is of its subcommand alone (`local`). Each
+//! function takes its memory from `alloc`; without any the subcommands and the program are an error.
 
 ghost use Rattle.std.specs.Prelude.{◌≡◌, IfOk, false};
 ghost use Rattle.clap.specs.Words.{app_of, rule_of};
@@ -38,7 +40,7 @@ fn workers<'a>(alloc: Global) -> Arg<'a>
         .default_value("1")
 }
 
-/// `--seed N`: where the generator starts.
+/// `--seed N`: the first number of the generator, where it may be left out.
 fn seed<'a>(alloc: Global) -> Arg<'a>
     ensures rule { rule_of result ≡ seed_rule }
     ensures local { result.global ≡ false }
@@ -50,7 +52,7 @@ fn seed<'a>(alloc: Global) -> Arg<'a>
         .default_value("0")
 }
 
-/// `--limit N`: how many looks a call that blocks has.
+/// `--limit N`: how many looks a call with `block` has.
 fn limit<'a>(alloc: Global) -> Arg<'a>
     ensures rule { rule_of result ≡ limit_rule }
     ensures local { result.global ≡ false }
@@ -62,7 +64,7 @@ fn limit<'a>(alloc: Global) -> Arg<'a>
         .default_value("1000000")
 }
 
-/// `--brief`: the transcripts in place of the journal.
+/// `--brief`: write the transcripts, and not the journal.
 fn brief<'a>(alloc: Global) -> Arg<'a>
     ensures rule { rule_of result ≡ brief_rule }
     ensures local { result.global ≡ false }
@@ -84,7 +86,7 @@ fn place<'a>(alloc: Global) -> Arg<'a>
         .required(true)
 }
 
-/// `--seed N` where it is needed.
+/// `--seed N`, where it may not be left out.
 fn needed_seed<'a>(alloc: Global) -> Arg<'a>
     ensures rule { rule_of result ≡ needed_seed_rule }
     ensures local { result.global ≡ false }
@@ -108,7 +110,7 @@ fn ranks<'a>(alloc: Global) -> Arg<'a>
         .required(true)
 }
 
-/// `--rounds M`: how many rounds each rank makes.
+/// `--rounds M`: how many bench rounds there are.
 fn rounds<'a>(alloc: Global) -> Arg<'a>
     ensures rule { rule_of result ≡ rounds_rule }
     ensures local { result.global ≡ false }
@@ -120,7 +122,7 @@ fn rounds<'a>(alloc: Global) -> Arg<'a>
         .required(true)
 }
 
-/// `run`, with its arguments.
+/// The subcommand `run` with its options: `--workers`, `--limit` and `--brief`.
 fn run<'a>(alloc: Global) -> Result<Command<'a>, AllocError>
     ensures app { IfOk result (λ command. app_of command ≡ run_app) }
     ensures local { IfOk result (λ command. (fields_of command).has_globals ≡ false) }
@@ -131,7 +133,7 @@ fn run<'a>(alloc: Global) -> Result<Command<'a>, AllocError>
         .arg(brief(alloc))
 }
 
-/// `step`, with its arguments.
+/// The subcommand `step` with its options: `--seed`, `--limit` and `--brief`.
 fn step<'a>(alloc: Global) -> Result<Command<'a>, AllocError>
     ensures app { IfOk result (λ command. app_of command ≡ step_app) }
     ensures local { IfOk result (λ command. (fields_of command).has_globals ≡ false) }
@@ -142,7 +144,7 @@ fn step<'a>(alloc: Global) -> Result<Command<'a>, AllocError>
         .arg(brief(alloc))
 }
 
-/// `check`.
+/// The subcommand `check`, which has no option.
 fn check<'a>(alloc: Global) -> Command<'a>
     ensures app { app_of result ≡ check_app }
     ensures local { (fields_of result).has_globals ≡ false }
@@ -150,7 +152,7 @@ fn check<'a>(alloc: Global) -> Command<'a>
     Command::new(alloc, "check")
 }
 
-/// `why`, with its argument.
+/// The subcommand `why` with its option `--place`.
 fn why<'a>(alloc: Global) -> Result<Command<'a>, AllocError>
     ensures app { IfOk result (λ command. app_of command ≡ why_app) }
     ensures local { IfOk result (λ command. (fields_of command).has_globals ≡ false) }
@@ -158,7 +160,7 @@ fn why<'a>(alloc: Global) -> Result<Command<'a>, AllocError>
     Command::new(alloc, "why").arg(place(alloc))
 }
 
-/// `bench`, with its arguments.
+/// The subcommand `bench` with its options: `--seed`, `--ranks` and `--rounds`.
 fn bench<'a>(alloc: Global) -> Result<Command<'a>, AllocError>
     ensures app { IfOk result (λ command. app_of command ≡ bench_app) }
     ensures local { IfOk result (λ command. (fields_of command).has_globals ≡ false) }
@@ -169,7 +171,7 @@ fn bench<'a>(alloc: Global) -> Result<Command<'a>, AllocError>
         .arg(rounds(alloc))
 }
 
-/// The program without its subcommands.
+/// The program without its subcommands, of which it needs one. It has no help and no version.
 fn bare_program<'a>(alloc: Global) -> Command<'a>
     ensures app { app_of result ≡ program_app }
     ensures local { (fields_of result).has_globals ≡ false }
@@ -191,7 +193,7 @@ fn running_program<'a>(alloc: Global) -> Result<Command<'a>, AllocError>
         .subcommand(step(alloc)?)
 }
 
-/// The program with the subcommands that read a journal, too.
+/// The same, and the subcommands that read a journal.
 fn judging_program<'a>(alloc: Global) -> Result<Command<'a>, AllocError>
     ensures { IfOk result (λ command. app_of command ≡ judging_app) }
 {
@@ -200,7 +202,7 @@ fn judging_program<'a>(alloc: Global) -> Result<Command<'a>, AllocError>
         .subcommand(why(alloc)?)
 }
 
-/// The program.
+/// The program, with all its subcommands.
 pub(crate) fn program<'a>(alloc: Global) -> Result<Command<'a>, AllocError>
     ensures { IfOk result (λ command. app_of command ≡ the_app) }
 {

@@ -1,4 +1,4 @@
-//! Laws of the words. Each is a function without a body: what it ensures is the law.
+//! Laws of the words, most of them by example. A law is the contract of a function that does nothing.
 
 ghost use Rattle.std.specs.Prelude.{◌≡◌, ◌≢◌, ◌≤◌, ℕ, List, [], ◌∷◌, Some, None, codes, is_some, true, false};
 ghost use Rattle.std.specs.Fmt.{decimal};
@@ -7,7 +7,7 @@ ghost use Rattle.clap.specs.Words.{fault_of};
 
 use crate::words::Command;
 
-/// These words are taken, with these values.
+/// These words are accepted, with these values.
 #[tactic(auto, unfolding(crate::specs::Words::command_of, clap::proofs::OnLiterals::clap_on_literals))]
 pub fn words_that_are_accepted()
     ensures run_plain { command_of (codes "run" ∷ []) ≡ Some (Command.Run 1 1000000 false) }
@@ -53,8 +53,8 @@ pub fn words_that_are_accepted()
     ensures bench_most { command_of (codes "bench" ∷ codes "--seed" ∷ codes "4294967295" ∷ codes "--ranks" ∷ codes "16" ∷ codes "--rounds" ∷ codes "5000" ∷ []) ≡ Some (Command.Bench 4294967295 16 5000) }
 {}
 
-/// These words are refused: no command, one that there is not, a number that is none or out of its range, an option that is
-/// needed left out, an option or a flag given twice, and words that a subcommand does not have.
+/// These words are refused: no command, an unknown one, a number that is none or out of its range, a needed option left out, an
+/// option or a flag given twice, and words that a subcommand does not have.
 #[tactic(auto, unfolding(crate::specs::Words::command_of, clap::proofs::OnLiterals::clap_on_literals))]
 pub fn words_that_are_refused()
     ensures nothing { command_of [] ≡ None }
@@ -146,7 +146,7 @@ pub fn help_and_version_are_refused()
     ensures short_of_bench { command_of (codes "bench" ∷ codes "--seed" ∷ codes "5" ∷ codes "--ranks" ∷ codes "4" ∷ codes "--rounds" ∷ codes "3" ∷ codes "-h" ∷ []) ≡ None }
 {}
 
-/// A number may have a plus and leading zeros, and 0 a minus where `=` joins it; `--` at the end says nothing.
+/// A number may have a plus and leading zeros, and 0 a minus where `=` joins it; `--` at the end changes nothing.
 #[tactic(auto, unfolding(crate::specs::Words::command_of, clap::proofs::OnLiterals::clap_on_literals))]
 pub fn other_forms_that_are_accepted()
     ensures run_plus { command_of (codes "run" ∷ codes "--workers" ∷ codes "+3" ∷ []) ≡ Some (Command.Run 3 1000000 false) }
@@ -172,7 +172,7 @@ pub fn other_first_words_are_refused()
         → first ≢ codes "why" → first ≢ codes "bench" → command_of (first ∷ rest) ≡ None }
 {}
 
-/// Every number in its range, spelled in decimal, gives just these values.
+/// Every number in its range, in decimal, gives just that value.
 pub fn numbers_are_read()
     ensures run { (workers limit : ℕ) → 1 ≤ workers → workers ≤ 4 → 1 ≤ limit → limit ≤ 100000000
         → command_of (codes "run" ∷ codes "--workers" ∷ decimal workers ∷ codes "--limit" ∷ decimal limit ∷ codes "--brief" ∷ [])
@@ -187,7 +187,7 @@ pub fn numbers_are_read()
         ≡ Some (Command.Bench seed ranks rounds) }
 {}
 
-/// What clap takes is never refused: None stands for the words in which clap finds a fault, and for no others.
+/// Words that clap accepts are never refused: None is the answer to words in which clap finds a fault, and to no others.
 pub fn words_without_a_fault_are_accepted()
     ensures { (words : List (List ℕ)) → fault_of the_app words ≡ [] → is_some (command_of words) ≡ true }
 {}

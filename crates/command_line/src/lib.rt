@@ -1,4 +1,4 @@
-//! The words of the command line.
+//! The words of the command line of `gaspirun`: what they ask for, as `clap` reads them, and laws of that.
 #![tactic(auto)]
 
 mod arguments;

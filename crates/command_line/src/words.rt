@@ -1,4 +1,4 @@
-//! The words of the command line, read.
+//! The words of the command line, read into a command. The private functions read what clap found in them.
 
 ghost use Rattle.std.specs.Prelude.{◌≡◌, ◌≢◌, ◌≤◌, IfOk, ℕ, Bool, Some, codes, map, None};
 ghost use Rattle.clap.specs.Words.{found_of, kind_of, rows_of, subcommand_rows_of};
@@ -10,60 +10,60 @@ use clap::{ArgMatches, Error};
 use gaspi_types::NoMemory;
 use std::alloc::Global;
 
-/// What the program is asked to do.
+/// What the program has to do.
 #[derive(Clone, Copy, Debug, PartialEq, Eq)]
 pub enum Command {
     /// `run`: run a world text on threads.
     Run {
         /// How many workers make the transfers, from 1 to 4.
         workers: u32,
-        /// How many looks a call that blocks has, from 1 to 100,000,000.
+        /// How many looks a call with `block` has, from 1 to 100,000,000.
         limit: u32,
-        /// Whether the transcripts are written in place of the journal.
+        /// Whether the transcripts are written, and not the journal.
         brief: bool,
     },
     /// `step`: run a world text on one thread.
     Step {
-        /// Where the generator starts.
+        /// The first number of the generator.
         seed: u32,
-        /// How many looks a call that blocks has, from 1 to 100,000,000.
+        /// How many looks a call with `block` has, from 1 to 100,000,000.
         limit: u32,
-        /// Whether the transcripts are written in place of the journal.
+        /// Whether the transcripts are written, and not the journal.
         brief: bool,
     },
-    /// `check`: replay a journal.
+    /// `check`: say whether a journal is legal.
     Check,
-    /// `why`: tell which writes a notification of a journal stands for.
+    /// `why`: say which writes a notification of a journal covers.
     Why {
         /// The place of the put of the notification, from 0.
         place: u64,
     },
-    /// `bench`: run a world that is made from a seed, and tell its numbers.
+    /// `bench`: run a world that is made from a seed, and write its bench numbers.
     Bench {
-        /// Where the generator starts.
+        /// The first number of the generator.
         seed: u32,
         /// How many ranks there are, from 1 to 16.
         ranks: u32,
-        /// How many rounds each rank makes, from 1 to 5,000.
+        /// How many bench rounds there are, from 1 to 5,000.
         rounds: u32,
     },
 }
 
-/// The number of an option.
+/// The number of the option with the name `id`, or None where it is not there.
 fn number(matches: &ArgMatches<'_>, id: &str) -> Option<u32>
     ensures { result ≡ number_at 32 id.now (rows_of (found_of matches.now)) }
 {
     matches.get_one::<u32>(id)
 }
 
-/// The place that `--place` names.
+/// The place after `--place`, or None where it is not there.
 fn place(matches: &ArgMatches<'_>) -> Option<u64>
     ensures { result ≡ number_at 64 (codes "place") (rows_of (found_of matches.now)) }
 {
     matches.get_one::<u64>("place")
 }
 
-/// Whether a flag was given.
+/// Whether the flag with the name `id` was given.
 fn flag(matches: &ArgMatches<'_>, id: &str) -> bool
     ensures { result ≡ flag_at id.now (rows_of (found_of matches.now)) }
 {
@@ -73,7 +73,7 @@ fn flag(matches: &ArgMatches<'_>, id: &str) -> bool
     }
 }
 
-/// What the words after `run` ask for.
+/// What the words after `run` ask for, or None where an option is not there.
 fn run(matches: &ArgMatches<'_>) -> Option<Command>
     ensures { result ≡ run_of (rows_of (found_of matches.now)) }
 {
@@ -87,7 +87,7 @@ fn run(matches: &ArgMatches<'_>) -> Option<Command>
     })
 }
 
-/// What the words after `step` ask for.
+/// What the words after `step` ask for, or None where an option is not there.
 fn step(matches: &ArgMatches<'_>) -> Option<Command>
     ensures { result ≡ step_of (rows_of (found_of matches.now)) }
 {
@@ -97,7 +97,7 @@ fn step(matches: &ArgMatches<'_>) -> Option<Command>
     Some(Command::Step { seed, limit, brief })
 }
 
-/// What the words after `why` ask for.
+/// What the words after `why` ask for, or None where an option is not there.
 fn why(matches: &ArgMatches<'_>) -> Option<Command>
     ensures { result ≡ why_of (rows_of (found_of matches.now)) }
 {
@@ -105,7 +105,7 @@ fn why(matches: &ArgMatches<'_>) -> Option<Command>
     Some(Command::Why { place })
 }
 
-/// What the words after `bench` ask for.
+/// What the words after `bench` ask for, or None where an option is not there.
 fn bench(matches: &ArgMatches<'_>) -> Option<Command>
     ensures { result ≡ bench_of (rows_of (found_of matches.now)) }
 {
@@ -119,7 +119,7 @@ fn bench(matches: &ArgMatches<'_>) -> Option<Command>
     })
 }
 
-/// What the subcommand that was used asks for.
+/// What the subcommand and its words ask for; None where there is none of these subcommands.
 fn asked(matches: &ArgMatches<'_>) -> Option<Command>
     ensures { result ≡ words_in (subcommand_rows_of matches.now) }
 {
@@ -139,7 +139,7 @@ fn asked(matches: &ArgMatches<'_>) -> Option<Command>
     }
 }
 
-/// The answer to words that clap refuses: none, or `NoMemory`.
+/// None for words that clap refuses, or `NoMemory` where it had no memory.
 fn refused(error: &Error) -> Result<Option<Command>, NoMemory>
     ensures { IfOk result (λ command. (command ≡ None) × (kind_of error.now ≢ ErrorKind.OutOfMemory)) }
 {
@@ -149,8 +149,8 @@ fn refused(error: &Error) -> Result<Option<Command>, NoMemory>
     }
 }
 
-/// What the words after the program's name ask for: `run [--workers N] [--limit N] [--brief]`,
-/// `step [--seed N] [--limit N] [--brief]`, `check`, `why --place K` or `bench --seed N --ranks R --rounds M`. None where the words are refused.
+/// What the words after the program's name ask for: `run [--workers N] [--limit N] [--brief]`, `step [--seed N] [--limit N]
+/// [--brief]`, `check`, `why --place K` or `bench --seed N --ranks R --rounds M`. None where the words are refused.
 pub fn read_words(alloc: Global, words: &[&str]) -> Result<Option<Command>, NoMemory>
     ensures command { IfOk result (λ command. command ≡ command_of (map (λ word. word.now) words.now)) }
     ensures workers { IfOk result (λ command. (workers limit : ℕ) (brief : Bool)

@@ -1,4 +1,4 @@
-//! Which writes a notification stands for.
+//! Which writes a notification covers, of three journals as texts.
 
 use call_journal::{CoveredWrite, Explanation, why};
 use gaspi_model::Why;
@@ -7,7 +7,7 @@ use gaspi_types::{Sequence, Shape};
 use std::alloc::Global;
 use std::test::Fail;
 
-/// A world of two ranks with a segment of 16 bytes each, of which the first has a thread.
+/// A world of two ranks with a segment of 16 bytes each; the first has a caller.
 fn shape(alloc: Global) -> Result<Shape, Fail> {
     let mut shape = Shape::new(alloc, 2, 1, 4, 8, 1, 100)?;
     shape.add_segment(0, 0, 16)?;
@@ -20,15 +20,15 @@ fn shape(alloc: Global) -> Result<Shape, Fail> {
 const PUT: &[u8] =
     b"journal 1\n0 called 0.0 write_notify 0 0 1 0 4 2 3 7 0 -> done\n1 take 0 0 1 0 ok\n2 put 0 0 1 0 ok\n3 take 0 0 1 1 ok\n4 put 0 0 1 1 ok\nend 5\n";
 
-/// A write that a purge drops, and a notification behind it that is put.
+/// A write that a purge removes, and a notification after it that is put.
 const PURGED: &[u8] =
     b"journal 1\n0 called 0.0 write 0 0 1 0 4 2 0 -> done\n1 called 0.0 purge 0 -> done\n2 called 0.0 notify 0 1 3 7 0 -> done\n3 take 0 0 1 1 ok\n4 put 0 0 1 1 ok\nend 5\n";
 
-/// A write and its notification, each put, and behind them a put of nothing.
+/// A write and its notification, each put, and after them a put of no entry.
 const ILLEGAL: &[u8] =
     b"journal 1\n0 called 0.0 write_notify 0 0 1 0 4 2 3 7 0 -> done\n1 take 0 0 1 0 ok\n2 put 0 0 1 0 ok\n3 take 0 0 1 1 ok\n4 put 0 0 1 1 ok\n5 put 0 0 1 2 ok\nend 6\n";
 
-/// Whether that is the answer for a place of a journal.
+/// Whether `wanted` is the explanation of a place of a journal.
 fn is_answer(alloc: Global, text: &[u8], place: u64, wanted: &Explanation) -> Result<bool, Fail> {
     let shape = shape(alloc)?;
     match read(alloc, text) {
@@ -40,7 +40,7 @@ fn is_answer(alloc: Global, text: &[u8], place: u64, wanted: &Explanation) -> Re
     }
 }
 
-/// Whether those writes are the answer for a place of a journal.
+/// Whether those writes are covered by the notification that is put at a place.
 fn are_writes(
     alloc: Global,
     text: &[u8],

@@ -1,4 +1,4 @@
-//! The texts of faults, which are printed nowhere.
+//! The texts of faults, which no command writes.
 
 use gaspi_texts::JournalFault;
 use gaspi_types::ShapeFault;
@@ -7,7 +7,7 @@ use std::alloc::Global;
 use std::fmt::Display;
 use std::test::Fail;
 
-/// Whether a fault has a text.
+/// Whether a fault has that text.
 fn has_text<F: Display + Drop>(alloc: Global, fault: F, text: &str) -> bool {
     match format!(in alloc; "{fault}") {
         Ok(written) => written.as_str() == text,

@@ -1,4 +1,4 @@
-//! Events and journals.
+//! Events copied, a journal as a text both ways, and rank journals merged.
 
 use crate::one_rank::{caller, notified, shape, taken};
 use call_journal::{Verdict, check};
@@ -22,7 +22,7 @@ fn events_are_copied(rt: HostRuntime) -> Result<(), Fail> {
     Ok(())
 }
 
-/// The journal of a notification and its take, whose room is taken first.
+/// The journal of a notification and its take, in memory that is taken first.
 fn two_events(alloc: Global) -> Result<Journal, NoMemory> {
     let mut reserved = ReservedJournal::with_capacity(alloc, 2)?;
     reserved.push(notified(caller()));
@@ -30,7 +30,7 @@ fn two_events(alloc: Global) -> Result<Journal, NoMemory> {
     Ok(reserved.into_sequence())
 }
 
-/// The text of a journal, or nothing where some event has not its own values; each event of a run has them.
+/// The text of a journal; of one in which a join has not the values of its collective, nothing. Each join of a run has them.
 fn text_of(alloc: Global, journal: &Journal) -> Result<Bytes, NoMemory> {
     let mut text = Bytes::new(alloc);
     if have_own_values(journal) {
@@ -39,7 +39,7 @@ fn text_of(alloc: Global, journal: &Journal) -> Result<Bytes, NoMemory> {
     Ok(text)
 }
 
-/// Whether a journal is written as a text.
+/// Whether a text is that of a journal.
 fn is_written_as(alloc: Global, journal: &Journal, text: &[u8]) -> bool {
     match text_of(alloc, journal) {
         Ok(written) => written.as_slice() == text,
@@ -47,7 +47,7 @@ fn is_written_as(alloc: Global, journal: &Journal, text: &[u8]) -> bool {
     }
 }
 
-/// Whether a text is that journal.
+/// Whether a text reads as that journal.
 fn is_read_from(alloc: Global, journal: &Journal, text: &[u8]) -> bool {
     match read(alloc, text) {
         Ok(again) => again == *journal,
@@ -55,7 +55,7 @@ fn is_read_from(alloc: Global, journal: &Journal, text: &[u8]) -> bool {
     }
 }
 
-/// Whether a journal is legal from a start.
+/// Whether a journal is legal in the world of a shape.
 fn is_legal(alloc: Global, shape: &Shape, journal: &Journal) -> bool {
     match check(alloc, shape, journal) {
         Ok(verdict) => verdict == Verdict::Legal,
@@ -63,9 +63,10 @@ fn is_legal(alloc: Global, shape: &Shape, journal: &Journal) -> bool {
     }
 }
 
+/// The text of the journal of two events.
 const TEXT: &[u8] = b"journal 1\n0 called 0.0 notify 0 0 3 7 0 -> done\n1 take 0 0 0 0 ok\nend 2\n";
 
-/// Whether that journal has its text both ways, and is legal.
+/// Whether the journal of two events has its text both ways, and is legal.
 fn is_told(alloc: Global) -> Result<bool, Fail> {
     let shape = shape(alloc)?;
     let journal = two_events(alloc)?;
@@ -114,7 +115,7 @@ fn three_events(alloc: Global) -> Result<Journal, NoMemory> {
     Ok(reserved.into_sequence())
 }
 
-/// Whether rank journals are merged by place, and not put one behind another.
+/// Whether rank journals are merged by place, and not one after another.
 fn is_merged(alloc: Global) -> Result<bool, NoMemory> {
     Ok(three_merged(alloc)? == three_events(alloc)?)
 }

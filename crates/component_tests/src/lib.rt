@@ -1,8 +1,11 @@
-//! Tests alone of the crates below the commands: mostly of public calls that no command makes, each with ample memory, and of the
-//! texts of faults. What the commands call is tested by the tables of whole runs in `tests/`, with every byte compared.
+//! Tests alone, of the crates below the commands: mostly of public calls that no command makes, each with enough memory, and of
+//! the texts of faults. What the commands call is tested by the tables of whole runs in `tests/`, with every byte compared.
 //!
-//! A crate with a test is proved twice, so these crates have theirs here. Calls and values stand in small functions without clauses,
-//! so that the proof of a test does not carry them; one that owns much has few ways out, since each drops it all.
+//! A crate with a test is proved twice, so these crates have theirs here. Calls and values are made by small functions without
+//! clauses, so that the proof of a test need not carry them. A function that owns much has few returns, since each of them
+//! drops it all.
+//!
+//! Helpers answer true where what their name says is so; a name as `takes` or `fills` says that the helper also does it.
 #![tactic(auto)]
 
 #[cfg(test)]

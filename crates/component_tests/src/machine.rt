@@ -1,4 +1,4 @@
-//! Calls of the machine that no command makes.
+//! Calls of the machine in memory that no command makes: of its transfers, its ranks, and looks at calls.
 
 use crate::one_rank::{caller, notified, shape};
 use gaspi_types::{
@@ -8,13 +8,13 @@ use plain_machine::Machine;
 use std::alloc::Global;
 use std::test::Fail;
 
-/// The machine at its start.
+/// The machine of the world of one rank, at its start.
 fn start(alloc: Global) -> Result<Machine, Fail> {
     let shape = shape(alloc)?;
     Ok(Machine::start(alloc, &shape)?)
 }
 
-/// Whether an event is a step, which is made then.
+/// Whether an event is a step, which is then made.
 fn steps(alloc: Global, machine: &mut Machine, event: &Event) -> bool {
     machine.step(alloc, event).is_ok()
 }
@@ -26,7 +26,7 @@ fn lists_a_take(alloc: Global, machine: &Machine) -> Result<bool, NoMemory> {
     Ok(takes && transfers.len() == 1)
 }
 
-/// Whether a notification makes a take come next, where none does before.
+/// Makes a notification. Whether its take is then the next transfer, and none was before.
 fn brings_a_take(alloc: Global, machine: &mut Machine) -> bool {
     let before = lists_a_take(alloc, machine);
     let stepped = steps(alloc, machine, &notified(caller()));
@@ -39,7 +39,7 @@ fn has_one_rank(machine: &Machine) -> bool {
     machine.has_rank(RankId::of(0)) && !machine.has_rank(RankId::of(1))
 }
 
-/// Whether both hold of the machine at its start.
+/// Whether transfers and ranks are right on the machine at its start.
 fn lists_transfers(alloc: Global) -> Result<bool, Fail> {
     let mut machine = start(alloc)?;
     Ok(brings_a_take(alloc, &mut machine) && has_one_rank(&machine))
@@ -51,7 +51,7 @@ fn transfers_are_listed(rt: HostRuntime) -> Result<(), Fail> {
     Ok(())
 }
 
-/// Whether a look at a call answers value 0, where its caller has a section.
+/// Whether a look at a call finds the value 0, and its caller is declared.
 fn answers_nothing(
     alloc: Global,
     machine: &Machine,
@@ -65,7 +65,7 @@ fn answers_nothing(
     Ok(matches!(ready, Ready::Reply(Reply::Value(0))))
 }
 
-/// Whether a look finds that a call may join its group, where its caller has a section.
+/// Whether a look finds that a call may join, and its caller is declared.
 fn joins(
     alloc: Global,
     machine: &Machine,
@@ -79,7 +79,7 @@ fn joins(
     Ok(machine.look(alloc, &invocation)?.is_join())
 }
 
-/// Whether a reset is answered, and joins nothing.
+/// Whether a reset is answered, and may not join.
 fn answers_a_reset(alloc: Global, machine: &Machine) -> bool {
     let reset = Call::Reset(Reset { seg: 0, note: 3 });
     let answered = answers_nothing(alloc, machine, caller(), &reset);
@@ -93,7 +93,7 @@ fn joins_a_barrier(alloc: Global, machine: &Machine) -> bool {
     matches!(joins(alloc, machine, caller(), &barrier), Ok(true))
 }
 
-/// Whether both hold of the machine at its start.
+/// Whether a reset and a barrier are looked at rightly on the machine at its start.
 fn answers_calls(alloc: Global) -> Result<bool, Fail> {
     let machine = start(alloc)?;
     Ok(answers_a_reset(alloc, &machine) && joins_a_barrier(alloc, &machine))

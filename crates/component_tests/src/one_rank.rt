@@ -1,4 +1,4 @@
-//! A world of one rank with a segment of 16 bytes and one thread, which notifies its own rank.
+//! A world of one rank with a segment of 16 bytes and one caller, which notifies its own rank; for several files of tests.
 
 use gaspi_types::{
     Call, CallerId, Event, Notify, Outcome, QueueId, RankId, Reply, Shape, ThreadId,
@@ -6,7 +6,7 @@ use gaspi_types::{
 use std::alloc::Global;
 use std::test::Fail;
 
-/// The world.
+/// The shape of this world.
 pub fn shape(alloc: Global) -> Result<Shape, Fail> {
     let mut shape = Shape::new(alloc, 1, 1, 4, 8, 4, 1000)?;
     shape.add_segment(0, 0, 16)?;
@@ -14,7 +14,7 @@ pub fn shape(alloc: Global) -> Result<Shape, Fail> {
     Ok(shape)
 }
 
-/// Its only caller.
+/// The only caller of this world.
 pub fn caller() -> CallerId {
     CallerId {
         rank: RankId::of(0),
@@ -22,7 +22,7 @@ pub fn caller() -> CallerId {
     }
 }
 
-/// The call of a notification of the rank to itself, on slot 3.
+/// The event of a notification of the rank to itself, for slot 3.
 pub fn notified(caller: CallerId) -> Event {
     let notify = Notify {
         rseg: 0,
@@ -34,7 +34,7 @@ pub fn notified(caller: CallerId) -> Event {
     Event::Called(caller, Call::Notify(notify), Reply::Done)
 }
 
-/// Its take.
+/// The event of the take of that notification, as if a rank had posted it to itself.
 pub fn taken(rank: RankId) -> Event {
     Event::Take(rank, QueueId::of(0), rank, 0, Outcome::Applied)
 }

@@ -1,4 +1,4 @@
-//! Scripts that end out of memory, and where a journal begins behind a world text.
+//! A script that is stopped where memory runs out, and where a journal begins behind a world text.
 
 use crate::one_rank::caller;
 use gaspi_types::NoMemory;
@@ -8,6 +8,7 @@ use rank_script::{
 use std::alloc::Global;
 use std::test::Fail;
 
+/// A world text with one script of two lines.
 const ONE_RANK: &[u8] =
     b"world 1 1 1 1 1 9\nrank 0 thread 0\nagain 2 reset 0 3 = value 7\nwait 0 block\n";
 
@@ -17,7 +18,7 @@ fn scripts_of(alloc: Global, text: &[u8]) -> Result<Scripts, ScriptFault> {
     Ok(scripts)
 }
 
-/// How the script of the first caller ends where there is no memory for its first line, and which line that is.
+/// The outcome of the script of the first caller where memory runs out at its first line, and which line that is.
 fn stopped(alloc: Global, scripts: &Scripts) -> Result<Option<(u64, RunOutcome)>, NoMemory> {
     let Some(script) = scripts.of(caller()) else {
         return Ok(None);
@@ -44,7 +45,7 @@ fn a_run_is_stopped_without_memory(rt: HostRuntime) -> Result<(), Fail> {
     Ok(())
 }
 
-/// Where the journal of an input begins.
+/// Where the journal of an input begins: the byte, and the line.
 fn place_of(alloc: Global, input: &[u8]) -> Result<Option<(u64, u64)>, ScriptFault> {
     let (_shape, _scripts, place) = read_input(alloc, input)?;
     Ok(place)

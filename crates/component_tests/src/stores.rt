@@ -1,5 +1,5 @@
-//! The parts of a runtime on which `run` stands: segments, slots, drafts, queues, inboxes, groups and their rounds,
-//! and the nodes that are made of them.
+//! The stores of which `run` is made: segments, slots, drafts, queues, inboxes, groups and their rounds, and the nodes that are
+//! made of them.
 
 mod drafts;
 mod driven_nodes;

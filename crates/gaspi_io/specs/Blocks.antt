@@ -2,7 +2,7 @@
 use Rattle.std.specs.Prelude.{◌≡◌, List, ◌++◌, ℕ, Option}
 use Rattle.gaspi_io.specs.Sink.{with_more}
 
--- what the sink has got of it since then, and behind it what the block holds
+-- of a text a prefix was written to a sink that held `old`, and the rest so far is in a block
 pub record IsOnItsWay (old : Option (List ℕ)) (text : List ℕ) (new : Option (List ℕ)) (block : List ℕ) : Type 0 where
   pub written : List ℕ
   pub got : new ≡ with_more old written

@@ -26,6 +26,6 @@ pub record SureSinkState : Type 0 where
   pub kept : List ℕ
   pub room : ℕ
 
--- the call of this number is one of those that fail
+-- the read or write of this number is one of those that fail
 abbrev pub is_failing : List ℕ → ℕ → Bool
 is_failing failing call = list_any (λ c. c == call) failing

@@ -1,7 +1,7 @@
 -- What a sink holds, where it tells it.
 use Rattle.std.specs.Prelude.{◌≡◌, ℕ, ◌<◌, List, ◌++◌, length, take, Option, Some, None}
 
--- the bytes held, with more at their end; what tells nothing goes on telling nothing
+-- the bytes held, with more at their end; a sink that does not tell them goes on so
 abbrev pub with_more : Option (List ℕ) → List ℕ → Option (List ℕ)
 with_more None more = None
 with_more (Some held) more = Some (held ++ more)

@@ -2,12 +2,12 @@
 use Rattle.std.specs.Prelude.{◌≡◌, ℕ, ◌<◌, ◌≤◌, List, [], ◌++◌, length, take, drop, Option, Some, None}
 use Rattle.std.specs.Option.{ForSome}
 
--- what is left after n bytes were taken from the front; what tells nothing goes on telling nothing
+-- what is left after n bytes were taken from the front; a source that does not tell them goes on so
 abbrev pub without : Option (List ℕ) → ℕ → Option (List ℕ)
 without None n = None
 without (Some bytes) n = Some (drop n bytes)
 
--- the first n of the bytes stand at the front of the buffer, whose other bytes stay
+-- the first n of the bytes are at the front of the buffer, whose other bytes stay
 abbrev pub PutsPrefix : List ℕ → ℕ → List ℕ → List ℕ → Type 0
 PutsPrefix bytes n old new = new ≡ take n bytes ++ drop n old
 
@@ -15,7 +15,7 @@ PutsPrefix bytes n old new = new ≡ take n bytes ++ drop n old
 abbrev pub EndsOnly : List ℕ → ℕ → List ℕ → Type 0
 EndsOnly bytes n buffer = n ≡ 0 → 0 < length buffer → bytes ≡ []
 
--- at most so many bytes were taken, off the front of what was left
+-- at most so many bytes were read, from the front of what was left
 pub record TakesAtMost (most : ℕ) (old new : Option (List ℕ)) : Type 0 where
   pub count : ℕ
   pub within : count ≤ most

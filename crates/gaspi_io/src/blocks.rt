@@ -1,4 +1,4 @@
-//! A text that goes to a sink block by block, so that it is never held whole.
+//! A text that goes to a sink block by block, so that it is never in memory as a whole.
 
 ghost use Rattle.std.specs.Prelude.{◌≡◌, ℕ, List, Option, [], OnOk, OnErr};
 ghost use Rattle.gaspi_io.specs.Blocks.{IsOnItsWay};
@@ -11,18 +11,19 @@ use crate::sink::Sink;
 use crate::write::write_all;
 use gaspi_types::{Bytes, NoMemory};
 
-/// Why a text was not written whole.
+/// Why a text was not written whole. A prefix of it may be written.
 #[derive(Clone, Copy, Debug, PartialEq, Eq)]
 pub enum WriteStop {
     /// The sink failed.
     Fault,
-    /// There is no memory for the rest of the text.
+    /// Memory ran out for the rest of the text.
     NoMemory,
 }
 
 impl From<Failed> for WriteStop {
     ghost from_gives = { λ _ stop. stop ≡ stops.Fault };
 
+    /// For the operator `?`, where the sink failed.
     fn from(_failed: Failed) -> WriteStop {
         WriteStop::Fault
     }
@@ -31,6 +32,7 @@ impl From<Failed> for WriteStop {
 impl From<NoMemory> for WriteStop {
     ghost from_gives = { λ _ stop. stop ≡ stops.NoMemory };
 
+    /// For the operator `?`, where memory runs out.
     fn from(_error: NoMemory) -> WriteStop {
         WriteStop::NoMemory
     }
@@ -39,8 +41,8 @@ impl From<NoMemory> for WriteStop {
 /// How many bytes fill a block.
 pub const BLOCK_BYTES: usize = 65_536;
 
-/// Writes all that a block holds, and empties it. Its memory stays for what comes next. Where the sink fails, it has taken a front
-/// part of the block, which is shorter.
+/// Writes all bytes of a block, and empties the block, of which the memory stays. Where the sink fails, it has got a prefix of
+/// the block, which is shorter, and what the block has is not said.
 pub fn write_block<K: Sink>(sink: &mut K, block: &mut Bytes) -> Result<(), Failed>
     ensures all { OnOk result (K.held sink.new ≡ with_more (K.held sink.old) block.old) }
     ensures emptied { OnOk result (block.new ≡ []) }
@@ -53,8 +55,9 @@ pub fn write_block<K: Sink>(sink: &mut K, block: &mut Bytes) -> Result<(), Faile
     Ok(())
 }
 
-/// Writes all that a block holds, and empties it, where it is full, and does nothing where it is not. Where the sink fails, it has
-/// taken a prefix of the block, which is shorter.
+/// Writes all bytes of a block and empties the block, where it has `BLOCK_BYTES` bytes or more, and else does nothing. A text
+/// that was on its way stays so. Where the sink fails, it has got a prefix of the block, which is shorter, and what the block
+/// has is not said.
 pub fn write_full_block<K: Sink>(sink: &mut K, block: &mut Bytes) -> Result<(), Failed>
     ensures way { (old : Option (List ℕ)) (text : List ℕ) → IsOnItsWay old text (K.held sink.old) block.old → OnOk result (IsOnItsWay old text (K.held sink.new) block.new) }
     ensures front { OnErr result (AddsPrefix block.old (K.held sink.old) (K.held sink.new)) }

@@ -1,4 +1,9 @@
-//! Where bytes come from and where they go: sources and sinks, in memory and over the standard streams.
+//! Where bytes are read from and where they go: sources and sinks, in memory and of the system; and to read all, to write all,
+//! to write block by block.
+//!
+//! A source or a sink *tells* its bytes where contracts see them: the bytes that are `left` in a source, those that a sink has
+//! `held`. Each counts its `faults`. A count of faults, reads or writes that is at `u64::MAX` stays there. The bytes of one
+//! read or write are a piece.
 #![tactic(auto)]
 
 mod blocks;

@@ -1,4 +1,4 @@
-//! A sink in memory, which fails at the calls that it is told to fail at.
+//! A sink in memory, which fails at the writes that a test chose, and where memory runs out.
 
 ghost use Rattle.std.specs.Prelude.{◌≡◌, ◌≤◌, ◌<◌, ◌+◌, ◌++◌, ◌⊎◌, [], Some, length, min, take, IsTrue, IsErr, IfOk, OnErr};
 ghost use Rattle.std.specs.Vec.{vec_capacity};
@@ -11,9 +11,9 @@ use gaspi_types::{Bytes, NoMemory, Sequence};
 use std::alloc::Global;
 use std::marker::Model;
 
-/// A sink that holds what is written in memory. Contracts see it as a `SinkState`.
+/// A sink that holds in memory what is written to it. Contracts see it as a `SinkState`.
 ///
-/// A write that finds no memory for its bytes is a fault, as is one whose number is on the list.
+/// A write fails where its number was chosen, or where memory for its bytes runs out.
 #[derive(Debug, Drop)]
 pub struct MemSink {
     bytes: Vec<u8>,
@@ -39,7 +39,7 @@ impl Model for MemSink {
 }
 
 impl MemSink {
-    /// A sink that holds nothing. A write takes the whole piece, and none fails unless there is no memory left.
+    /// A sink that holds nothing. A write takes its whole piece, and fails only where memory runs out.
     pub fn new(alloc: Global) -> MemSink
         ensures { result ≡ record {
           held = [];
@@ -53,7 +53,7 @@ impl MemSink {
         MemSink::over(alloc, Vec::new(alloc))
     }
 
-    /// The same with room for so many bytes, up to which no write wants memory.
+    /// The same, with memory for `room` bytes, up to which no write takes memory.
     pub fn with_capacity(alloc: Global, room: usize) -> Result<MemSink, NoMemory>
         ensures { IfOk result (λ sink. sink ≡ record {
           held = [];
@@ -67,7 +67,7 @@ impl MemSink {
         Ok(MemSink::over(alloc, Vec::with_capacity(alloc, room)?))
     }
 
-    /// Fails, and counts the fault.
+    /// Counts a fault, and answers that the write failed.
     fn fail(&mut self) -> Result<usize, Failed>
         ensures failed { IsErr result }
         ensures counted { self.new ≡ record self.old { faults = one_more self.old.faults } }
@@ -78,7 +78,7 @@ impl MemSink {
         Err(Failed)
     }
 
-    /// A sink that holds these bytes.
+    /// A sink that holds these bytes, and has no chosen write; for `new` and `with_capacity`.
     fn over(alloc: Global, bytes: Vec<u8>) -> MemSink
         ensures { result ≡ record {
           held = bytes.items;
@@ -98,7 +98,7 @@ impl MemSink {
         }
     }
 
-    /// From here on a write takes at most so many bytes.
+    /// From now on a write takes at most `most` bytes of its piece.
     pub fn set_piece(&mut self, most: usize)
         requires { 0 < most }
         ensures { self.new ≡ record self.old { most = most } }
@@ -106,7 +106,7 @@ impl MemSink {
         self.most = most;
     }
 
-    /// From here on the writes of these numbers fail. The first write has the number 0.
+    /// From now on the writes with these numbers fail, and no others that were chosen before. The first write has the number 0.
     pub fn set_failing(&mut self, calls: Sequence<u64>)
         ensures { self.new ≡ record self.old { failing = calls } }
     {
@@ -120,7 +120,7 @@ impl MemSink {
         self.bytes.as_slice()
     }
 
-    /// The bytes held.
+    /// The bytes held. No memory is taken.
     pub fn into_bytes(self) -> Bytes
         ensures { result ≡ self.held }
     {
@@ -128,7 +128,7 @@ impl MemSink {
         Sequence::from_vec(bytes)
     }
 
-    /// How often it has failed, standing still at `u64::MAX`.
+    /// How many writes have failed.
     pub fn faults(&self) -> u64
         ensures { result ≡ self.now.faults }
     {
@@ -141,8 +141,8 @@ impl Sink for MemSink {
 
     ghost faults = { λ s. s.faults };
 
-    /// The write fails where its number is one of those that fail, or there is no memory beyond the room. Numbers of
-    /// writes stand still at `u64::MAX`.
+    /// Adds the first bytes of the piece to those held. It fails where the number of this write was chosen, or where memory
+    /// runs out beyond the room; then the bytes held stay.
     fn write(&mut self, piece: &[u8]) -> Result<usize, Failed>
         ensures failing { IsTrue (is_failing self.old.failing self.old.calls) → IsErr result }
         ensures only { OnErr result (IsTrue (is_failing self.old.failing self.old.calls)

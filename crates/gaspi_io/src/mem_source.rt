@@ -1,4 +1,4 @@
-//! A source in memory, which fails at the calls that it is told to fail at.
+//! A source in memory, which fails at the reads that a test chose.
 
 ghost use Rattle.std.specs.Prelude.{◌≡◌, ◌≤◌, ◌<◌, [], Some, length, min, drop, is_err, IfOk, OnErr};
 ghost use Rattle.gaspi_io.specs.Faults.{HasCause, one_more};
@@ -37,7 +37,7 @@ impl Model for MemSource {
 }
 
 impl MemSource {
-    /// A source of these bytes. A read gives as many as it can, and none fails.
+    /// A source of these bytes. A read gives as many as it can, and none fails. No memory is taken.
     pub fn new(bytes: Bytes) -> MemSource
         ensures { result ≡ record {
           left = bytes;
@@ -59,7 +59,7 @@ impl MemSource {
         }
     }
 
-    /// From here on a read gives at most so many bytes.
+    /// From now on a read gives at most `most` bytes.
     pub fn set_piece(&mut self, most: usize)
         requires { 0 < most }
         ensures { self.new ≡ record self.old { most = most } }
@@ -67,14 +67,14 @@ impl MemSource {
         self.most = most;
     }
 
-    /// From here on the reads of these numbers fail. The first read has the number 0.
+    /// From now on the reads with these numbers fail, and no others that were chosen before. The first read has the number 0.
     pub fn set_failing(&mut self, calls: Sequence<u64>)
         ensures { self.new ≡ record self.old { failing = calls } }
     {
         self.failing = calls;
     }
 
-    /// How often it has failed, standing still at `u64::MAX`.
+    /// How many reads have failed.
     pub fn faults(&self) -> u64
         ensures { result ≡ self.now.faults }
     {
@@ -87,8 +87,8 @@ impl Source for MemSource {
 
     ghost faults = { λ s. s.faults };
 
-    /// The read fails where its number is one of those that fail, and nowhere else. Numbers of reads stand still
-    /// at `u64::MAX`.
+    /// Puts the next bytes at the front of the buffer. It fails exactly where the number of this read was chosen; then the
+    /// bytes left and the buffer stay.
     fn read(&mut self, buf: &mut [u8]) -> Result<usize, Failed>
         ensures failing { is_err result ≡ is_failing self.old.failing self.old.calls }
         ensures given { IfOk result (λ n.

@@ -1,4 +1,4 @@
-//! Reading a source to its end.
+//! To read all that a source has left. `read_piece` makes one of its reads.
 
 ghost use Rattle.std.specs.Prelude.{◌≡◌, ◌≤◌, ◌<◌, ◌+◌, ◌-◌, Some, Ok, true, false, [], length, IfOk, OnOk, IsErrOf};
 ghost use Rattle.std.specs.Option.{ForSome};
@@ -11,20 +11,21 @@ use crate::source::Source;
 use gaspi_types::{Bytes, NoMemory};
 use std::alloc::Global;
 
-/// Why a source was not read to its end.
+/// Why a source was not read to its end. What was read is lost.
 #[derive(Clone, Copy, Debug, PartialEq, Eq)]
 pub enum ReadStop {
     /// The source failed.
     Fault,
-    /// More bytes came than may.
+    /// There were more bytes than allowed.
     Long,
-    /// There is no memory for the bytes.
+    /// Memory ran out for the bytes.
     NoMemory,
 }
 
 impl From<Failed> for ReadStop {
     ghost from_gives = { λ _ stop. stop ≡ stops.Fault };
 
+    /// For the operator `?`, where the source failed.
     fn from(_failed: Failed) -> ReadStop {
         ReadStop::Fault
     }
@@ -33,12 +34,13 @@ impl From<Failed> for ReadStop {
 impl From<NoMemory> for ReadStop {
     ghost from_gives = { λ _ stop. stop ≡ stops.NoMemory };
 
+    /// For the operator `?`, where memory runs out.
     fn from(_error: NoMemory) -> ReadStop {
         ReadStop::NoMemory
     }
 }
 
-/// Reads a source to its end. Where more than `most` bytes come, it stops at the one past them.
+/// All bytes that a source has left, which are at most `most`. Where there are more, it stops at the first one past them.
 pub fn read_all<S: Source>(alloc: Global, source: &mut S, most: u64) -> Result<Bytes, ReadStop>
     ensures within { IfOk result (λ bytes. length bytes ≤ most) }
     ensures all { IfOk result (λ bytes. ForSome (S.left source.old) (λ told. bytes ≡ told)) }
@@ -52,11 +54,11 @@ pub fn read_all<S: Source>(alloc: Global, source: &mut S, most: u64) -> Result<B
     ensures cause { IsErrOf result ReadStop.Fault
         → HasCause (S.faults source.old) (S.faults source.new) }
 
-    // Whatever the answer, the source lost no more than that from its front.
+    // Whatever the answer, the source has lost at most that many bytes from its front.
     ensures taken { TakesAtMost (most + 1) (S.left source.old) (S.left source.new) }
     ensures counted { S.faults source.old ≤ S.faults source.new }
 
-    // Unless it failed, its count of faults stands as it was.
+    // Unless it failed, its count of faults is as it was.
     ensures still { OnOk result (S.faults source.new ≡ S.faults source.old) }
     ensures still_long { IsErrOf result ReadStop.Long → S.faults source.new ≡ S.faults source.old }
     ensures still_memory { IsErrOf result ReadStop.NoMemory → S.faults source.new ≡ S.faults source.old }
@@ -69,7 +71,8 @@ pub fn read_all<S: Source>(alloc: Global, source: &mut S, most: u64) -> Result<B
     }
 }
 
-/// Reads one piece and adds it to the bytes. Says whether there was one.
+/// Adds the next piece of a source to the bytes, and answers whether there was one. It asks for at most one byte more than
+/// `most` allows, and stops where that one comes.
 fn read_piece<S: Source>(source: &mut S, most: u64, bytes: &mut Bytes) -> Result<bool, ReadStop>
     requires { length bytes.old ≤ most }
     ensures within { OnOk result (length bytes.new ≤ most) }

@@ -1,4 +1,4 @@
-//! Where bytes go.
+//! The trait of all sinks: where bytes are written to.
 
 ghost use Rattle.std.specs.Prelude.{◌≤◌, ◌<◌, ◌≡◌, ℕ, List, Option, length, take, IfOk, OnOk, OnErr};
 ghost use Rattle.gaspi_io.specs.Faults.{HasCause};
@@ -6,15 +6,16 @@ ghost use Rattle.gaspi_io.specs.Sink.{with_more};
 
 use crate::faults::Failed;
 
-/// Where bytes go. A sink counts its faults: a call that is answered `Failed` has counted one, and no other call has.
+/// Where bytes are written to. A write that is answered `Failed` has counted one fault, and no other has.
 pub trait Sink {
-    /// The bytes that it holds, where it tells them. It tells them always or never.
+    /// The bytes that it holds, or None where it does not tell them. It tells them always or never.
     ghost held: { Self → Option (List ℕ) };
 
-    /// How often it has failed, standing still at `u64::MAX`.
+    /// How many of its writes have failed.
     ghost faults: { Self → ℕ };
 
-    /// Takes bytes from the front of the piece, at least one where there is one, and says how many.
+    /// Takes the first bytes of the piece, at least one where there is one, and answers how many. Where it fails it has taken
+    /// none.
     fn write(&mut self, piece: &[u8]) -> Result<usize, Failed>
         ensures count { IfOk result (λ n. n ≤ length piece.now) }
         ensures some { IfOk result (λ n. 0 < length piece.now → 0 < n) }

@@ -1,4 +1,4 @@
-//! Where bytes come from.
+//! The trait of all sources: where bytes are read from.
 
 ghost use Rattle.std.specs.Prelude.{◌≤◌, ◌≡◌, ℕ, List, Option, length, IfOk, OnOk, OnErr};
 ghost use Rattle.std.specs.Option.{ForSome};
@@ -7,18 +7,17 @@ ghost use Rattle.gaspi_io.specs.Source.{without, PutsPrefix, EndsOnly};
 
 use crate::faults::Failed;
 
-/// Where bytes come from. A source counts its faults: a call that is answered `Failed` has counted one, and no other
-/// call has.
-/// After a fault the next read goes on where the last that succeeded ended.
+/// Where bytes are read from. A read that is answered `Failed` has counted one fault, and no other has. After a fault the next
+/// read goes on where the last one that succeeded ended.
 pub trait Source {
-    /// The bytes that are left, where it tells them. It tells them always or never.
+    /// The bytes that are not read yet, or None where it does not tell them. It tells them always or never.
     ghost left: { Self → Option (List ℕ) };
 
-    /// How often it has failed, standing still at `u64::MAX`.
+    /// How many of its reads have failed.
     ghost faults: { Self → ℕ };
 
-    /// Puts the next bytes at the front of the buffer, and says how many. Into a buffer that isn't empty, 0 is the
-    /// end of the bytes.
+    /// Puts the next bytes at the front of the buffer, and answers how many. Into a buffer that is not empty, 0 is the end of
+    /// the bytes.
     fn read(&mut self, buf: &mut [u8]) -> Result<usize, Failed>
         ensures count { IfOk result (λ n. n ≤ length buf.old) }
 

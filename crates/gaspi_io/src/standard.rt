@@ -1,5 +1,4 @@
-//! Standard input and output. What a terminal, a pipe or a file gives or takes is outside of every contract, so these
-//! tell no bytes.
+//! Standard input and output. No contract can say what a terminal, a pipe or a file gives or takes, so these tell no bytes.
 
 ghost use Rattle.std.specs.Prelude.{◌≡◌, ◌≤◌, ◌+◌, ◌<◌, None, [], length, IfOk, OnErr, OnOk, IsOk};
 ghost use Rattle.std.specs.Io.KnownBytes.{ReadConsumes, WriteAppends};
@@ -11,11 +10,10 @@ use crate::source::Source;
 use std::io::{ErrorKind, Read, Write};
 use std::marker::Model;
 
-/// How often a call is made at most, where signals interrupt it, before that counts as a fault.
+/// How often one read or write is tried where signals interrupt it, before that is a fault.
 const TRIES: u32 = 64;
 
-/// A source over a reader of the system, as standard input. It tells no bytes. Contracts see it as
-/// a `Stream`.
+/// A source over a reader of the system, as standard input. It tells no bytes. Contracts see it as a `Stream`.
 ///
 /// ```text
 /// let mut source = StdSource::new(rt.reader());
@@ -49,7 +47,7 @@ impl<R: Read + Drop> Source for StdSource<R> {
 
     ghost faults = { λ s. s.faults };
 
-    /// One read of the system. A read that a signal interrupts is made again, 64 times at most in all.
+    /// One read of the system. A read that a signal interrupts is tried again, 64 times at most in all.
     fn read(&mut self, buf: &mut [u8]) -> Result<usize, Failed>
         ensures count { IfOk result (λ n. n ≤ length buf.old) }
 
@@ -72,7 +70,7 @@ impl<R: Read + Drop> Source for StdSource<R> {
     }
 }
 
-/// One read.
+/// One read of a reader, tried again where a signal interrupts it. Whatever else fails is a fault, which is not counted here.
 fn read_once<R: Read>(reader: &mut R, buf: &mut [u8]) -> Result<usize, Failed>
     ensures count { IfOk result (λ n. n ≤ length buf.old) }
     ensures passed { ReadConsumes (R.remaining reader.old) (R.remaining reader.new) result buf.new }
@@ -90,8 +88,7 @@ fn read_once<R: Read>(reader: &mut R, buf: &mut [u8]) -> Result<usize, Failed>
     Err(Failed)
 }
 
-/// A sink over a writer of the system, as standard output. It tells no bytes. Contracts see it as
-/// a `Stream`.
+/// A sink over a writer of the system, as standard output. It tells no bytes. Contracts see it as a `Stream`.
 ///
 /// ```text
 /// let mut sink = StdSink::new(io::writer(&rt));
@@ -127,8 +124,8 @@ impl<W: Write + Drop> Sink for StdSink<W> {
 
     ghost faults = { λ s. s.faults };
 
-    /// One write of the system. A write that a signal interrupts is made again, 64 times at most in all, and one that takes
-    /// nothing of a piece that isn't empty is a fault. For an empty piece there is no write.
+    /// One write of the system. A write that a signal interrupts is tried again, 64 times at most in all, and one that takes
+    /// nothing of a piece that is not empty is a fault. For an empty piece there is no write.
     fn write(&mut self, piece: &[u8]) -> Result<usize, Failed>
         ensures count { IfOk result (λ n. n ≤ length piece.now) }
         ensures some { IfOk result (λ n. 0 < length piece.now → 0 < n) }
@@ -156,7 +153,8 @@ impl<W: Write + Drop> Sink for StdSink<W> {
     }
 }
 
-/// One write. It fails where it takes nothing.
+/// One write of a writer, tried again where a signal interrupts it. It fails where nothing was taken, or where anything else
+/// failed; the fault is not counted here.
 fn write_once<W: Write>(writer: &mut W, piece: &[u8]) -> Result<usize, Failed>
     ensures count { IfOk result (λ n. n ≤ length piece.now) }
     ensures some { IfOk result (λ n. 0 < n) }

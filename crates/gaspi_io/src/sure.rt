@@ -44,7 +44,7 @@ impl Source for SureSource {
 
     ghost faults = { λ _. 0 };
 
-    /// Gives as many bytes as there are and the buffer holds.
+    /// Puts as many bytes as are left, and as the buffer has room for, at its front.
     fn read(&mut self, buf: &mut [u8]) -> Result<usize, Failed>
         ensures never_fails { result ≡ Ok (min (length self.old) (length buf.old)) }
         ensures front { PutsPrefix self.old (min (length self.old) (length buf.old)) buf.old buf.new }
@@ -60,9 +60,9 @@ impl Source for SureSource {
 
 /// A sink in memory that never fails. Contracts see it as a `SureSinkState`.
 ///
-/// It is made with room for so many bytes, takes every byte that is written, and keeps those that fit into its room:
-/// the front of all that was written. Memory is bounded, so no sink can both hold all that it takes and never fail.
-/// This one never fails, and so it doesn't tell its bytes as a sink: its own contract says which it keeps.
+/// It has room for a number of bytes, takes every byte that is written, and keeps those that fit into its room: a prefix of all
+/// that was written. Memory is bounded, so no sink can hold all that it takes and never fail. So this one does not tell its
+/// bytes as a sink; its own contract says which it keeps.
 #[derive(Debug, Drop)]
 pub struct SureSink {
     bytes: Vec<u8>,
@@ -78,7 +78,7 @@ impl Model for SureSink {
 }
 
 impl SureSink {
-    /// A sink that keeps nothing yet, with room for so many bytes.
+    /// A sink that keeps nothing yet, with room for `room` bytes.
     pub fn with_capacity(alloc: Global, room: usize) -> Result<SureSink, NoMemory>
         ensures { IfOk result (λ sink. sink ≡ record { kept = []; room = room }) }
     {
@@ -95,7 +95,7 @@ impl SureSink {
         self.bytes.as_slice()
     }
 
-    /// The bytes kept.
+    /// The bytes kept. No memory is taken.
     pub fn into_bytes(self) -> Bytes
         ensures { result ≡ self.kept }
     {

@@ -1,4 +1,4 @@
-//! Writing all of a piece.
+//! To write all of a piece, by as many writes as that takes.
 
 ghost use Rattle.std.specs.Prelude.{◌≡◌, ◌≤◌, OnOk, OnErr};
 ghost use Rattle.gaspi_io.specs.Faults.{HasCause};
@@ -7,7 +7,7 @@ ghost use Rattle.gaspi_io.specs.Sink.{with_more, AddsPrefix};
 use crate::faults::Failed;
 use crate::sink::Sink;
 
-/// Writes all of a piece. Where the sink fails, it has taken a prefix of it, which is shorter than the piece.
+/// Writes all of a piece. Where the sink fails, it has got a prefix of the piece, which is shorter.
 pub fn write_all<K: Sink>(sink: &mut K, piece: &[u8]) -> Result<(), Failed>
     ensures all { OnOk result (K.held sink.new ≡ with_more (K.held sink.old) piece.now) }
     ensures front { OnErr result (AddsPrefix piece.now (K.held sink.old) (K.held sink.new)) }

@@ -1,5 +1,5 @@
--- The calls on a word of a segment of a rank: what they find, and what they leave. The memory is that of the rank.
--- (GASPI: atomics)
+-- The calls on a memory word of a segment of a rank: the result and the effect of each. The memory is that of the rank that the
+-- call names. (GASPI: atomics)
 use Rattle.std.specs.Prelude.{ℕ, nat_lt, Option, Some, Result, Ok}
 use Rattle.gaspi_types.specs.Checks.{◌>>=◌, check, ok_or}
 use Rattle.gaspi_types.specs.SegmentTables.{known_extent}
@@ -17,8 +17,8 @@ use Rattle.gaspi_model.specs.Memories.{bytes_of, with_bytes}
 use Rattle.gaspi_model.specs.declared.states.Posts.{Posts}
 use Rattle.gaspi_model.specs.declared.states.Memory.{Memory}
 
--- An atomic of the word at an offset of a segment of a rank, which the caller knows, and which is there in the generation
--- that the caller knows: what stood there. (atomic_fetch_add, atomic_compare_swap)
+-- An atomic on the memory word at an offset of a segment of a rank. The caller's rank knows the segment, and it is there in the
+-- generation that is known: the answer is the old memory word. (atomic_fetch_add, atomic_compare_swap)
 abbrev pub word_result : Limits → ℕ → Posts → Memory → ℕ → ℕ → ℕ → Result (Option Reply) Refusal
 word_result limits me posts memory seg offset rank = do
   ranked ← check (nat_lt rank limits.ranks) BadRank

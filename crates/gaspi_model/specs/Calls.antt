@@ -1,7 +1,7 @@
--- What a call answers, and what it leaves. A call of a rank `me` reads and changes that rank's posts and at most one memory:
--- that of its rank or, for an atomic and a send, of the rank that it names. A send brings a message besides, which it takes
--- from the own memory. A segment made known is also told to the rank that it names. What each call finds and leaves stands
--- with its chapter.
+-- The result and the effect of each call, collectives aside. A call of a rank `me` reads and changes that rank's posts and at
+-- most one memory: that of its rank or, for an atomic and a send, of the rank that it names. A send also has a message
+-- (`brought`), which it takes from the own memory, and a register changes the posts of the rank that it names. The file of each
+-- chapter has what its calls do.
 use Rattle.std.specs.Prelude.{ℕ, ◌+◌, ◌*◌, ◌&&◌, List, Option, None, Some, Result, Ok, Err, if◌then◌else◌, slice_set}
 use Rattle.gaspi_types.specs.CallRows.{row_of, entries_of, is_end}
 use Rattle.gaspi_types.specs.Posts.{call_kinds}
@@ -34,7 +34,7 @@ use Rattle.gaspi_model.specs.declared.states.ThreadState.TheVariants as threads
 use Rattle.gaspi_model.specs.declared.states.Posts.{Posts}
 use Rattle.gaspi_model.specs.declared.states.Memory.{Memory}
 
--- what a call finds that posts nothing: its refusal, or a reply, or that it is not ready
+-- the result of a call that is no post and no collective: its refusal, or its reply, or none where it is not ready
 abbrev pub plain_result : Limits → ℕ → Posts → Memory → Call → Result (Option Reply) Refusal
 plain_result limits me posts memory (Alloc call) = alloc_result posts call
 plain_result limits me posts memory (Register call) = register_result limits posts call
@@ -56,11 +56,11 @@ plain_result limits me posts memory (GroupDelete call) = group_delete_result pos
 plain_result limits me posts memory State = state_result posts
 plain_result limits me posts memory call = Ok (Some replies.Done)
 
--- what a call asks to be appended that posts
+-- the kinds of the entries that a post asks for
 abbrev pub requested_kinds : Limits → ℕ → Posts → Call → Result (List Kind) Refusal
 requested_kinds limits me posts call = call_kinds limits.notes me posts.segments call
 
--- what a call finds
+-- the result of a call that is no collective
 abbrev pub call_result : Limits → ℕ → Posts → Memory → Call → Result (Option Reply) Refusal
 call_result limits me posts memory call = finds_by (row_of call).posting
   where
@@ -68,28 +68,29 @@ call_result limits me posts memory call = finds_by (row_of call).posting
     finds_by None = plain_result limits me posts memory call
     finds_by (Some to) = post_request_result limits posts to.rank to.queue (requested_kinds limits me posts call)
 
+-- the result as an answer
 abbrev pub answer_of_result : Result (Option Reply) Refusal → Ready
 answer_of_result (Ok None) = ready.NotReady
 answer_of_result (Ok (Some reply)) = ready.Reply reply
 answer_of_result (Err refusal) = ready.Reply (replies.Refused refusal)
 
--- what a look at a call answers: that the caller has ended comes before everything else
+-- the answer of a look at a call: that the caller has ended comes before everything else
 abbrev pub answer : Limits → ℕ → Posts → Memory → ℕ → Call → Ready
 answer limits me posts memory thread call =
     if is_running (thread_at posts thread)
     then answer_of_result (call_result limits me posts memory call)
     else ready.Reply (replies.Refused CallerEnded)
 
--- the one reply with which the call may be recorded: what it answers, or where it is not ready a timeout (timeouts); a collective
+-- the one reply with which the call may be recorded: its reply, or a timeout where it is not ready (timeouts); a collective
 -- that may join has none before it has joined
 abbrev pub recorded_reply : Ready → Reply
 recorded_reply (ready.Reply reply) = reply
 recorded_reply (ready.Join args) = replies.Timeout
 recorded_reply ready.NotReady = replies.Timeout
 
--- What a call leaves that was answered neither with a refusal nor with a timeout.
+-- The effect of a call that is answered neither with a refusal nor with a timeout.
 
--- in the posts of its rank, where it posts nothing
+-- on the posts of its rank, where it is no post
 abbrev pub plain_effect : Posts → ℕ → Call → Posts
 plain_effect posts thread (Alloc call) = with_own posts call.seg call.size
 plain_effect posts thread (Delete call) = without_own posts call.seg
@@ -101,6 +102,7 @@ plain_effect posts thread (GroupDelete call) = group_delete_effect posts call
 plain_effect posts thread End = record posts { threads = slice_set posts.threads thread threads.Ended }
 plain_effect posts thread call = posts
 
+-- on the posts of its rank
 abbrev pub posts_effect : Limits → ℕ → Posts → ℕ → Call → Posts
 posts_effect limits me posts thread call = done_by (row_of call).posting
   where
@@ -108,8 +110,7 @@ posts_effect limits me posts thread call = done_by (row_of call).posting
     done_by None = plain_effect posts thread call
     done_by (Some to) = with_post posts to.queue to.rank (requested_kinds limits me posts call)
 
--- In the memory that it works on, where the posts were so before it, and with the message that it brings. The bytes of a
--- segment are changed by the words that say what a store and an atomic change.
+-- On the memory that it reads or changes: `posts` are its rank's before it, `brought` the message of a send.
 abbrev pub memory_effect : Limits → Posts → Option Message → Memory → Call → Memory
 memory_effect limits posts brought memory (Alloc call) = alloc_effect limits posts memory call
 memory_effect limits posts brought memory (Delete call) = delete_effect memory call
@@ -121,24 +122,26 @@ memory_effect limits posts brought memory (FetchAdd call) = fetch_add_effect mem
 memory_effect limits posts brought memory (CompareSwap call) = compare_swap_effect memory call
 memory_effect limits posts brought memory call = memory
 
--- in the posts of a peer that it reaches, where its own were so before it (segments: segment_register)
+-- on the posts of a peer that it reaches, where its own rank's were so before it (segments: segment_register)
 abbrev pub peer_effect : ℕ → Posts → Call → Posts → Posts
 peer_effect me posts (Register call) peer = with_known me call.seg (extent_in posts.segments.own call.seg) peer
 peer_effect me posts call peer = peer
 
--- a refusal or a timeout changes nothing but the count of events
+-- The posts of the caller's rank after a call with its reply: a refusal or a timeout changes nothing but the count of events.
 abbrev pub posts_after : Limits → ℕ → Posts → ℕ → Call → Reply → Posts
 posts_after limits me posts thread call reply =
     counted (if is_idle reply then posts else posts_effect limits me posts thread call)
 
+-- the memory after it
 abbrev pub memory_after : Limits → Posts → Option Message → Memory → Call → Reply → Memory
 memory_after limits posts brought memory call reply = if is_idle reply then memory else memory_effect limits posts brought memory call
 
+-- the posts of a peer after it
 abbrev pub peer_after : ℕ → Posts → Call → Reply → Posts → Posts
 peer_after me posts call reply peer = if is_idle reply then peer else peer_effect me posts call peer
 
--- own choice: what the event takes of the rank's room: nothing for the end of a caller that has not ended, itself and
--- the two transfers of each entry for a post that is done, and else itself
+-- own choice: the charge of a call with its reply: nothing for the end of an active caller, itself and the two transfers of
+-- each entry for a post that is done, and else itself
 abbrev pub charge : ThreadState → Call → Reply → ℕ
 charge t call reply =
     if is_end call && is_running t then 0 else (if is_done reply then 1 + 2 * entries_of call else 1)

@@ -1,4 +1,4 @@
--- What events change, in the words of what they are for.
+-- What events change, each in words of its own: the records say which parts are other afterwards, and that nothing else is.
 use Rattle.std.specs.Prelude.{◌≡◌, ◌≢◌, ℕ, ◌+◌, ◌<◌, ◌≤◌, ◌==◌, ◌&&◌, ◌||◌, Bool, true, false, if◌then◌else◌, List, [], ◌∷◌, ◌++◌, length, remove, replicate, slice_get, slice_set, Option, None, Some, Ok}
 use Rattle.std.specs.List.{list_any}
 use Rattle.std.specs.Int.{bit_at}
@@ -73,11 +73,11 @@ pub record IsAnsweredOfSlots (s : State) (rank segment : ℕ) (P : List ℕ → 
   pub slots_there : item_at memory.slots segment ≡ Some slots
   pub answers : P slots
 
--- A call that answers what stands in a segment of its caller's rank, or in its slots, and changes nothing but the count of
--- events.
+-- A call that answers what is in a segment of its caller's rank, and changes nothing but the count of events.
 abbrev pub IsRead : (s t : State) (me segment : ℕ) (P : Segment → Type 0) → Type 0
 IsRead s t me segment P = IsAnswered s me segment P × IsOnlyCounted s t me
 
+-- The same of the slots of a segment.
 abbrev pub AreSlotsRead : (s t : State) (me segment : ℕ) (P : List ℕ → Type 0) → Type 0
 AreSlotsRead s t me segment P = IsAnsweredOfSlots s me segment P × IsOnlyCounted s t me
 
@@ -103,6 +103,7 @@ PutsTo (Range range) bytes old new =
 PutsTo (Slot slot value) bytes old new =
     IsThere old slot.segment slot.generation × IsSlotWritten old.slots new.slots slot.segment slot.note value × (new ≡ record old { slots = new.slots })
 
+-- what the put of an entry does to that memory
 abbrev pub Puts : Entry → Memory → Memory → Type 0
 Puts e old new = PutsTo (destination_of e.kind) (carried_bytes e.phase) old new
 
@@ -146,15 +147,16 @@ IsTargetGone memory (Read own target) = NotIn memory target.segment target.gener
 IsTargetGone memory (Notify target value) = NotIn memory target.segment target.generation
 IsTargetGone memory (ReadNote own) = ⊥
 
--- a take fails of a read that is posted, and a put of a write or a notification that has taken its bytes
+-- whether the take of an entry may fail: that of a posted read
 abbrev pub may_take_fail : Entry → Bool
 may_take_fail e = is_posted e && is_read_kind e.kind
 
+-- whether the put of an entry may fail: that of a carried write or notification
 abbrev pub may_put_fail : Entry → Bool
 may_put_fail e = is_carried e && is_outward e.kind
 
 -- A transfer that failed, since the target's segment of the entry's generation is gone: the entry with its number, of which
--- that may fail, has failed in its place; its queue is broken with that target, and the target is corrupt for its origin;
+-- that may fail, has failed in its position; its queue is broken with that target, and the target is corrupt for its origin;
 -- and nothing else has changed but the count of events of its origin. (state vector)
 pub record IsFailureDone (s t : State) (origin queue target number : ℕ) (may_fail : Entry → Bool) : Type 0 where
   pub posts : Posts
@@ -192,7 +194,7 @@ TakesBytes e memory bytes = TakesBytesFrom (source_of e.kind) memory bytes
 abbrev pub take_rank : ℕ → ℕ → Kind → ℕ
 take_rank origin target kind = if is_read_kind kind then target else origin
 
--- A take that was made: the entry with its number, which was posted, has taken its bytes in its place; and nothing else has
+-- A take that was made: the entry with its number, which was posted, is carried in its position; and nothing else has
 -- changed but the count of events of its origin.
 pub record IsTakeDone (s t : State) (origin queue target number : ℕ) : Type 0 where
   pub posts : Posts
@@ -217,7 +219,7 @@ pub record IsTakeDone (s t : State) (origin queue target number : ℕ) : Type 0 
     });
   }
 
--- the posts of a rank that is told a segment of an owner: what it knows of it has changed, and nothing else
+-- the posts of a rank with which a segment of an owner is registered: what it knows of that segment has changed, and nothing else
 abbrev pub with_registered : Posts → ℕ → ℕ → Extent → List (Option Extent) → Posts
 with_registered peer owner segment extent table = record peer {
   segments = record peer.segments { known = slice_set peer.segments.known owner (slice_set table segment (Some extent)) };
@@ -234,7 +236,7 @@ pub record IsRegisterDone (s t : State) (me segment rank : ℕ) : Type 0 where
   pub peer : (rank ≡ me → ⊥) → (p : Posts) × (table : List (Option Extent)) × (slice_get s.posts rank ≡ Some p) × (slice_get p.segments.known me ≡ Some table)
       × (t ≡ record s { posts = slice_set (slice_set s.posts me (counted posts)) rank (with_registered p me segment extent table) })
 
--- A notification that is taken: its slot had the value that was answered and is 0, and nothing else has changed but the
+-- A reset: its slot had the value that was answered and is 0, and nothing else has changed but the
 -- count of events of the caller's rank. (notifications: notify_reset)
 pub record IsReset (s t : State) (me segment note value : ℕ) : Type 0 where
   pub posts : Posts
@@ -248,7 +250,7 @@ pub record IsReset (s t : State) (me segment note value : ℕ) : Type 0 where
   pub slots : IsSlotWritten old.slots new.slots segment note 0
 
 -- A wait that is done: the queue is not broken, none of its entries has still to take its bytes, and no read and no
--- notification of a read stands in it; its open count is 0, and nothing else has changed but the count of events of its
+-- notification of a read is in it; its open count is 0, and nothing else has changed but the count of events of its
 -- rank. (one-sided communication: wait)
 pub record IsWaitDone (s t : State) (me queue : ℕ) : Type 0 where
   pub posts : Posts
@@ -259,7 +261,7 @@ pub record IsWaitDone (s t : State) (me queue : ℕ) : Type 0 where
   pub taken : list_any has_awaited q.lanes ≡ false
   pub after : t ≡ record s { posts = slice_set s.posts me (record (counted posts) { queues = slice_set posts.queues queue (record q { open_count = 0 }) }) }
 
--- A purge that is done: its queue has no entry, its open count is 0 and it is whole, and nothing else has changed but the
+-- A purge that is done: its queue has no entry, its open count is 0 and it is unbroken, and nothing else has changed but the
 -- count of events of its rank: corrupt ranks stay so. (one-sided communication: queue_purge)
 pub record IsPurgeDone (s t : State) (me queue : ℕ) : Type 0 where
   pub posts : Posts
@@ -288,8 +290,8 @@ pub record IsSizeAnswered (s t : State) (me queue value : ℕ) : Type 0 where
 abbrev pub IsStateAnswered : (s t : State) (me mask : ℕ) → Type 0
 IsStateAnswered s t me mask = ((rank : ℕ) → bit_at mask rank ≡ bit_of (is_corrupt s me rank)) × IsOnlyCounted s t me
 
--- A segment that is made: there was none of its number; it is there with its size, all bytes and slots 0, in the next
--- generation of its number, which no segment of that number had; the rank's table of segments says so; and nothing else
+-- A segment that is made: there was none of its id; it is there with its size, all bytes and slots 0, in the next
+-- generation of its id, which no segment of that id had; the rank's table of segments says so; and nothing else
 -- has changed but the count of events of its rank. (segments: segment_alloc)
 pub record IsAllocDone (s t : State) (me segment size : ℕ) : Type 0 where
   pub posts : Posts
@@ -328,8 +330,8 @@ pub record IsDeleteDone (s t : State) (me segment : ℕ) : Type 0 where
   }
 
 -- A post that is done: it asks for entries, as many as its row says; its queue is not broken and has room for all of them;
--- and they stand last in the lane of the rank that it names, posted, with numbers one after another from the rank's next
--- number on. The open count of the queue, and the next number, are higher by so many; and nothing else has changed but the
+-- and they are the last in the lane of the rank that it names, posted, with numbers one after another from the rank's next
+-- number on. The open count of the queue, and the next number, are higher by their number; and nothing else has changed but the
 -- count of events of the caller's rank. (one-sided communication)
 pub record IsPostDone (s t : State) (me : ℕ) (call : Call) (queue rank : ℕ) : Type 0 where
   pub posts : Posts
@@ -354,8 +356,8 @@ pub record IsPostDone (s t : State) (me : ℕ) (call : Call) (queue rank : ℕ) 
   }
 
 -- A send that is done: its range lies in a segment of the caller's rank, and the inbox of the rank that it names, which may
--- be the own one, has room. That inbox has one message more, which stands last: it is from the caller's rank, with the bytes
--- that stand in the range now. Nothing else has changed but the count of events of the caller's rank. (passive communication:
+-- be the own one, has room. That inbox has one message more, the last one: it is from the caller's rank, with the bytes
+-- that the range has now. Nothing else has changed but the count of events of the caller's rank. (passive communication:
 -- passive_send)
 pub record IsSendDone (s t : State) (me rank segment offset size : ℕ) : Type 0 where
   pub posts : Posts
@@ -374,7 +376,7 @@ pub record IsSendDone (s t : State) (me rank segment offset size : ℕ) : Type 0
   }
 
 -- A receive that is done: its range lies in a segment of the caller's rank; the first message of that rank's inbox, which is
--- not longer than the range, is gone from it; its bytes, and no more, stand in the segment from the offset on; it answers the
+-- not longer than the range, is gone from it; its bytes, and no more, are in the segment from the offset on; it answers the
 -- rank that sent it; and nothing else has changed but the count of events of the caller's rank. (passive communication:
 -- passive_receive)
 pub record IsReceiveDone (s t : State) (me segment offset size sender : ℕ) : Type 0 where
@@ -395,8 +397,8 @@ pub record IsReceiveDone (s t : State) (me segment offset size sender : ℕ) : T
   pub segments : IsSegmentWritten old.segments new.segments segment offset message.bytes
   pub after : t ≡ record s { posts = slice_set s.posts me (counted posts); memories = slice_set s.memories me new }
 
--- A group that is made: its number is the next one, at most 7, and the rank had no group of that number; it is built yet, and
--- no rank is in it; and nothing else has changed but the count of events of its rank. (groups: group_create)
+-- A group that is made: its number is the next one, at most 7, and the rank had no group of that number; its stage is
+-- building, and no rank is in it; and nothing else has changed but the count of events of its rank. (groups: group_create)
 pub record IsGroupMade (s t : State) (me id : ℕ) : Type 0 where
   pub posts : Posts
   pub groups : Handles
@@ -412,7 +414,7 @@ pub record IsGroupMade (s t : State) (me id : ℕ) : Type 0 where
   pub table : groups.table ≡ slice_set posts.groups.table id (Some handle)
   pub after : t ≡ record s { posts = slice_set s.posts me (record (counted posts) { groups = groups }) }
 
--- A rank that is added to a group: the group is built yet, and no collective of the caller's rank is pending on it; that rank,
+-- A rank that is added to a group: the group's stage is building, and no collective of the caller's rank is pending on it; that rank,
 -- which is one of the world, is in it, with those that were; and nothing else has changed but the count of events of the
 -- caller's rank. (groups: group_add)
 pub record IsGroupAdded (s t : State) (me id rank : ℕ) : Type 0 where
@@ -430,7 +432,7 @@ pub record IsGroupAdded (s t : State) (me id rank : ℕ) : Type 0 where
     posts = slice_set s.posts me (record (counted posts) { groups = record posts.groups { table = slice_set posts.groups.table id (Some new) } });
   }
 
--- A group that is dropped: it was there, it is not group 0, and no collective of the caller's rank is pending on it; it is
+-- A group that is deleted: it was there, it is not group 0, and no collective of the caller's rank is pending on it; it is
 -- gone, with its number used for good; and nothing else has changed but the count of events of the caller's rank. (groups:
 -- group_delete)
 pub record IsGroupDeleted (s t : State) (me id : ℕ) : Type 0 where
@@ -444,7 +446,7 @@ pub record IsGroupDeleted (s t : State) (me id : ℕ) : Type 0 where
     posts = slice_set s.posts me (record (counted posts) { groups = record posts.groups { table = slice_set posts.groups.table id None } });
   }
 
--- An end: its caller was running and has ended, and nothing else has changed but the count of events. (own choice)
+-- An end: its caller was active and has ended, and nothing else has changed but the count of events. (own choice)
 pub record IsEnded (s t : State) (c : CallerId) : Type 0 where
   pub posts : Posts
   pub posts_there : slice_get s.posts c.rank ≡ Some posts

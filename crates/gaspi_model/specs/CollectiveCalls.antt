@@ -1,6 +1,5 @@
--- The collective calls: whether one may join its group, is not ready, or what it answers; and what a join and a completion leave. A
--- call of a rank `me` on a group with the number `id` reads that rank's posts and that group. (GASPI: collectives, groups,
--- segments, timeouts)
+-- The collective calls: the answer of each, and what a join and a completion change. A call of a rank `me` on a group with the
+-- number `id` reads that rank's posts and that group. (GASPI: collectives, groups, segments, timeouts)
 use Rattle.std.specs.Prelude.{ℕ, ◌&&◌, Bool, true, false, not, nat_lt, List, [], ◌∷◌, length, Option, None, Some, Result, Ok, Err, if◌then◌else◌, slice_set}
 use Rattle.std.specs.Option.{unwrap_or}
 use Rattle.gaspi_types.specs.CallRows.{row_of}
@@ -48,30 +47,31 @@ element_checks (calls.Allreduce call) = do
   type_checks call.values.num_type
 element_checks call = Ok tt
 
--- a group that is committed
+-- the handle of a group whose stage is committed, or else the refusal
 abbrev pub committed_at : Handles → ℕ → Result Handle Refusal
 committed_at groups id = do
   handle ← ok_or (handle_at groups id) NoGroup
   committed ← check (not (is_building handle.stage)) (GroupStage handle.stage)
   Ok handle
 
--- a group that is built yet and has the rank
+-- the handle of a group whose stage is building and that has the rank, or else the refusal
 abbrev pub building_with : Handles → ℕ → ℕ → Result Handle Refusal
 building_with groups me id = do
   handle ← building_at groups id
   mine ← check (is_member handle.members me) NotMember
   Ok handle
 
--- the group on which a collective may be called: a commit on one that is built yet, each other on one that is committed
+-- the handle of a group in the stage that a collective needs: building for a group commit, committed for any other
 abbrev pub staged_at : Handles → ℕ → ℕ → Call → Result Handle Refusal
 staged_at groups me id (calls.Commit call) = building_with groups me id
 staged_at groups me id call = committed_at groups id
 
+-- the arguments of a collective without values
 abbrev pub plain_args : Coll → Args
 plain_args coll = record { coll = coll; values = no_values }
 
--- The arguments of a collective, where its group has those members. Own choice: a segment_create whose numbers are over 32 bits
--- has none that could be kept.
+-- The arguments of a collective, where its group has those members. Own choice: a segment_create whose id or size has over 32
+-- bits has none, so it cannot be pending.
 abbrev pub args_of : ℕ → Call → Option Args
 args_of members (calls.Commit call) = Some (plain_args (Commit members))
 args_of members (calls.Barrier call) = Some (plain_args Barrier)
@@ -80,18 +80,18 @@ args_of members (calls.Create call) =
     if nat_lt call.seg 4294967296 && nat_lt call.size 4294967296 then Some (plain_args (Create call.seg call.size)) else None
 args_of members call = None
 
--- what a collective that makes a segment is refused for where it is not pending (segment_create)
+-- what a segment_create is refused for that is not pending (segment_create)
 abbrev pub segment_checks : Posts → Call → Result (Unit {0}) Refusal
 segment_checks posts (calls.Create call) = alloc_checks posts.segments.own call.seg call.size
 segment_checks posts call = Ok tt
 
--- what a collective is refused for by what other ranks have brought to the group: a commit by the list that is fixed, each other by
--- the round
+-- what a collective is refused for by the contributions of other ranks: a group commit by the member list, any other by the
+-- round
 abbrev pub agreement_checks : Group → ℕ → Coll → Result (Unit {0}) Refusal
 agreement_checks group me (Commit mask) = fix_checks group.members mask
 agreement_checks group me coll = round_checks group me coll
 
--- one that is not pending may join
+-- the result of a collective that is not pending: it may join, or is refused
 abbrev pub fresh_result : Posts → Group → ℕ → ℕ → Call → Result Ready Refusal
 fresh_result posts group me members call = do
   free ← segment_checks posts call
@@ -99,19 +99,21 @@ fresh_result posts group me members call = do
   meets ← agreement_checks group me args.coll
   Ok (ready.Join args)
 
--- what it answers whose round is full (allreduce: the numbers of all members)
+-- the reply of a collective whose round is full (allreduce: the reduction of the values of all members)
 abbrev pub full_reply : Group → ℕ → Call → Reply
 full_reply group me (calls.Allreduce call) = replies.List (round_reduction group me call.op call.values.num_type)
 full_reply group me call = replies.Done
 
--- one that is pending for its caller is ready where its round is full
+-- the answer of a collective that is pending for its caller: it is ready where its round is full
 abbrev pub resumed_answer : Group → ℕ → Call → Ready
 resumed_answer group me call = if is_round_full group me then ready.Reply (full_reply group me call) else ready.NotReady
 
+-- the result of a collective, by what is pending
 abbrev pub resume_result : Resume → Posts → Group → ℕ → ℕ → Call → Result Ready Refusal
 resume_result Fresh posts group me members call = fresh_result posts group me members call
 resume_result Same posts group me members call = Ok (resumed_answer group me call)
 
+-- the result of a collective: it may join, is not ready, or has its reply; or its first refusal
 abbrev pub collective_result : Posts → Group → ℕ → ℕ → ℕ → Call → Result Ready Refusal
 collective_result posts group me thread id call = do
   elements ← element_checks call
@@ -119,6 +121,7 @@ collective_result posts group me thread id call = do
   resumed ← resume (item_at posts.pending id) thread (args_of handle.members call)
   resume_result resumed posts group me handle.members call
 
+-- the result as an answer
 abbrev pub collective_ready : Result Ready Refusal → Ready
 collective_ready (Ok found) = found
 collective_ready (Err refusal) = ready.Reply (replies.Refused refusal)
@@ -130,19 +133,19 @@ collective_answer posts group me thread id call =
     then collective_ready (collective_result posts group me thread id call)
     else ready.Reply (replies.Refused CallerEnded)
 
--- whether a reply is the one with which a collective may be recorded that was looked at: one that has not joined has none
+-- whether a collective with that answer may be recorded with that reply: one that may join has none
 abbrev pub is_reply_of : Ready → Reply → Bool
 is_reply_of (ready.Reply answer) reply = same_reply reply answer
 is_reply_of (ready.Join args) reply = false
 is_reply_of ready.NotReady reply = same_reply reply replies.Timeout
 
--- whether it may join
+-- whether a collective may join
 abbrev pub is_joining : Ready → Bool
 is_joining (ready.Reply answer) = false
 is_joining (ready.Join may) = true
 is_joining ready.NotReady = false
 
--- and with those arguments
+-- whether it may join with those arguments
 abbrev pub is_join_of : Ready → Args → Bool
 is_join_of (ready.Reply answer) args = false
 is_join_of (ready.Join may) args = same_args may args
@@ -158,47 +161,50 @@ joining_call id args = of_coll args.coll
     of_coll (Create seg size) = calls.Create (record { seg = seg; size = size; group = id })
     of_coll (Commit mask) = calls.Commit (record { group = id })
 
--- What a join leaves.
+-- What a join changes.
 
 -- the generation of the segment that a collective makes as it joins (own choice)
 abbrev pub made_generation : Posts → Coll → ℕ
 made_generation posts (Create seg size) = next_generation posts.segments.next_generations seg
 made_generation posts coll = 0
 
+-- what a join contributes
 abbrev pub contribution_of : Posts → Args → Contribution
 contribution_of posts args = record { args = args; generation = made_generation posts args.coll }
 
--- it makes its segment (segment_create)
+-- the posts after a segment_create has made its segment (segment_create)
 abbrev pub made_posts : Posts → Coll → Posts
 made_posts posts (Create seg size) = with_own posts seg size
 made_posts posts coll = posts
 
+-- the memory after a segment_create has made its segment
 abbrev pub made_memory : Limits → Posts → Memory → Coll → Memory
 made_memory limits posts memory (Create seg size) = alloc_effect limits posts memory (record { seg = seg; size = size })
 made_memory limits posts memory coll = memory
 
--- and is pending for its caller
+-- the posts with another pending collective on a group, or none
 abbrev pub with_pending : ℕ → Option PendingCollective → Posts → Posts
 with_pending id pending posts = record posts { pending = slice_set posts.pending id pending }
 
+-- the posts after a join
 abbrev pub joined_posts : Posts → ℕ → ℕ → Args → Posts
 joined_posts posts thread id args = with_pending id (Some (record { thread = thread; args = args })) (made_posts posts args.coll)
 
--- What a completion leaves.
+-- What a completion changes.
 
--- the segments of members known, in the generations in which they were made (segment_create)
+-- the posts that know the segments of members, in the generations in which these made them (segment_create)
 abbrev pub with_made_known : ℕ → ℕ → List MemberSegment → Posts → Posts
 with_made_known seg size [] posts = posts
 with_made_known seg size (m ∷ made) posts =
     with_made_known seg size made (with_known m.rank seg (Some (record { generation = m.generation; size = size })) posts)
 
--- a commit marks the group committed, and a segment_create makes the segments of all members known
+-- a group commit marks the group committed, and a segment_create makes the segments of all members known
 abbrev pub posts_at_completion : Group → ℕ → ℕ → Call → Posts → Posts
 posts_at_completion group me id (calls.Commit call) posts = record posts { groups = with_committed posts.groups id }
 posts_at_completion group me id (calls.Create call) posts = with_made_known call.seg call.size (round_segments group me) posts
 posts_at_completion group me id call posts = posts
 
--- and none is pending
+-- and no collective is pending on the group
 abbrev pub completed_posts : Posts → Group → ℕ → ℕ → Call → Posts
 completed_posts posts group me id call = with_pending id None (posts_at_completion group me id call posts)
 

@@ -1,4 +1,4 @@
--- How often a rank has given to a group in a history. (GASPI: collectives)
+-- How often a rank has contributed to a group in a history. (GASPI: collectives)
 use Rattle.std.specs.Prelude.{◌≡◌, ℕ, ◌+◌, ◌<◌, List, slice_get, Some, Ok}
 use Rattle.gaspi_types.specs.Tables.{item_at}
 use Rattle.gaspi_types.specs.World.{ShapeValue}

@@ -1,4 +1,5 @@
--- What ranks have given to groups, and what is pending of it, in the states of legal histories. (GASPI: collectives, groups, segments)
+-- What ranks have contributed to groups, and what is pending, in the states of legal histories. (GASPI: collectives, groups,
+-- segments)
 use Rattle.std.specs.Prelude.{◌≡◌, ℕ, ◌+◌, ◌<◌, ◌≤◌, true, length, slice_get, Option, None, Some, Ok}
 use Rattle.gaspi_types.specs.Collectives.{HaveOwnValues, contributions_of, contribution_in}
 use Rattle.gaspi_types.specs.Groups.{handle_at}
@@ -25,28 +26,28 @@ abbrev pub pending_count : Option PendingCollective → ℕ
 pending_count None = 0
 pending_count (Some p) = 1
 
--- a rank is one of members that are fixed
+-- a rank is in a member list that is fixed
 pub record IsOneOf (members : Option ℕ) (rank : ℕ) : Type 0 where
   pub mask : ℕ
   pub fixed : members ≡ Some mask
   pub member : is_member mask rank ≡ true
 
--- A rank has given to one round more than it has completed where a collective of it is pending on the group, which is the one that it
--- has given last, and else to as many; and it has completed no more rounds than it has recorded events.
+-- A rank has contributed to one round more than it has completed where a collective of it is pending on the group, which is its
+-- last contribution, and else to as many; and it has completed no more rounds than it has recorded events.
 pub record AreSoundContributions (events : ℕ) (pending : Option PendingCollective) (part : RankContributions) : Type 0 where
   pub count : length part.contributions ≡ part.completed + pending_count pending
   pub last : (p : PendingCollective) → pending ≡ Some p → (c : Contribution) × (slice_get part.contributions part.completed ≡ Some c) × (c.args ≡ p.args)
   pub few : part.completed ≤ events
 
--- How far a rank has come with a group tells how many rounds it has completed: none before it has committed it, and at least its
--- commit after it; group 0 is committed from the start.
+-- How many rounds of a group a rank may have completed, by the stage of the group: none before it has committed the group, and
+-- at least its group commit after that; group 0 is committed from the start.
 pub record HasBegun (posts : Posts) (id completed : ℕ) : Type 0 where
   pub unmade : posts.groups.last_id < id → completed ≡ 0
   pub building : (h : Handle) → handle_at posts.groups id ≡ Some h → h.stage ≡ Building → completed ≡ 0
   pub committed : (h : Handle) → handle_at posts.groups id ≡ Some h → h.stage ≡ Committed → (id ≡ 0 → ⊥) → 1 ≤ completed
 
--- What is pending of a rank on a group may be looked at again: the rank has the group, as the collective wants it, and with the
--- members that a commit says; and an allreduce has elements that may be reduced.
+-- What is pending of a rank on a group may be looked at again: the rank has the group, in the stage that the collective needs,
+-- and with the members that a group commit has; and an allreduce has elements that may be reduced.
 pub record IsResumable (groups : Handles) (me id : ℕ) (args : Args) : Type 0 where
   pub handle : Handle
   pub there : handle_at groups id ≡ Some handle
@@ -55,8 +56,8 @@ pub record IsResumable (groups : Handles) (me id : ℕ) (args : Args) : Type 0 w
   pub staged : staged_at groups me id (joining_call id args) ≡ Ok handle
   pub own : args_of handle.members (joining_call id args) ≡ Some args
 
--- What is given to one round agrees in all but values and generation; who gives is a member; and a commit has the list of ranks that
--- is fixed.
+-- The contributions to one round agree in all but values and generation, and are of members; and a group commit has the member
+-- list that is fixed.
 pub record IsSoundGroup (ranks : ℕ) (g : Group) : Type 0 where
   pub parts : length g.contributions ≡ ranks
   pub agree : (round rank other : ℕ) (c d : Contribution) → contribution_in g round rank ≡ Some c → contribution_in g round other ≡ Some d → c.args.coll ≡ d.args.coll
@@ -69,9 +70,9 @@ abbrev pub WasMadeSo : Tables → ℕ → ℕ → ℕ → Type 0
 WasMadeSo tables segment generation size =
     WasMade tables segment generation × ((x : Extent) → extent_in tables.own segment ≡ Some x → x.generation ≡ generation → x.size ≡ size)
 
--- There are eight groups. What is pending may be looked at again. The first round of each group but group 0 is its commit. Of a group
--- that a rank has committed the same ranks are members in the whole world, and that rank is one. And each segment that a rank has
--- given to a round was made.
+-- There are eight groups. What is pending may be looked at again. The first round of each group but group 0 is its group commit. A
+-- group that a rank has committed has the member list of its id, and that rank is in it. And each segment that a rank has
+-- contributed to a round was made.
 pub record AreSoundCollectives (s : State) : Type 0 where
   pub eight : length s.groups ≡ 8
   pub groups : (id : ℕ) (g : Group) → slice_get s.groups id ≡ Some g → IsSoundGroup s.limits.ranks g

@@ -3,6 +3,7 @@ use Rattle.std.specs.Prelude.{ℕ, List, [], ◌∷◌}
 use Rattle.gaspi_model.specs.declared.comparisons.Fields.{Fields}
 use Rattle.gaspi_model.specs.declared.comparisons.Fields.TheVariants.{Nothing, One, Two, Three, Four}
 
+-- these numbers, in order
 abbrev pub listed : Fields → List ℕ
 listed Nothing = []
 listed (One m) = m ∷ []

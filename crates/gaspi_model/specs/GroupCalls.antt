@@ -1,4 +1,4 @@
--- The calls on the groups of a rank: what they find, and what they leave. (GASPI: groups)
+-- The calls on the groups of a rank: the result and the effect of each. (GASPI: groups)
 use Rattle.std.specs.Prelude.{nat_lt, Option, Some, Result, Ok}
 use Rattle.gaspi_types.specs.Checks.{◌>>=◌, check}
 use Rattle.gaspi_types.specs.Groups.{next_group, with_group, building_at, with_added, delete_checks, without_group, idle_checks}
@@ -17,10 +17,11 @@ group_create_result posts = do
   id ← next_group posts.groups
   Ok (Some (replies.Id id))
 
+-- the posts after it
 abbrev pub group_create_effect : Posts → Posts
 group_create_effect posts = record posts { groups = with_group posts.groups }
 
--- the group is built yet, and no collective of the rank is pending on it (group_add)
+-- the group's stage is building, and no collective of the rank is pending on it (group_add)
 abbrev pub group_add_result : Limits → Posts → group_add.GroupAdd → Result (Option Reply) Refusal
 group_add_result limits posts call = do
   ranked ← check (nat_lt call.rank limits.ranks) BadRank
@@ -28,6 +29,7 @@ group_add_result limits posts call = do
   idle ← idle_checks posts.pending call.group
   Ok (Some replies.Done)
 
+-- the posts after it
 abbrev pub group_add_effect : Posts → group_add.GroupAdd → Posts
 group_add_effect posts call = record posts { groups = with_added posts.groups call.group call.rank }
 
@@ -38,5 +40,6 @@ group_delete_result posts call = do
   idle ← idle_checks posts.pending call.group
   Ok (Some replies.Done)
 
+-- the posts after it
 abbrev pub group_delete_effect : Posts → group_delete.GroupDelete → Posts
 group_delete_effect posts call = record posts { groups = without_group posts.groups call.group }

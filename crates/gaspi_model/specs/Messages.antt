@@ -1,4 +1,4 @@
--- What events send to a rank, and what a rank receives. (GASPI: passive communication)
+-- Which messages events send to a rank, and which a rank receives. (GASPI: passive communication)
 use Rattle.std.specs.Prelude.{◌≡◌, ℕ, ◌==◌, List, [], ◌∷◌, ◌++◌, length, take, Some, Result, Ok, Err, if◌then◌else◌, slice_get}
 use Rattle.gaspi_types.specs.World.{ShapeValue}
 use Rattle.gaspi_types.specs.declared.calls.Call.TheVariants.{PassiveSend, PassiveReceive}
@@ -18,7 +18,7 @@ abbrev pub inbox_of : State → ℕ → List Message
 inbox_of s rank = (memory_or_none (slice_get s.memories rank)).inbox
 
 -- what an event that comes in a state sends to a rank: a send to it that is done one message, which has the rank of its
--- caller and the bytes that stand in its range in that state; any other event nothing
+-- caller and the bytes of its range in that state; any other event nothing
 abbrev pub sent_by : State → Event → ℕ → List Message
 sent_by s (Called c (PassiveSend call) replies.Done) rank =
     if call.rank == rank then message_of c.rank (memory_or_none (slice_get s.memories c.rank)) call ∷ [] else []
@@ -39,10 +39,11 @@ collected_from brings s (e ∷ events) = brings s e ++ in_next (step s e) (λ t.
     in_next (Err why) rest = []
     in_next (Ok t) rest = rest t
 
--- what a history sends to a rank, and what the rank receives in it, in the order of the events
+-- what a history sends to a rank, in the order of the events
 abbrev pub sent_in : State → List Event → ℕ → List Message
 sent_in s events rank = collected_from (λ at e. sent_by at e rank) s events
 
+-- what a rank receives in a history, in the order of the events
 abbrev pub received_in : State → List Event → ℕ → List Message
 received_in s events rank = collected_from (λ at e. received_by at e rank) s events
 

@@ -1,4 +1,4 @@
--- The calls on notification slots: what they find, and what they leave. (GASPI: notifications)
+-- The calls on notification slots: the result and the effect of each. (GASPI: notifications)
 use Rattle.std.specs.Prelude.{nat_lt, Option, Some, Result, Ok, slice_set, slice_index}
 use Rattle.std.specs.Option.{option_map}
 use Rattle.gaspi_types.specs.Checks.{◌>>=◌, check, ok_or}
@@ -22,12 +22,13 @@ waitsome_result limits posts memory call = do
   noted ← check (is_slot_range call.begin call.num limits.notes) BadNote
   Ok (option_map replies.Id (first_set (slots_of memory call.seg) call.begin call.num))
 
--- (notify_reset)
+-- the value of a slot (notify_reset)
 abbrev pub reset_result : Limits → Posts → Memory → reset.Reset → Result (Option Reply) Refusal
 reset_result limits posts memory call = do
   mine ← ok_or (extent_in posts.segments.own call.seg) NoSegment
   noted ← check (nat_lt call.note limits.notes) BadNote
   Ok (Some (replies.Value (slice_index (slots_of memory call.seg) call.note)))
 
+-- the memory after it: the slot is 0
 abbrev pub reset_effect : Memory → reset.Reset → Memory
 reset_effect memory call = with_slots memory call.seg (slice_set (slots_of memory call.seg) call.note 0)

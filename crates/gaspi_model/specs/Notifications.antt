@@ -26,7 +26,7 @@ Sets origin target (Read own to) rank slot value = ⊥
 Sets origin target (Notify to set) rank slot value = (rank ≡ target) × (slot ≡ to) × (value ≡ set)
 Sets origin target (ReadNote own) rank slot value = (rank ≡ origin) × (slot ≡ own) × (value ≡ 1)
 
--- At a place of a history stands the put of an entry that sets a slot of a rank, in that generation of its segment, to a value. A put
+-- At a place of a history is the put of an entry that sets a slot of a rank, in that generation of its segment, to a value. A put
 -- that failed sets nothing.
 pub record SetsSlot (w : ShapeValue) (history : List Event) (place rank : ℕ) (slot : NoteSlot) (value : ℕ) : Type 0 where
   pub origin : ℕ
@@ -40,7 +40,7 @@ pub record SetsSlot (w : ShapeValue) (history : List Event) (place rank : ℕ) (
   pub stands : entry_after state origin queue target number ≡ Some entry
   pub sets : Sets origin target entry.kind rank slot value
 
--- At a place of a history stands a reset of a slot by a caller of its rank that was answered with a value, while the segment is there
+-- At a place of a history is a reset of a slot by a caller of its rank that was answered with a value, while the segment is there
 -- in that generation. (notify_reset)
 pub record IsResetOf (w : ShapeValue) (history : List Event) (place rank : ℕ) (slot : NoteSlot) (value : ℕ) : Type 0 where
   pub caller : CallerId

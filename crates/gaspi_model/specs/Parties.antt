@@ -6,13 +6,15 @@ use Rattle.gaspi_types.specs.declared.events.Event.{Event}
 use Rattle.gaspi_types.specs.declared.events.Event.TheVariants.{Called, Joined, Take, Put}
 use Rattle.gaspi_types.specs.declared.shapes.CallerId.{CallerId}
 
--- callers by rank, and then by thread: the number of a caller is how many declared ones come before it
+-- callers by rank, and then by thread
 abbrev pub comes_before : CallerId → CallerId → Bool
 comes_before a b = nat_lt (a.rank * 4 + a.thread) (b.rank * 4 + b.thread)
 
+-- the number of a caller: how many declared ones come before it
 abbrev pub number_of : List CallerId → CallerId → ℕ
 number_of callers c = count_by (λ d. comes_before d c) callers
 
+-- the party of a declared caller
 abbrev pub caller_party : List CallerId → CallerId → Option ℕ
 caller_party callers c = if list_any (is_caller c.rank c.thread) callers then Some (number_of callers c) else None
 

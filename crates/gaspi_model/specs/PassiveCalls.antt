@@ -1,5 +1,5 @@
--- The calls of passive communication: what they find, and what they leave. A send works on the memory of the rank that it
--- names, and reads its own. (GASPI: passive communication)
+-- The calls of passive communication: the result and the effect of each. A send changes the memory of the rank that it names,
+-- and reads its own. (GASPI: passive communication)
 use Rattle.std.specs.Prelude.{ℕ, nat_lt, List, [], ◌∷◌, Option, None, Some, Result, Ok, if◌then◌else◌}
 use Rattle.std.specs.Option.{option_map}
 use Rattle.gaspi_types.specs.Checks.{◌>>=◌, check}
@@ -30,12 +30,12 @@ send_result limits posts memory call = do
 abbrev pub message_of : ℕ → Memory → send.PassiveSend → Message
 message_of me own call = record { sender = me; bytes = range_of (bytes_of own call.seg) call.offset call.size }
 
--- the message that a call brings: a send one, any other none
+-- the message of a call: only a send has one
 abbrev pub sent_message : ℕ → Memory → Call → Option Message
 sent_message me own (PassiveSend call) = Some (message_of me own call)
 sent_message me own call = None
 
--- the message stands last in the inbox
+-- the message is the last in the inbox
 abbrev pub send_effect : Option Message → Memory → Memory
 send_effect None memory = memory
 send_effect (Some message) memory = record memory { inbox = deposited memory.inbox message }
@@ -47,7 +47,7 @@ receive_result posts memory call = do
   message ← first_within call.size memory.inbox
   Ok (option_map (λ (m : Message). replies.Id m.sender) message)
 
--- the first message goes, and its bytes, no more, stand from the offset on
+-- the first message goes, and its bytes, and no more, are in the segment from the offset on
 abbrev pub receive_effect : Memory → receive.PassiveReceive → Memory
 receive_effect memory call = received memory.inbox
   where

@@ -1,4 +1,4 @@
--- What posts are changed by: entries added to a lane, one event more.
+-- What changes the posts of a rank: entries added to a lane, and one event more.
 use Rattle.std.specs.Prelude.{ℕ, ◌+◌, List, length, Result, Ok, Err}
 use Rattle.gaspi_types.specs.Lanes.{posted_entries}
 use Rattle.gaspi_types.specs.Queues.{with_entries}

@@ -1,4 +1,5 @@
--- The calls on a queue and on the state vector: what they find, and what they leave. (GASPI: one-sided communication, state vector)
+-- The calls on a queue and on the state vector: the result and the effect of each. (GASPI: one-sided communication, state
+-- vector)
 use Rattle.std.specs.Prelude.{ℕ, List, [], map, Option, None, Some, Result, Ok, if◌then◌else◌, slice_get}
 use Rattle.std.specs.List.{list_any}
 use Rattle.gaspi_types.specs.Checks.{◌>>=◌, ok_or, err_if_some}
@@ -16,7 +17,7 @@ use Rattle.gaspi_types.specs.declared.entries.Entry.{Entry}
 use Rattle.gaspi_types.specs.declared.entries.Queue.{Queue}
 use Rattle.gaspi_model.specs.declared.states.Posts.{Posts}
 
--- ready where no entry of the queue is posted, and no read and no notification of a read stands in it (wait)
+-- ready where the queue has no awaited entry (wait)
 abbrev pub wait_result : Posts → wait.Wait → Result (Option Reply) Refusal
 wait_result posts call = do
   q ← ok_or (slice_get posts.queues call.queue) BadQueue
@@ -29,7 +30,8 @@ purge_result posts call = do
   q ← ok_or (slice_get posts.queues call.queue) BadQueue
   Ok (Some replies.Done)
 
--- the open count: the entries that were posted since it last was 0, and not those that stand (queue_size)
+-- the open count: the entries that were posted since the last wait or purge that was done, also those that are gone
+-- (queue_size)
 abbrev pub qsize_result : Posts → qsize.Qsize → Result (Option Reply) Refusal
 qsize_result posts call = do
   q ← ok_or (slice_get posts.queues call.queue) BadQueue
@@ -39,16 +41,18 @@ qsize_result posts call = do
 abbrev pub state_result : Posts → Result (Option Reply) Refusal
 state_result posts = Ok (Some (replies.Mask (mask_of posts.corrupt)))
 
--- the open count returns to 0
+-- the posts after a wait: the open count is 0
 abbrev pub closed : Posts → ℕ → Posts
 closed posts queue = record posts { queues = changed_at posts.queues queue (λ (q : Queue). record q { open_count = 0 }) }
 
+-- a lane without its entries
 abbrev pub without_entries : List Entry → List Entry
 without_entries lane = []
 
--- a queue with no entry, that is open for none and whole; what it was broken with stays in the state vector
+-- a queue with no entry, an open count of 0, and unbroken; the state vector stays
 abbrev pub emptied : Queue → Queue
 emptied q = record q { open_count = 0; broken = None; lanes = map without_entries q.lanes }
 
+-- the posts after a purge
 abbrev pub purged : Posts → ℕ → Posts
 purged posts queue = record posts { queues = changed_at posts.queues queue emptied }

@@ -1,4 +1,4 @@
--- The groups of a rank in a state, and the event that takes one away. (GASPI: groups)
+-- The groups of a rank in a state, and the event that deletes one. (GASPI: groups)
 use Rattle.std.specs.Prelude.{ℕ, ◌==◌, ◌&&◌, Bool, false, Option, None, Some, slice_get}
 use Rattle.gaspi_types.specs.Groups.{handle_at}
 use Rattle.gaspi_types.specs.declared.calls.Call.TheVariants.{GroupDelete}
@@ -9,7 +9,7 @@ use Rattle.gaspi_types.specs.declared.replies.Reply.TheVariants as replies
 use Rattle.gaspi_model.specs.declared.states.Posts.{Posts}
 use Rattle.gaspi_model.specs.declared.states.State.{State}
 
--- the group of a rank with a number, if the rank has made it and not dropped it
+-- the group of a rank with a number, if the rank has made it and not deleted it
 abbrev pub handle_of : State → ℕ → ℕ → Option Handle
 handle_of s rank id = in_posts (slice_get s.posts rank)
   where

@@ -39,27 +39,30 @@ abbrev pub is_join_on : ℕ → ℕ → Event → Bool
 is_join_on rank id (Joined c k args) = (c.rank == rank) && (k == id)
 is_join_on rank id event = false
 
--- a collective of a rank on a group that is answered neither with a refusal nor with a timeout
+-- whether a collective is of that group
 abbrev pub is_on : Option ℕ → ℕ → Bool
 is_on None id = false
 is_on (Some k) id = k == id
 
+-- a collective of a rank on a group that is answered neither with a refusal nor with a timeout
 abbrev pub is_completion_on : ℕ → ℕ → Event → Bool
 is_completion_on rank id (Called c call reply) = (c.rank == rank) && is_on (row_of call).group id && not (is_idle reply)
 is_completion_on rank id event = false
 
+-- how often a rank has joined a group in a history
 abbrev pub joins_on : ℕ → ℕ → List Event → ℕ
 joins_on rank id history = count_by (is_join_on rank id) history
 
+-- how many collectives of a group a rank has completed in a history
 abbrev pub completions_on : ℕ → ℕ → List Event → ℕ
 completions_on rank id history = count_by (is_completion_on rank id) history
 
--- What is given to a group stays given: its rounds only grow, and its members stay.
+-- Contributions to a group stay: its rounds only grow, and its members stay.
 pub record Grows (g g' : Group) : Type 0 where
   pub given : (round rank : ℕ) (c : Contribution) → contribution_in g round rank ≡ Some c → contribution_in g' round rank ≡ Some c
   pub members : (mask : ℕ) → g.members ≡ Some mask → g'.members ≡ Some mask
 
--- Every member has given to the round of a rank.
+-- Every member has contributed to the round of a rank.
 abbrev pub HaveAllContributed : ℕ → Group → ℕ → Type 0
 HaveAllContributed ranks group me = (rank : ℕ) → rank < ranks → IsOneOf group.members rank → (given : Contribution) × (contribution_in group (round_of group me) rank ≡ Some given)
 
@@ -74,7 +77,7 @@ pub record IsPendingAs (s : State) (c : CallerId) (id : ℕ) (call : Call) : Typ
   pub mine : pending.thread ≡ c.thread
   pub same : joining_call id pending.args ≡ call
 
--- It waits: its caller has not ended, and a member has not given to its rank's round.
+-- It is not ready: its caller has not ended, and a member has not contributed to its rank's round.
 pub record IsPendingUnready (s : State) (c : CallerId) (id : ℕ) (call : Call) : Type 0 where
   pub pends : IsPendingAs s c id call
   pub running : slice_get pends.posts.threads c.thread ≡ Some Running
@@ -83,8 +86,8 @@ pub record IsPendingUnready (s : State) (c : CallerId) (id : ℕ) (call : Call) 
   pub member : IsOneOf pends.group.members late
   pub missing : contribution_in pends.group (round_of pends.group c.rank) late ≡ None
 
--- A caller's rank has committed a group, none of its collectives is pending there, and what was given to its round is that collective,
--- values aside.
+-- A caller's rank has committed a group, none of its collectives is pending there, and the contributions to its round are of
+-- that collective, values aside.
 pub record MayJoinRound (s : State) (c : CallerId) (id : ℕ) (coll : Coll) : Type 0 where
   pub posts : Posts
   pub group : Group
@@ -96,12 +99,12 @@ pub record MayJoinRound (s : State) (c : CallerId) (id : ℕ) (coll : Coll) : Ty
   pub none : item_at posts.pending id ≡ None
   pub alike : (rank : ℕ) (given : Contribution) → contribution_in group (round_of group c.rank) rank ≡ Some given → given.args.coll ≡ coll
 
--- what a rank gives to its round stands there afterwards
+-- what a rank contributes to its round is there afterwards
 abbrev pub Contributes : State → ℕ → Group → ℕ → Contribution → Type 0
 Contributes t id group me c = (new : Group) × (slice_get t.groups id ≡ Some new) × (contribution_in new (round_of group me) me ≡ Some c)
 
--- A join of any collective but a segment_create: its caller has not ended, and none of its rank was pending on the group. It gives to
--- its rank's round and is pending for its caller; and nothing else has changed but the count of events.
+-- A join of any collective but a segment_create: its caller has not ended, and none of its rank was pending on the group. It
+-- contributes to its rank's round and is pending for its caller; and nothing else has changed but the count of events.
 pub record IsJoinDone (s t : State) (c : CallerId) (id : ℕ) (args : Args) : Type 0 where
   pub posts : Posts
   pub group : Group
@@ -115,8 +118,8 @@ pub record IsJoinDone (s t : State) (c : CallerId) (id : ℕ) (args : Args) : Ty
     groups = slice_set s.groups id (with_joined group c.rank (record { args = args; generation = 0 }));
   }
 
--- A join of a segment_create: besides, its segment, which was not there, is made, all zero, in the next generation of its number; and
--- that is the generation that it gives. (segment_create)
+-- A join of a segment_create: besides, its segment, which was not there, is made, all zero, in the next generation of its id;
+-- and that is the generation that it contributes. (segment_create)
 pub record IsCreateJoined (s t : State) (c : CallerId) (id : ℕ) (args : Args) (segment size : ℕ) : Type 0 where
   pub posts : Posts
   pub memory : Memory
@@ -145,9 +148,9 @@ pub record IsCreateJoined (s t : State) (c : CallerId) (id : ℕ) (args : Args) 
     groups = slice_set s.groups id (with_joined group c.rank (record { args = args; generation = generation }));
   }
 
--- A collective that is done: it was pending for its caller, which has not ended, with its arguments, and every member has given to its
--- round. None is pending then, its rank has completed its round, the posts of its rank are changed so, and nothing else has changed but the count of
--- events.
+-- A collective that is done: it was pending for its caller, which has not ended, with its arguments, and every member has
+-- contributed to its round. None is pending then, its rank has completed its round, the posts of its rank are changed so, and
+-- nothing else has changed but the count of events.
 pub record IsCompletionDone (s t : State) (c : CallerId) (id : ℕ) (call : Call) (change : Group → Posts → Posts) : Type 0 where
   pub pends : IsPendingAs s c id call
   pub running : slice_get pends.posts.threads c.thread ≡ Some Running
@@ -157,7 +160,7 @@ pub record IsCompletionDone (s t : State) (c : CallerId) (id : ℕ) (call : Call
     groups = slice_set s.groups id (with_completed pends.group c.rank);
   }
 
--- A commit that is done: the group was built yet, with just the ranks that are fixed for it, and is committed. (groups)
+-- A commit that is done: the group's stage was building, with just the ranks of the member list, and is committed. (groups)
 pub record IsCommitDone (s t : State) (c : CallerId) (id : ℕ) : Type 0 where
   pub old : Handle
   pub done : IsCompletionDone s t c id (calls.Commit (record { group = id }))
@@ -175,8 +178,8 @@ IsReplyFor call reply = reply ≡ replies.Done
 abbrev pub known_of : Posts → ℕ → ℕ → Option Extent
 known_of posts rank segment = option_and_then (λ table. extent_in table segment) (slice_get posts.segments.known rank)
 
--- The segments of all members are known after a segment_create that is done, in the generations in which they have given them and in
--- its size; and what else is known has not changed. (segment_create)
+-- The segments of all members are known after a segment_create that is done, in the generations that they have contributed and
+-- in its size; and what else is known has not changed. (segment_create)
 pub record AreMadeKnown (s t : State) (c : CallerId) (id segment size : ℕ) : Type 0 where
   pub posts : Posts
   pub new : Posts
@@ -190,7 +193,8 @@ pub record AreMadeKnown (s t : State) (c : CallerId) (id segment size : ℕ) : T
   pub segments : (rank other : ℕ) → (other ≡ segment → ⊥) → known_of new rank other ≡ known_of posts rank other
   pub kept : new ≡ record (counted (with_pending id None posts)) { segments = record posts.segments { known = new.segments.known } }
 
--- An allreduce that is done answers the reduction of what exactly the members have given to its round, its caller's own values among them.
+-- An allreduce that is done answers the reduction of what exactly the members have contributed to its round, its caller's own
+-- values among them.
 pub record IsReduction (s : State) (c : CallerId) (call : allreduce.Allreduce) (answer : TypedNumbers) : Type 0 where
   pub group : Group
   pub own : Contribution

@@ -38,7 +38,8 @@ footprint_shards me (PeerPosts rank) = shards.Posts me ∷ shards.Posts rank ∷
 footprint_shards me (Group id) = shards.Posts me ∷ shards.Group id ∷ []
 footprint_shards me (GroupAndMemory id) = shards.Posts me ∷ shards.Memory me ∷ shards.Group id ∷ []
 
--- The footprint of an event: its shards, told by its owner's posts and the event without its reply.
+-- The shards of an event: its owner's posts, and what is in its footprint. Its owner's posts and the event without its reply
+-- say which these are.
 abbrev pub event_shards : State → Event → List Shard
 event_shards s e = by_posts (slice_get s.posts (owner_of e))
   where
@@ -46,6 +47,7 @@ event_shards s e = by_posts (slice_get s.posts (owner_of e))
     by_posts None = shards.Posts (owner_of e) ∷ []
     by_posts (Some posts) = footprint_shards (owner_of e) (event_footprint s.limits posts e)
 
+-- whether a collective is a segment_create
 abbrev pub is_create : Coll → Bool
 is_create (colls.Create seg size) = true
 is_create coll = false
@@ -58,7 +60,7 @@ is_wide (Called c (calls.Create call) reply) = true
 is_wide (Joined c id args) = is_create args.coll
 is_wide e = false
 
--- the group of a collective, where its number is that of one
+-- the group of a collective, where there is a group of that number
 abbrev pub group_shards : ℕ → List Shard
 group_shards id = if nat_lt id 8 then shards.Group id ∷ [] else []
 
@@ -78,12 +80,14 @@ is_group_call (GroupAdd call) = true
 is_group_call (GroupDelete call) = true
 is_group_call call = false
 
+-- whether two shards are the same
 abbrev pub same_shard : Shard → Shard → Bool
 same_shard (shards.Posts a) (shards.Posts b) = a == b
 same_shard (shards.Memory a) (shards.Memory b) = a == b
 same_shard (shards.Group a) (shards.Group b) = a == b
 same_shard _ _ = false
 
+-- whether a shard is in a list
 abbrev pub is_shard : List Shard → Shard → Bool
 is_shard list shard = list_any (λ x. same_shard x shard) list
 
@@ -105,7 +109,7 @@ HaveSameResult s s' (Err why) (Err why') = why ≡ why'
 HaveSameResult s s' (Ok t) (Err why) = ⊥
 HaveSameResult s s' (Err why) (Ok t) = ⊥
 
--- numbers without those that stand again behind
+-- the numbers, each once: without those that come again
 abbrev pub without_repeats : List ℕ → List ℕ
 without_repeats [] = []
 without_repeats (n ∷ list) = if list_any (nat_eq n) list then without_repeats list else n ∷ without_repeats list

@@ -1,4 +1,4 @@
--- What holds in every state of a legal history, and is used by whoever runs the machine.
+-- Sound states: what holds in every state of a legal history, and is used by all code that runs the machine.
 use Rattle.std.specs.Prelude.{◌≡◌, ℕ, ◌+◌, ◌-◌, ◌*◌, ◌<◌, ◌≤◌, true, nat_le, sum_by, count_by, List, [], ◌∷◌, length, slice_get, Option, None, Some}
 use Rattle.gaspi_types.specs.Lanes.{is_posted, is_failed, carried_count}
 use Rattle.gaspi_types.specs.declared.entries.Entry.{Entry}
@@ -29,27 +29,30 @@ abbrev pub AreRising : ℕ → List Entry → Type 0
 AreRising next [] = Unit {0}
 AreRising next (e ∷ lane) = (e.number < next) × AreAbove e.number lane × AreRising next lane
 
--- how many entries of a lane, and of a queue, have a number from n on
+-- how many entries of a lane have a number from n on
 abbrev pub lane_from : ℕ → List Entry → ℕ
 lane_from n lane = count_by (λ e. nat_le n e.number) lane
 
+-- how many entries of a queue have a number from n on
 abbrev pub queue_from : ℕ → Queue → ℕ
 queue_from n q = sum_by (lane_from n) q.lanes
 
--- how many entries of a queue have failed, and how many there are where it has that mark: one where it is broken
+-- how many entries of a lane are failed
 abbrev pub lane_failed : List Entry → ℕ
 lane_failed lane = count_by is_failed lane
 
+-- how many entries of a queue are failed
 abbrev pub queue_failed : Queue → ℕ
 queue_failed q = sum_by lane_failed q.lanes
 
+-- how many there are by the broken mark of a queue: one where it is broken
 abbrev pub failures : Option ℕ → ℕ
 failures None = 0
 failures (Some target) = 1
 
--- A queue: at most DEPTH entries of a lane have taken their bytes; one entry has failed where the queue is broken, and
--- none where it is not; and the entries of the queue from each posted one on, in any phase, so from the least, are at
--- most the open count, which is at most DEPTH.
+-- A queue: at most DEPTH entries of a lane are carried; one entry is failed where the queue is broken, and none where it is
+-- not; and the entries of the queue from each posted one on, in any phase, so from the least, are at most the open count, which
+-- is at most DEPTH.
 pub record IsSoundQueue (depth : ℕ) (q : Queue) : Type 0 where
   pub carried : (target : ℕ) (lane : List Entry) → slice_get q.lanes target ≡ Some lane → carried_count lane ≤ depth
   pub from_posted : (target : ℕ) (lane : List Entry) → slice_get q.lanes target ≡ Some lane → (place : ℕ) (e : Entry) → slice_get lane place ≡ Some e
@@ -72,7 +75,7 @@ pub record IsSoundInbox (limits : Limits) (inbox : List Message) : Type 0 where
   pub senders : (place : ℕ) (m : Message) → slice_get inbox place ≡ Some m → m.sender < limits.ranks
   pub sizes : (place : ℕ) (m : Message) → slice_get inbox place ≡ Some m → is_passive_size (length m.bytes) ≡ true
 
--- Every table of the posts of a rank has its length: one item for each queue, rank, thread, number of a segment and group.
+-- Every table of the posts of a rank has its length: one item for each queue, rank, thread, segment id and group.
 pub record HasTables (limits : Limits) (posts : Posts) : Type 0 where
   pub queues : length posts.queues ≡ limits.queues
   pub corrupt : length posts.corrupt ≡ limits.ranks
@@ -82,9 +85,9 @@ pub record HasTables (limits : Limits) (posts : Posts) : Type 0 where
   pub threads : length posts.threads ≡ 4
   pub pending : length posts.pending ≡ 8
 
--- The posts of a rank: every table has its length; each queue has a lane to each rank, and is sound; what is recorded and owed has room; no event
--- gave more than 256 numbers to entries, nor a number of a segment more than one generation; and the numbers of each lane
--- rise, and are below the next one.
+-- The posts of a rank: every table has its length; each queue has a lane to each rank, and is sound; what is recorded and owed
+-- is at most EVENTS; no event gave more than 256 numbers to entries, nor a segment id more than one generation; and the numbers
+-- of each lane rise, and are below the next one.
 pub record IsSoundPosts (limits : Limits) (posts : Posts) : Type 0 where
   pub tables : HasTables limits posts
   pub lanes : (queue : ℕ) (q : Queue) → slice_get posts.queues queue ≡ Some q → length q.lanes ≡ limits.ranks
@@ -96,6 +99,7 @@ pub record IsSoundPosts (limits : Limits) (posts : Posts) : Type 0 where
   pub queues : (queue : ℕ) (q : Queue) → slice_get posts.queues queue ≡ Some q → IsSoundQueue limits.depth q
   pub groups : AreSoundGroups limits.ranks posts.groups
 
+-- a sound state
 pub record IsSound (s : State) : Type 0 where
   pub limits : are_limits s.limits ≡ true
   pub ranks : length s.posts ≡ s.limits.ranks

@@ -46,13 +46,14 @@ use Rattle.gaspi_model.specs.declared.states.Why.TheVariants as whys
 use Rattle.gaspi_model.specs.declared.states.StepFault.{StepFault}
 use Rattle.gaspi_model.specs.declared.states.StepFault.TheVariants as faults
 
+-- whether a thread is a declared caller
 abbrev pub is_there : ThreadState → Bool
 is_there Absent = false
 is_there Running = true
 is_there Ended = true
 
--- A call with its reply, on its caller's posts and the memory that it works on, with the message that it brings: the caller
--- has a section, the reply is the one that may be recorded, and the rank has room.
+-- A call with its reply, on its caller's posts and the memory of its footprint, with the message of a send: the caller is
+-- declared, the reply is the one that may be recorded, and the rank has room.
 abbrev pub called : Limits → ℕ → Posts → Option Message → Memory → ℕ → Call → Reply → Result PostsAndMemory Why
 called limits me posts brought memory thread call reply = do
   there ← check (is_there (thread_at posts thread)) whys.Caller
@@ -60,13 +61,13 @@ called limits me posts brought memory thread call reply = do
   room ← check (nat_le (posts.events + owed posts + charge (thread_at posts thread) call reply) limits.events) whys.Limit
   Ok (record { posts = posts_after limits me posts thread call reply; memory = memory_after limits posts brought memory call reply })
 
--- what is left of its caller's posts and of its group by a collective
+-- its caller's posts and its group after a collective
 pub record PostsAndGroup : Type 0 where
   pub posts : Posts
   pub group : Group
 
--- A collective with its reply: its caller has a section, the reply is the one that may be recorded, and the rank has room. A refusal
--- or a timeout changes nothing but the count of events. (collectives)
+-- A collective with its reply: its caller is declared, the reply is the one that may be recorded, and the rank has room. A
+-- refusal or a timeout changes nothing but the count of events. (collectives)
 abbrev pub completed : Limits → ℕ → Posts → Group → ℕ → ℕ → Call → Reply → Result PostsAndGroup Why
 completed limits me posts group thread id call reply = do
   there ← check (is_there (thread_at posts thread)) whys.Caller
@@ -77,8 +78,8 @@ completed limits me posts group thread id call reply = do
     group = if is_idle reply then group else with_completed group me;
   })
 
--- A join: its caller has a section, its collective may join with these arguments, and the rank has room. It is pending then for its
--- caller, and the rank has given to its round.
+-- A join: its caller is declared, its collective may join with these arguments, and the rank has room. It is pending then for
+-- its caller, and the rank has contributed to its round.
 abbrev pub joined : Limits → ℕ → Posts → Group → ℕ → ℕ → Args → Result PostsAndGroup Why
 joined limits me posts group thread id args = do
   there ← check (is_there (thread_at posts thread)) whys.Caller
@@ -86,42 +87,45 @@ joined limits me posts group thread id args = do
   room ← check (nat_le (posts.events + owed posts + 1) limits.events) whys.Limit
   Ok (record { posts = counted (joined_posts posts thread id args); group = with_joined group me (contribution_of posts args) })
 
--- the rank that records an event: its caller's, or its origin
+-- the owner of an event, which records it: its caller's rank, or its origin
 abbrev pub owner_of : Event → ℕ
 owner_of (Called c call reply) = c.rank
 owner_of (Joined c id args) = c.rank
 owner_of (Take origin queue target number outcome) = origin
 owner_of (Put origin queue target number outcome) = origin
 
--- what an event touches beside its owner's posts: a call what its row says, a join its group and, where it makes a segment, the own
--- memory, a transfer what its entry's kind says
+-- The footprint of an event as it is declared: of a call by its row; of a join its group and, where it makes a segment, the own
+-- memory; of a transfer by its entry's kind.
 abbrev pub join_footprint : ℕ → Coll → DeclaredFootprint
 join_footprint id Barrier = touches.GroupOf id
 join_footprint id (Allreduce op num_type count) = touches.GroupOf id
 join_footprint id (Create seg size) = touches.GroupAndMemory id
 join_footprint id (Commit mask) = touches.GroupOf id
 
+-- the declared footprint of a transfer, by its entry
 abbrev pub declared_entry_footprint : (Kind → DeclaredFootprint) → Option Entry → DeclaredFootprint
 declared_entry_footprint declaration None = touches.Nothing
 declared_entry_footprint declaration (Some e) = declaration e.kind
 
+-- the declared footprint of an event
 abbrev pub declared_footprint : Posts → Event → DeclaredFootprint
 declared_footprint posts (Called c call reply) = (row_of call).footprint
 declared_footprint posts (Joined c id args) = join_footprint id args.coll
 declared_footprint posts (Take origin queue target number outcome) = declared_entry_footprint (take_footprint target) (entry_in posts queue target number)
 declared_footprint posts (Put origin queue target number outcome) = declared_entry_footprint (put_footprint target) (entry_in posts queue target number)
 
+-- the footprint of an event in a world
 abbrev pub event_footprint : Limits → Posts → Event → Footprint
 event_footprint limits posts e = footprint_of limits.ranks (owner_of e) (declared_footprint posts e)
 
--- why an event is no step whose owner is no rank
+-- the cause of an event whose owner is no rank
 abbrev pub cause_without_owner : Event → Why
 cause_without_owner (Called c call reply) = whys.Caller
 cause_without_owner (Joined c id args) = whys.Caller
 cause_without_owner (Take origin queue target number outcome) = whys.Take
 cause_without_owner (Put origin queue target number outcome) = whys.Put
 
--- The local step: an event of that reach on the parts that it touches.
+-- The local step: an event with its footprint, on its parts alone.
 
 -- a call that is no collective
 abbrev pub called_on : Limits → Footprint → CallerId → Call → Reply → Parts → Result Parts Why
@@ -138,10 +142,12 @@ completed_on limits c id call reply parts = do
   after ← completed limits c.rank parts.posts (group_or_none parts.group) c.thread id call reply
   Ok (record parts { posts = after.posts; group = Some after.group })
 
+-- a call with its reply, collective or not
 abbrev pub answered_on : Limits → Footprint → CallerId → Call → Reply → Parts → Option ℕ → Result Parts Why
 answered_on limits footprint c call reply parts None = called_on limits footprint c call reply parts
 answered_on limits footprint c call reply parts (Some id) = completed_on limits c id call reply parts
 
+-- an event with its footprint on its parts
 abbrev pub on_parts : Limits → Footprint → Event → Parts → Result Parts Why
 on_parts limits footprint (Called c call reply) parts = answered_on limits footprint c call reply parts (row_of call).group
 on_parts limits footprint (Joined c id args) parts = do
@@ -157,10 +163,11 @@ on_parts limits footprint (Put origin queue target number outcome) parts = do
   after ← put parts.posts (accessed_memory footprint parts) queue target number outcome
   Ok (record (with_accessed_memory footprint parts after.memory) { posts = after.posts })
 
+-- the step on its parts
 abbrev pub local_step : Limits → Event → Parts → Result Parts Why
 local_step limits e parts = on_parts limits (event_footprint limits parts.posts e) e parts
 
--- The step: the state after the event, or why it is none.
+-- The step: the state after the event, or the cause why there is none.
 abbrev pub step : State → Event → Result State Why
 step s e = lifted s (owner_of e) (cause_without_owner e) (λ posts. part_numbers (owner_of e) (event_footprint s.limits posts e)) (local_step s.limits e)
 
@@ -175,6 +182,7 @@ after s (e ∷ events) = do
 abbrev pub reached : ShapeValue → List Event → Result State Why
 reached w history = after (opening w) history
 
+-- whether a history is legal
 abbrev pub is_legal : ShapeValue → List Event → Bool
 is_legal w history = is_ok (reached w history)
 
@@ -185,21 +193,21 @@ recorded_calls rank thread (Called c call reply ∷ events) =
     if is_caller rank thread c then (call, reply) ∷ recorded_calls rank thread events else recorded_calls rank thread events
 recorded_calls rank thread (transfer ∷ events) = recorded_calls rank thread events
 
--- What a function that steps has done: at Ok the step's state stands; an illegal event is none, for that cause, and
--- changed nothing; without memory nothing changed.
+-- What a function that makes a step has done: at Ok the state is that of the step; an illegal event has that cause, and nothing
+-- has changed; after no memory nothing has changed.
 abbrev pub Steps : {S : Type 0} → Result (Unit {0}) StepFault → S → S → Result S Why → Type 0
 Steps (Ok done) old new outcome = outcome ≡ Ok new
 Steps (Err (faults.Illegal why)) old new outcome = (outcome ≡ Err why) × (new ≡ old)
 Steps (Err faults.NoMemory) old new outcome = new ≡ old
 
--- the memory that a call of a rank works on in a state
+-- the memory that a call of a rank changes or reads in a state
 abbrev pub call_memory : State → ℕ → Posts → Call → Memory
 call_memory s rank posts call = memory_at (footprint_of s.limits.ranks rank (row_of call).footprint)
   where
     memory_at : Footprint → Memory
     memory_at footprint = accessed_memory footprint (parts_of s posts (part_numbers rank footprint))
 
--- the message that a call of a rank brings in a state: a send takes it from the own memory
+-- the message of a call of a rank in a state: a send takes it from the own memory
 abbrev pub call_message : State → ℕ → Call → Option Message
 call_message s rank call = sent_message rank (memory_or_none (part_at s.memories (part_numbers rank (footprint_of s.limits.ranks rank (row_of call).footprint)).memory)) call
 
@@ -212,6 +220,7 @@ abbrev pub answer_for : State → ℕ → ℕ → Call → Posts → Option ℕ 
 answer_for s rank thread call posts None = answer s.limits rank posts (call_memory s rank posts call) thread call
 answer_for s rank thread call posts (Some id) = collective_answer posts (group_in s id) rank thread id call
 
+-- the answer of a look at a call of a caller in a state; none for a rank that is not there
 abbrev pub answer_in : State → ℕ → ℕ → Call → Option Ready
 answer_in s rank thread call = answer_with (slice_get s.posts rank)
   where
@@ -224,10 +233,12 @@ abbrev pub is_pending_of : ℕ → Option PendingCollective → Bool
 is_pending_of thread None = false
 is_pending_of thread (Some p) = p.thread == thread
 
+-- whether a collective of a thread is pending on the group of a row
 abbrev pub is_pending_on : ℕ → Posts → Option ℕ → Bool
 is_pending_on thread posts None = false
 is_pending_on thread posts (Some id) = is_pending_of thread (item_at posts.pending id)
 
+-- whether a collective is pending for a caller on the group that a call names
 abbrev pub is_pending : State → ℕ → ℕ → Call → Bool
 is_pending s rank thread call = in_posts (slice_get s.posts rank)
   where
@@ -235,7 +246,7 @@ is_pending s rank thread call = in_posts (slice_get s.posts rank)
     in_posts None = false
     in_posts (Some posts) = is_pending_on thread posts (row_of call).group
 
--- a caller that has a section
+-- whether a thread of a rank is a declared caller
 abbrev pub is_declared : State → ℕ → ℕ → Bool
 is_declared s rank thread = in_posts (slice_get s.posts rank)
   where
@@ -243,7 +254,7 @@ is_declared s rank thread = in_posts (slice_get s.posts rank)
     in_posts None = false
     in_posts (Some posts) = is_there (thread_at posts thread)
 
--- a caller that has a section and has not ended
+-- whether a thread of a rank is an active caller
 abbrev pub is_active : State → ℕ → ℕ → Bool
 is_active s rank thread = in_posts (slice_get s.posts rank)
   where
@@ -251,7 +262,7 @@ is_active s rank thread = in_posts (slice_get s.posts rank)
     in_posts None = false
     in_posts (Some posts) = is_running (thread_at posts thread)
 
--- own choice: the room that a rank has taken, which never comes over EVENTS
+-- own choice: the used room of a rank, recorded and owed events together, which is never over EVENTS
 abbrev pub used_room : State → ℕ → ℕ
 used_room s rank = in_posts (slice_get s.posts rank)
   where
@@ -259,12 +270,12 @@ used_room s rank = in_posts (slice_get s.posts rank)
     in_posts None = 0
     in_posts (Some posts) = posts.events + owed posts
 
--- own choice: whether the rank of a caller has no room for the events that its call needs
+-- own choice: whether the rank of a caller has less room than its call needs
 abbrev pub lacks_room_in : State → CallerId → Call → Bool
 lacks_room_in s c call = nat_lt s.limits.events (used_room s c.rank + need_of call (is_pending s c.rank c.thread call) (not (is_active s c.rank c.thread)))
 
--- the machine's outcome of a transfer that may come next, which is told by the memory of its target; where that is no
--- rank, by one with no segment
+-- the outcome of a transfer that may come next, by the memory of its target; where the target is no rank, by one with no
+-- segment
 abbrev pub transfer_outcome : State → Transfer → (Memory → Kind → Outcome) → Outcome
 transfer_outcome s t outcome = in_state (slice_get s.posts t.origin) (slice_get s.memories t.target)
   where
@@ -276,7 +287,7 @@ transfer_outcome s t outcome = in_state (slice_get s.posts t.origin) (slice_get 
     in_state None memory = Failed
     in_state (Some posts) memory = of_entry (find_entry posts t.queue t.target t.number whys.Put) (memory_or_none memory)
 
--- its event
+-- the event of a transfer that may come next
 abbrev pub transfer_event : State → Transfer → Event
 transfer_event s t =
     if t.put

@@ -1,4 +1,5 @@
-//! The checks of collectives that do not read what is pending; `pendings.rt` has those that do. (GASPI: collectives, allreduce)
+//! The checks of collectives that do not read the pending collective; `pendings.rt` has the one that does. (GASPI: collectives,
+//! allreduce)
 
 ghost use Rattle.std.specs.Prelude.{◌≡◌, Option, Some, OnOk};
 ghost use Rattle.gaspi_types.specs.Collectives.{count_checks, type_checks, fits};
@@ -9,7 +10,7 @@ ghost use Rattle.gaspi_model.specs.RoundRules.{coll_in};
 use crate::comparisons::same_coll;
 use gaspi_types::{Coll, NumType, Refusal};
 
-/// An allreduce has 1 to 255 elements: else `BadCount`. (GASPI: allreduce)
+/// An allreduce has 1 to 255 elements, else `BadCount`. (GASPI: allreduce)
 pub fn check_count(count: u64) -> Result<(), Refusal>
     ensures { result ≡ count_checks count }
 {
@@ -20,7 +21,7 @@ pub fn check_count(count: u64) -> Result<(), Refusal>
     }
 }
 
-/// An allreduce is of whole numbers: `FloatType` for `Float` and `Double`. (GASPI: allreduce)
+/// An allreduce is of whole numbers, else `FloatType`. (GASPI: allreduce)
 pub fn check_type(num_type: NumType) -> Result<(), Refusal>
     ensures { result ≡ type_checks num_type }
 {
@@ -30,9 +31,9 @@ pub fn check_type(num_type: NumType) -> Result<(), Refusal>
     }
 }
 
-/// A collective fits a round where it is the one that members have joined the round with, values aside: else `CollectiveMismatch`
-/// has the one that the first of them in rank order has. `first` is that one, or None where no member has joined the round.
-/// (GASPI: collectives)
+/// A collective fits a round where it is, values aside, what the members have contributed to it, else `CollectiveMismatch` with
+/// `first`. `first` is the contribution of the first member, in the order of ranks, that has contributed, or None where none
+/// has. (GASPI: collectives)
 pub fn check_fits(first: Option<Coll>, coll: Coll) -> Result<(), Refusal>
     ensures answer { (given : Option Contribution) → coll_in given ≡ first → result ≡ fits given coll }
     ensures equal { OnOk result ((kept : Coll) → first ≡ Some kept → kept ≡ coll) }

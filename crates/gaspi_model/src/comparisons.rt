@@ -1,4 +1,5 @@
-//! Replies, refusals and the arguments of collectives compared.
+//! Whether two replies, refusals, or arguments of collectives are the same. Refusals and collectives are compared by numbers
+//! (`Fields`); the private functions give these numbers and compare them.
 
 ghost use Rattle.std.specs.Prelude.{◌≡◌, true, nat_eq};
 ghost use Rattle.std.specs.Cmp.Lexicographic.{pointwise};
@@ -8,7 +9,7 @@ ghost use Rattle.gaspi_types.specs.Replies.{refusal_fields, coll_fields, stage_n
 
 use gaspi_types::{Args, Coll, NumType, Numbers, Op, Refusal, Reply, Stage};
 
-/// The fields of a refusal as numbers, in order.
+/// The numbers by which a refusal or a collective is compared, in order.
 #[derive(Clone, Copy)]
 pub(crate) enum Fields {
     Nothing,
@@ -18,7 +19,7 @@ pub(crate) enum Fields {
     Four(u32, u32, u32, u32),
 }
 
-/// The number that stands for a stage.
+/// The number by which a stage is compared.
 fn stage_number(stage: Stage) -> u32
     ensures { result ≡ stage_number stage }
 {
@@ -28,7 +29,7 @@ fn stage_number(stage: Stage) -> u32
     }
 }
 
-/// The number that stands for an operation.
+/// The number by which an operation is compared.
 fn op_number(op: Op) -> u32
     ensures { result ≡ op_number op }
 {
@@ -39,7 +40,7 @@ fn op_number(op: Op) -> u32
     }
 }
 
-/// The number that stands for a type.
+/// The number by which a type is compared.
 fn type_number(num_type: NumType) -> u32
     ensures { result ≡ type_number num_type }
 {
@@ -53,7 +54,7 @@ fn type_number(num_type: NumType) -> u32
     }
 }
 
-/// The numbers that stand for a collective.
+/// The numbers by which a collective is compared: that of its kind, and what it is called with, values aside.
 fn coll_fields(coll: Coll) -> Fields
     ensures { listed result ≡ coll_fields coll }
 {
@@ -67,7 +68,7 @@ fn coll_fields(coll: Coll) -> Fields
     }
 }
 
-/// The fields of a refusal.
+/// The fields of a refusal as numbers; its own number is not among them.
 fn refusal_fields(refusal: &Refusal) -> Fields
     ensures { listed result ≡ refusal_fields refusal.now }
 {
@@ -86,7 +87,7 @@ fn refusal_fields(refusal: &Refusal) -> Fields
     }
 }
 
-/// Whether fields are the same.
+/// Whether two lists of such numbers are equal.
 fn same_fields(a: Fields, b: Fields) -> bool
     ensures { result ≡ pointwise nat_eq (listed a) (listed b) }
 {
@@ -116,7 +117,7 @@ pub fn same_numbers(a: &Numbers, b: &Numbers) -> bool
     type_number(a.num_type()) == type_number(b.num_type()) && a.items() == b.items()
 }
 
-/// Whether collectives are the same, values aside: their kinds and their arguments are. (GASPI: collectives)
+/// Whether collectives are the same, values aside: their kinds and what they are called with. (GASPI: collectives)
 pub fn same_coll(a: Coll, b: Coll) -> bool
     ensures value { result ≡ same_coll a b }
     ensures equal { result ≡ true → a ≡ b }

@@ -1,4 +1,4 @@
-//! The ranks of a set, one after another. (GASPI: groups)
+//! The ranks of a mask as a list, one after another, which takes no memory. (GASPI: groups)
 
 ghost use Rattle.std.specs.Prelude.{◌≡◌, ◌≤◌, length};
 ghost use Rattle.gaspi_types.specs.Collectives.{members_of};
@@ -6,7 +6,7 @@ ghost use Rattle.gaspi_types.specs.Collectives.{members_of};
 use gaspi_types::{RankId, is_member};
 use std::marker::Model;
 
-/// The ranks of a set, by rising number. Contracts see the list of these numbers.
+/// The ranks of a mask, by rising number. Contracts see the list of these numbers.
 #[derive(Debug, Drop)]
 pub struct Members {
     ranks: [RankId; 16],
@@ -33,7 +33,7 @@ impl Members {
     }
 }
 
-/// The ranks of a set, bit r for rank r, by rising number. (GASPI: groups)
+/// The ranks of a mask, in which bit r is for rank r, by rising number. (GASPI: groups)
 pub fn members_of(mask: u32) -> Members
     ensures { result ≡ members_of mask }
 {

@@ -1,8 +1,8 @@
 //! What the GASPI machine is: its state, its step, its histories and their laws.
 //!
-//! Of code it has the types of the state, what ranks have at the start, and the rules of collectives that the machine in memory, the stores
-//! of a rank and scripts share: replies and arguments compared, what a collective is refused for, when a pending one is resumed, and what
-//! the numbers of an allreduce come to. (GASPI: collectives, timeouts) Only what ranks have at the start takes memory.
+//! Of code it has the types of the state; what ranks have at the start, which alone takes memory; and the rules that the
+//! machine in memory, the stores of a rank and scripts share: to compare replies and arguments, what a collective is refused
+//! for, whether it resumes a pending one, and the reduction of an allreduce. (GASPI: collectives, timeouts)
 #![tactic(auto)]
 
 mod collective_checks;

@@ -1,4 +1,7 @@
-//! What ranks have at the start: of segments, threads and marks. (GASPI: segments, state vector)
+//! What a rank has at the start, by the shape: its table of segments, its threads and its state vector. (GASPI: segments, state
+//! vector)
+//!
+//! `opening` is said of what is so in the opening state.
 
 ghost use Rattle.std.specs.Prelude.{◌≡◌, IfOk, replicate, map, false};
 ghost use Rattle.std.specs.List.{list_any, range_with_len};
@@ -9,7 +12,7 @@ use crate::states::ThreadState;
 use gaspi_types::{Extent, Extents, NoMemory, SegmentTable, Sequence, Shape};
 use std::alloc::Global;
 
-/// The size with which a segment of a rank is declared.
+/// The size with which a segment of a rank is declared, or None where it is not declared.
 pub fn declared_size(shape: &Shape, rank: u32, segment: u32) -> Option<u32>
     ensures { result ≡ declared_size shape.now rank segment }
 {
@@ -20,7 +23,7 @@ pub fn declared_size(shape: &Shape, rank: u32, segment: u32) -> Option<u32>
         .map(|d| d.size)
 }
 
-/// The segments that a rank declares, by their numbers.
+/// The extents of the declared segments of a rank, in generation 0, by segment id.
 #[tactic(auto, using(crate::proofs::Ranges::map_range_more))]
 fn opening_extents(alloc: Global, shape: &Shape, rank: u32) -> Result<Extents, NoMemory>
     ensures { IfOk result (λ extents. extents ≡ opening_extents shape.now rank) }
@@ -36,7 +39,7 @@ fn opening_extents(alloc: Global, shape: &Shape, rank: u32) -> Result<Extents, N
     Ok(extents)
 }
 
-/// What every rank knows of the segments of each rank.
+/// The segments that every rank knows at the start: the declared ones of each rank, by the numbers of the ranks.
 #[tactic(auto, using(crate::proofs::Ranges::map_range_more))]
 fn opening_known(alloc: Global, shape: &Shape) -> Result<Sequence<Extents>, NoMemory>
     ensures { IfOk result (λ known. known ≡ map (opening_extents shape.now) (range_with_len 0 shape.now.limits.ranks)) }
@@ -48,7 +51,7 @@ fn opening_known(alloc: Global, shape: &Shape) -> Result<Sequence<Extents>, NoMe
     Ok(known)
 }
 
-/// The generation that the next segment of each number has.
+/// For each segment id the generation of the rank's next segment: 1 where the id is declared, else 0.
 #[tactic(auto, using(crate::proofs::Ranges::map_range_more))]
 fn opening_generations(alloc: Global, shape: &Shape, rank: u32) -> Result<Sequence<u32>, NoMemory>
     ensures { IfOk result (λ generations. generations ≡ opening_generations shape.now rank) }
@@ -61,7 +64,7 @@ fn opening_generations(alloc: Global, shape: &Shape, rank: u32) -> Result<Sequen
     Ok(generations)
 }
 
-/// Whether a thread has a script.
+/// Whether a thread of a rank is a declared caller.
 fn is_declared(shape: &Shape, rank: u32, thread: u32) -> bool
     ensures { result ≡ list_any (is_caller rank thread) shape.now.callers }
 {
@@ -71,7 +74,7 @@ fn is_declared(shape: &Shape, rank: u32, thread: u32) -> bool
         .any(|c| c.rank.number() == rank && c.thread.number() == thread)
 }
 
-/// The state of a thread at the start.
+/// The state of a thread at the start: an active caller where it is declared, else absent.
 pub fn opening_thread(shape: &Shape, rank: u32, thread: u32) -> ThreadState
     ensures { result ≡ opening_thread shape.now rank thread }
 {
@@ -82,7 +85,7 @@ pub fn opening_thread(shape: &Shape, rank: u32, thread: u32) -> ThreadState
     }
 }
 
-/// The threads of a rank.
+/// The states of the four threads of a rank at the start.
 #[tactic(auto, using(crate::proofs::Ranges::map_range_more))]
 pub fn opening_threads(
     alloc: Global,
@@ -98,14 +101,14 @@ pub fn opening_threads(
     Ok(threads)
 }
 
-/// No rank is corrupt.
+/// The state vector of a rank at the start: no rank is corrupt.
 pub fn opening_corrupt(alloc: Global, ranks: u32) -> Result<Sequence<bool>, NoMemory>
     ensures { IfOk result (λ corrupt. corrupt ≡ replicate ranks false) }
 {
     Ok(Sequence::from_vec(vec![in alloc; false; ranks as usize]?))
 }
 
-/// What a rank has and knows of segments.
+/// The table of segments of a rank at the start.
 pub fn opening_table(alloc: Global, shape: &Shape, rank: u32) -> Result<SegmentTable, NoMemory>
     ensures { IfOk result (λ table. table ≡ opening_table shape.now rank) }
 {

@@ -1,4 +1,4 @@
-//! A pending collective resumed. (GASPI: timeouts)
+//! What a look at a collective finds pending. (GASPI: timeouts)
 
 ghost use Rattle.std.specs.Prelude.{◌≡◌};
 ghost use Rattle.std.specs.Option.{option_copied};
@@ -7,9 +7,10 @@ ghost use Rattle.gaspi_types.specs.Collectives.{resume};
 use crate::comparisons::same_args;
 use gaspi_types::{Args, PendingCollective, Refusal, Resume, ThreadId};
 
-/// What a collective of a thread meets where that one of the rank is pending on its group, or none: it is new, or it is the one that
-/// is pending. Else `ActiveCollective` where that is another thread's, or `ResumeOther` where it differs in kind, arguments or
-/// values. `args` is None for a call that has no arguments which could be kept. (GASPI: timeouts)
+/// Whether a collective is new (`Fresh`), since none of the rank is pending on the group, or the one that is pending (`Same`).
+/// Else it is refused: `ActiveCollective` where another thread joined `pending`, or `ResumeOther` where the two differ in kind,
+/// arguments or values. `args` is None for a `create` whose id or size has over 32 bits: none such can be pending. (GASPI:
+/// timeouts)
 pub fn resume(
     pending: Option<&PendingCollective>,
     thread: ThreadId,

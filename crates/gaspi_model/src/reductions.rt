@@ -1,4 +1,4 @@
-//! What the numbers of an allreduce come to. (GASPI: allreduce)
+//! The reduction of an allreduce. (GASPI: allreduce)
 
 ghost use Rattle.std.specs.Prelude.{◌≡◌, ◌+ℤ◌, true, length};
 ghost use Rattle.gaspi_types.specs.Collectives.{wrapped, reduced, combined};
@@ -6,7 +6,7 @@ ghost use Rattle.gaspi_types.specs.NumberTypes.{is_in_type, AreInType};
 
 use gaspi_types::{NumType, Op};
 
-/// The sum of two numbers in the bits of their type.
+/// The sum of two numbers, wrapped in the bits of their type.
 fn sum(num_type: NumType, a: i128, b: i128) -> i128
     requires first { is_in_type num_type a ≡ true }
     requires second { is_in_type num_type b ≡ true }
@@ -23,7 +23,7 @@ fn sum(num_type: NumType, a: i128, b: i128) -> i128
     }
 }
 
-/// What an operation makes of two numbers.
+/// The lesser, the greater or the sum of two numbers, by the operation.
 fn reduced(op: Op, num_type: NumType, a: i128, b: i128) -> i128
     requires first { is_in_type num_type a ≡ true }
     requires second { is_in_type num_type b ≡ true }
@@ -37,8 +37,9 @@ fn reduced(op: Op, num_type: NumType, a: i128, b: i128) -> i128
     }
 }
 
-/// Reduces values onto a total of as many, item by item: the lesser, the greater, or the sum, which wraps at the type's end. All are
-/// in the range of the type, and so is what they come to. (GASPI: allreduce)
+/// Reduces the values of one more member onto `total`: each item becomes the lesser, the greater or the sum of itself and the
+/// value at its index; a sum wraps in the bits of the type. Both lists are as long, with all numbers in the range of the type,
+/// and so are the new ones. (GASPI: allreduce)
 pub fn reduce(op: Op, num_type: NumType, total: &mut [i128], values: &[i128])
     requires lengths { length total.old ≡ length values.now }
     requires total { AreInType num_type total.old }

@@ -16,19 +16,20 @@ use Rattle.gaspi_types.specs.declared.collectives.Coll.{Coll}
 use Rattle.gaspi_types.specs.declared.collectives.Coll.TheVariants.{Barrier, Allreduce, Create, Commit}
 use Rattle.gaspi_types.specs.declared.groups.Args.{Args}
 
--- Words that stand for stages.
+-- The words of stages.
 
+-- the word of a stage
 abbrev pub stage_word : Stage → List ℕ
 stage_word Building = codes "building"
 stage_word Committed = codes "committed"
 
--- the stage that a word stands for
+-- the stage with a word
 unfoldable pub stage_of : List ℕ → Option Stage
 stage_of word = find (λ stage. bytes_eq (stage_word stage) word) (Building ∷ Committed ∷ [])
 
 -- Collectives.
 
--- a collective: its kind and its arguments, values aside
+-- a collective: its kind and what it is called with, values aside
 abbrev pub coll_words : Coll → List (List ℕ)
 coll_words Barrier = codes "barrier" ∷ []
 coll_words (Allreduce op num_type count) = codes "allreduce" ∷ op_word op ∷ type_word num_type ∷ decimal count ∷ []
@@ -50,6 +51,7 @@ allreduce_of (first ∷ second ∷ third ∷ []) = do
   Some (Allreduce op num_type count)
 allreduce_of other = None
 
+-- a segment_create: its segment id and its size
 abbrev pub create_of : List (List ℕ) → Option Coll
 create_of (first ∷ second ∷ []) = do
   segment ← value_of first
@@ -61,6 +63,7 @@ abbrev pub barrier_of : List (List ℕ) → Option Coll
 barrier_of [] = Some Barrier
 barrier_of (word ∷ words) = None
 
+-- the collective that words spell
 unfoldable pub coll_of : List (List ℕ) → Option Coll
 coll_of [] = None
 coll_of (word ∷ arguments) =
@@ -71,13 +74,13 @@ coll_of (word ∷ arguments) =
 
 -- Collectives with their values, as ranks join them.
 
--- the numbers are those of their types
+-- the numbers of arguments are in the ranges of their types, and the values are those of the collective
 pub record AreArgsInRange (args : Args) : Type 0 where
   pub numbers : AllByRecursion (λ n. n < 2 ^ 32) (coll_fields args.coll)
   pub elements : AreInType args.values.num_type args.values.items
   pub own : HaveOwnValues args
 
--- the values stand behind the kind and the other arguments
+-- the words of arguments: the values are behind the collective
 abbrev pub args_words : Args → List (List ℕ)
 args_words args = coll_words args.coll ++ map signed_decimal args.values.items
 
@@ -88,13 +91,14 @@ values_of (Allreduce op num_type count) words = do
   Some (record { num_type = num_type; items = items })
 values_of coll words = Some no_values
 
+-- the arguments of a collective, where there is one, and of the words of its values
 abbrev pub args_with : Option Coll → List (List ℕ) → Option Args
 args_with found words = do
   coll ← found
   values ← values_of coll words
   Some (record { coll = coll; values = values })
 
--- values stand behind the four words of an allreduce
+-- the arguments that words spell: values are behind the four words of an allreduce
 unfoldable pub args_of : List (List ℕ) → Option Args
 args_of (first ∷ second ∷ third ∷ fourth ∷ elements) = args_with (coll_of (first ∷ second ∷ third ∷ fourth ∷ [])) elements
 args_of words = args_with (coll_of words) []

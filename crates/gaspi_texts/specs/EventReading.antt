@@ -22,6 +22,7 @@ number_below limit word = do
   n ← value_of word
   if nat_lt n limit then Some n else None
 
+-- the outcome with a word
 unfoldable pub outcome_of : List ℕ → Option Outcome
 outcome_of word = find (λ outcome. bytes_eq (outcome_word outcome) word) (Applied ∷ Failed ∷ [])
 
@@ -48,7 +49,7 @@ called_of (word ∷ words) = do
   place ← position (λ word. bytes_eq arrow word) words
   called_with caller (take place words) (drop (place + 1) words)
 
--- a caller, its group, and what it joins
+-- the join of a caller, a group, and the arguments
 unfoldable pub joined_of : List (List ℕ) → Option Event
 joined_of (first ∷ second ∷ words) = do
   caller ← caller_of first
@@ -57,7 +58,7 @@ joined_of (first ∷ second ∷ words) = do
   Some (Joined caller group args)
 joined_of other = None
 
--- the entry that is moved, and how that ends
+-- the fields of a transfer: those of its entry, and the outcome
 unfoldable pub moved_of : List (List ℕ) → Option Moved
 moved_of (first ∷ second ∷ third ∷ fourth ∷ fifth ∷ []) = do
   origin ← number_below 16 first
@@ -68,12 +69,15 @@ moved_of (first ∷ second ∷ third ∷ fourth ∷ fifth ∷ []) = do
   Some (record { origin = origin; queue = queue; target = target; number = number; outcome = outcome })
 moved_of other = None
 
+-- the take with these fields
 abbrev pub taken : Moved → Event
 taken m = Take m.origin m.queue m.target m.number m.outcome
 
+-- the put with these fields
 abbrev pub put : Moved → Event
 put m = Put m.origin m.queue m.target m.number m.outcome
 
+-- the event that words spell
 unfoldable pub event_of : List (List ℕ) → Option Event
 event_of [] = None
 event_of (word ∷ arguments) =

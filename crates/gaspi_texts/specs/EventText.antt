@@ -16,10 +16,12 @@ use Rattle.gaspi_texts.specs.ReplyText.{words_of_reply, IsInRange}
 abbrev pub caller_word : CallerId → List ℕ
 caller_word c = decimal c.rank ++ codes "." ++ decimal c.thread
 
+-- the word of an outcome
 abbrev pub outcome_word : Outcome → List ℕ
 outcome_word Applied = codes "ok"
 outcome_word Failed = codes "failed"
 
+-- the word between a call and its reply
 abbrev pub arrow : List ℕ
 arrow = codes "->"
 
@@ -36,12 +38,12 @@ words_of_event (Put origin queue target number outcome) =
 abbrev pub event_text : Event → List ℕ
 event_text e = join_with_byte 32 (words_of_event e)
 
--- what a caller joins has the values that it says
+-- a join has the values of its collective, and no others
 abbrev pub HasOwnValues : Event → Type 0
 HasOwnValues (Joined c group args) = HaveOwnValues args
 HasOwnValues e = Unit {0}
 
--- the numbers of an event are those of its types, whatever the world's limits are
+-- the numbers of an event are in the ranges of their types, whatever the world's limits are
 abbrev pub IsInEventRange : Event → Type 0
 IsInEventRange (Called c call reply) = (c.rank < 16) × (c.thread < 4) × IsWritable call × IsInRange reply
 IsInEventRange (Joined c group args) = (c.rank < 16) × (c.thread < 4) × (group < 8) × AreArgsInRange args

@@ -14,7 +14,7 @@ with_place place (x ∷ xs) = cond (place == x.place) (x.event ∷ with_place pl
 abbrev pub joined : List (List PlacedEvent) → List PlacedEvent
 joined lists = flat_map (λ (list : List PlacedEvent). list) lists
 
--- the lists have each event of a journal once, at its place, and no other
+-- the rank journals are those of a journal: they have each of its events once, at its place, and no other
 abbrev pub AreCutOf : List (List PlacedEvent) → List Event → Type 0
 AreCutOf lists journal = (place : ℕ) → with_place place (joined lists) ≡ option_to_list (slice_get journal place)
 
@@ -27,10 +27,11 @@ IsRisingFrom first (x ∷ xs) = (first ≤ x.place) × IsRisingFrom (suc x.place
 abbrev pub AreRisingFrom : ℕ → List (List PlacedEvent) → Type 0
 AreRisingFrom first lists = (k : ℕ) (list : List PlacedEvent) → slice_get lists k ≡ Some list → IsRisingFrom first list
 
+-- an event with its place
 abbrev pub placed : ℕ → Event → PlacedEvent
 placed place e = record { place = place; event = e }
 
--- the events of an owner in a history that begins at a place, each with its place
+-- the rank journal of an owner: its events in a history that begins at a place, each with its place
 abbrev pub cut : (Event → ℕ) → ℕ → ℕ → List Event → List PlacedEvent
 cut owner i place [] = []
 cut owner i place (e ∷ history) = cond (i == owner e) (placed place e ∷ []) [] ++ cut owner i (suc place) history

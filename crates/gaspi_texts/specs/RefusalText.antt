@@ -11,7 +11,7 @@ use Rattle.gaspi_types.specs.declared.replies.Refusal.{Refusal}
 use Rattle.gaspi_types.specs.declared.replies.Refusal.TheVariants.{BadRank, NoSegment, SegmentThere, Unregistered, BadRange, BadSize, BadQueue, QueueFull, QueueBroken, BadNote, ZeroValue, BadAlign, PassiveSize, NoGroup, GroupStage, NotMember, GroupMismatch, ActiveCollective, ResumeOther, CollectiveMismatch, BadCount, FloatType, SegmentBusy, GroupsFull, CallerEnded}
 use Rattle.gaspi_texts.specs.CollectiveText.{stage_word, stage_of, coll_words, coll_of, one_field}
 
--- Forms: what stands behind a refusal's number.
+-- Forms: what follows a refusal's number.
 
 pub data RefusalForm : Type 0 where
   Bare : RefusalForm
@@ -46,10 +46,12 @@ words_of_held OneCollective kept = coll_words kept
 
 -- no field, two numbers, and a stage
 
+-- no field
 abbrev pub no_field : List (List ℕ) → Option (Unit {0})
 no_field [] = Some tt
 no_field (word ∷ words) = None
 
+-- two numbers
 abbrev pub two_fields : List (List ℕ) → Option (ℕ × ℕ)
 two_fields (first ∷ second ∷ []) = do
   m ← value_of first
@@ -57,6 +59,7 @@ two_fields (first ∷ second ∷ []) = do
   Some (m, n)
 two_fields other = None
 
+-- a stage
 abbrev pub stage_field : List (List ℕ) → Option Stage
 stage_field [] = None
 stage_field (word ∷ []) = stage_of word
@@ -76,9 +79,11 @@ pub record RefusalRow : Type 0 where
   pub form : RefusalForm
   pub made : Held form → Refusal
 
+-- a refusal without a field
 abbrev pub bare : Refusal → RefusalRow
 bare refusal = record { form = Bare; made = λ nothing. refusal }
 
+-- a refusal with the fields of a form
 abbrev pub holding : (form : RefusalForm) → (Held form → Refusal) → RefusalRow
 holding form made = record { form = form; made = made }
 
@@ -143,5 +148,6 @@ holding_of refusal = Holds Bare tt
 abbrev pub words_of_holding : Holding → List (List ℕ)
 words_of_holding (Holds form held) = words_of_held form held
 
+-- the words of a refusal's fields
 abbrev pub field_words : Refusal → List (List ℕ)
 field_words refusal = words_of_holding (holding_of refusal)

@@ -20,6 +20,7 @@ use Rattle.gaspi_texts.specs.declared.reply_words.ReplyWord.TheVariants as words
 
 -- The words of a reply in the one form that is written.
 
+-- the words of a reply
 unfoldable pub words_of_reply : Reply → List (List ℕ)
 words_of_reply replies.Done = codes "done" ∷ []
 words_of_reply (replies.Value n) = codes "value" ∷ decimal n ∷ []
@@ -34,7 +35,7 @@ words_of_reply (replies.Refused refusal) = codes "refused" ∷ decimal (refusal_
 abbrev pub reply_text : Reply → List ℕ
 reply_text reply = join_with_byte 32 (words_of_reply reply)
 
--- the numbers of a reply are those of its types
+-- the numbers of a reply are in the ranges of their types
 abbrev pub IsInRange : Reply → Type 0
 IsInRange replies.Done = Unit {0}
 IsInRange (replies.Value n) = n < 2 ^ 64
@@ -47,7 +48,7 @@ IsInRange (replies.Refused refusal) = AllByRecursion (λ n. n < 2 ^ 32) (refusal
 
 -- What words spell. Numbers may have leading zeros, bytes digits of either case, and zero a sign.
 
--- the words that replies begin with
+-- the words with which replies begin
 abbrev pub reply_spelling : ReplyWord → List ℕ
 reply_spelling words.Done = codes "done"
 reply_spelling words.Value = codes "value"
@@ -58,12 +59,13 @@ reply_spelling words.List = codes "list"
 reply_spelling words.Timeout = codes "timeout"
 reply_spelling words.Refused = codes "refused"
 
+-- the reply's word with a spelling
 unfoldable pub reply_word_of : List ℕ → Option ReplyWord
 reply_word_of word =
     find (λ reply. bytes_eq (reply_spelling reply) word)
     (words.Done ∷ words.Value ∷ words.Id ∷ words.Bytes ∷ words.Mask ∷ words.List ∷ words.Timeout ∷ words.Refused ∷ [])
 
--- whether the reply's text holds bytes or elements, which take memory as they are read
+-- whether a reply has bytes or elements, which take memory as they are read
 abbrev pub holds_items : ReplyWord → Bool
 holds_items words.Done = false
 holds_items words.Value = false
@@ -79,21 +81,24 @@ abbrev pub takes_memory : List (List ℕ) → Bool
 takes_memory [] = false
 takes_memory (word ∷ arguments) = option_map_or holds_items (reply_word_of word) false
 
--- a reply without an argument, and with one
+-- a reply without a field
 abbrev pub plain_reply : Reply → List (List ℕ) → Option Reply
 plain_reply reply [] = Some reply
 plain_reply reply (word ∷ words) = None
 
+-- a reply with a number below 2^64
 abbrev pub value_reply : List (List ℕ) → Option Reply
 value_reply [] = None
 value_reply (word ∷ []) = option_map replies.Value (number_of word)
 value_reply (word ∷ next ∷ words) = None
 
+-- a reply with bytes
 abbrev pub bytes_reply : List (List ℕ) → Option Reply
 bytes_reply [] = None
 bytes_reply (word ∷ []) = option_map replies.Bytes (bytes_of word)
 bytes_reply (word ∷ next ∷ words) = None
 
+-- a reply with a type and numbers of it
 abbrev pub list_reply : List (List ℕ) → Option Reply
 list_reply [] = None
 list_reply (word ∷ elements) = do
@@ -101,6 +106,7 @@ list_reply (word ∷ elements) = do
   items ← elements_of num_type elements
   Some (replies.List (record { num_type = num_type; items = items }))
 
+-- a refusal: its number and its fields
 abbrev pub refused_reply : List (List ℕ) → Option Reply
 refused_reply [] = None
 refused_reply (word ∷ fields) = do

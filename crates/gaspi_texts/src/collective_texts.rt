@@ -1,4 +1,5 @@
-//! Texts of collectives, and of their values as ranks join them.
+//! Collectives in the texts of joins and of refusals, both ways: their kinds and what they are called with, and the values with
+//! which ranks join. What reads answers None where the words do not spell it.
 
 ghost use Rattle.std.specs.Prelude.{◌≡◌, ◌++◌, map, take, length, IfOk, OnOk, OnErr};
 ghost use Rattle.gaspi_texts.specs.CollectiveText.{coll_words, one_field, allreduce_of, create_of, coll_of, args_words, values_of, args_with, args_of};
@@ -11,7 +12,7 @@ use call_texts::{
 use gaspi_types::{Args, Bytes, Coll, NoMemory, NumType, Numbers, Sequence};
 use std::alloc::Global;
 
-/// The number that is the only field.
+/// The number that the only word spells.
 pub(crate) fn read_field(fields: &[&[u8]]) -> Option<u32>
     ensures { result ≡ one_field (map (λ word. word.now) fields.now) }
 {
@@ -21,7 +22,7 @@ pub(crate) fn read_field(fields: &[&[u8]]) -> Option<u32>
     read_value(field)
 }
 
-/// An operation, a type and a number of elements.
+/// The allreduce of an operation, a type and a number of elements.
 fn read_allreduce(words: &[&[u8]]) -> Option<Coll>
     ensures { result ≡ allreduce_of (map (λ word. word.now) words.now) }
 {
@@ -34,7 +35,7 @@ fn read_allreduce(words: &[&[u8]]) -> Option<Coll>
     Some(Coll::Allreduce(op, num_type, count))
 }
 
-/// A segment and its size.
+/// The `create` of a segment id and a size.
 fn read_create(words: &[&[u8]]) -> Option<Coll>
     ensures { result ≡ create_of (map (λ word. word.now) words.now) }
 {
@@ -46,7 +47,7 @@ fn read_create(words: &[&[u8]]) -> Option<Coll>
     Some(Coll::Create(segment, size))
 }
 
-/// The collective that words spell.
+/// The collective that words spell, values aside.
 #[tactic(auto, unfolding(crate::specs::CollectiveText::coll_of))]
 pub(crate) fn read_coll(fields: &[&[u8]]) -> Option<Coll>
     ensures { result ≡ coll_of (map (λ word. word.now) fields.now) }
@@ -74,7 +75,7 @@ pub(crate) fn read_coll(fields: &[&[u8]]) -> Option<Coll>
     None
 }
 
-/// Adds a collective behind a space: its kind and its arguments. Without memory the text keeps its front.
+/// Adds a collective, values aside, each word behind a space. After `NoMemory` the text still begins with what it had.
 pub(crate) fn append_coll(text: &mut Bytes, coll: Coll) -> Result<(), NoMemory>
     ensures ok { OnOk result (text.new ≡ text.old ++ spaced (coll_words coll)) }
     ensures err { OnErr result (take (length text.old) text.new ≡ text.old) }
@@ -114,7 +115,7 @@ fn read_values(alloc: Global, coll: Coll, words: &[&[u8]]) -> Result<Option<Numb
     Ok(Some(Numbers::new(num_type, items)))
 }
 
-/// A collective with the values that words spell.
+/// A collective, where there is one, with the values that words spell; for `read_args`.
 fn read_with(alloc: Global, coll: Option<Coll>, words: &[&[u8]]) -> Result<Option<Args>, NoMemory>
     ensures { IfOk result (λ args. args ≡ args_with coll (map (λ word. word.now) words.now)) }
 {
@@ -127,7 +128,7 @@ fn read_with(alloc: Global, coll: Option<Coll>, words: &[&[u8]]) -> Result<Optio
     Ok(Some(Args { coll, values }))
 }
 
-/// The collective that words spell, with its values, which stand behind the four words of an allreduce.
+/// The arguments that words spell: a collective, and its values behind the four words of an allreduce.
 #[tactic(auto, unfolding(crate::specs::CollectiveText::args_of))]
 pub(crate) fn read_args(alloc: Global, words: &[&[u8]]) -> Result<Option<Args>, NoMemory>
     ensures { IfOk result (λ args. args ≡ args_of (map (λ word. word.now) words.now)) }
@@ -141,7 +142,7 @@ pub(crate) fn read_args(alloc: Global, words: &[&[u8]]) -> Result<Option<Args>, 
     }
 }
 
-/// Adds a collective behind a space: its kind, its arguments and its values. Without memory the text keeps its front.
+/// Adds a collective and its values, each word behind a space. After `NoMemory` the text still begins with what it had.
 pub(crate) fn append_args(text: &mut Bytes, args: &Args) -> Result<(), NoMemory>
     ensures ok { OnOk result (text.new ≡ text.old ++ spaced (args_words args.now)) }
     ensures err { OnErr result (take (length text.old) text.new ≡ text.old) }

@@ -1,4 +1,7 @@
-//! Events read from words.
+//! Events read from words. None is answered where the words do not spell what is read.
+//!
+//! `read_called`, `read_joined`, `read_take` and `read_put` read what follows the word of their event (`arguments`), and the
+//! functions before them the words in it. Only a call, its reply and the values of a join may take memory.
 
 ghost use Rattle.std.specs.Prelude.{◌≡◌, ◌<◌, ◌==◌, map, length, position, IfOk, IfSome};
 ghost use Rattle.std.specs.Option.{option_map};
@@ -12,7 +15,7 @@ use call_texts::{read_recorded_call, read_value};
 use gaspi_types::{CallerId, Event, GroupId, NoMemory, Outcome, QueueId, RankId, ThreadId};
 use std::alloc::Global;
 
-/// An entry that is moved, and how that ends.
+/// The fields of a transfer: those of its entry, and the outcome.
 #[derive(Clone, Copy)]
 pub(crate) struct Moved {
     origin: RankId,
@@ -22,6 +25,7 @@ pub(crate) struct Moved {
     outcome: Outcome,
 }
 
+/// The rank that a word spells.
 fn read_rank(word: &[u8]) -> Option<RankId>
     ensures { result ≡ number_below 16 word.now }
 {
@@ -33,6 +37,7 @@ fn read_rank(word: &[u8]) -> Option<RankId>
     }
 }
 
+/// The thread that a word spells.
 fn read_thread(word: &[u8]) -> Option<ThreadId>
     ensures { result ≡ number_below 4 word.now }
 {
@@ -44,6 +49,7 @@ fn read_thread(word: &[u8]) -> Option<ThreadId>
     }
 }
 
+/// The queue that a word spells.
 fn read_queue(word: &[u8]) -> Option<QueueId>
     ensures { result ≡ number_below 8 word.now }
 {
@@ -55,6 +61,7 @@ fn read_queue(word: &[u8]) -> Option<QueueId>
     }
 }
 
+/// The group that a word spells.
 fn read_group(word: &[u8]) -> Option<GroupId>
     ensures { result ≡ number_below 8 word.now }
 {
@@ -66,7 +73,7 @@ fn read_group(word: &[u8]) -> Option<GroupId>
     }
 }
 
-/// The word for an outcome.
+/// The word of an outcome, for both ways.
 pub(crate) fn outcome_word(outcome: Outcome) -> &'static [u8]
     ensures { result.now ≡ outcome_word outcome }
 {
@@ -76,7 +83,7 @@ pub(crate) fn outcome_word(outcome: Outcome) -> &'static [u8]
     }
 }
 
-/// The outcome that a word stands for.
+/// The outcome with this word.
 #[tactic(auto, unfolding(crate::specs::EventReading::outcome_of))]
 fn read_outcome(word: &[u8]) -> Option<Outcome>
     ensures { result ≡ outcome_of word.now }
@@ -87,7 +94,7 @@ fn read_outcome(word: &[u8]) -> Option<Outcome>
         .find(|outcome| outcome_word(*outcome) == word)
 }
 
-/// Where the first dot of a word stands.
+/// The index of the first dot of a word, or None.
 fn place_of_dot(word: &[u8]) -> Option<usize>
     ensures value { result ≡ position (λ byte. byte == 46) word.now }
     ensures bound { IfSome result (λ place. place < length word.now) }
@@ -95,7 +102,7 @@ fn place_of_dot(word: &[u8]) -> Option<usize>
     word.iter().position(|byte| *byte == b'.')
 }
 
-/// Where the first arrow among words stands.
+/// The index of the first arrow among words, or None.
 fn place_of_arrow(words: &[&[u8]]) -> Option<usize>
     ensures value { result ≡ position (λ word. bytes_eq arrow word) (map (λ word. word.now) words.now) }
     ensures bound { IfSome result (λ place. place < length words.now) }
@@ -132,7 +139,7 @@ fn read_call_and_reply(
     Ok(Some(Event::Called(caller, call, reply)))
 }
 
-/// A caller, its call, and its reply behind the first arrow.
+/// The event of a caller, its call, and its reply behind the first arrow.
 #[tactic(auto, unfolding(crate::specs::EventReading::called_of))]
 fn read_called(alloc: Global, arguments: &[&[u8]]) -> Result<Option<Event>, NoMemory>
     ensures { IfOk result (λ event. event ≡ called_of (map (λ word. word.now) arguments.now)) }
@@ -149,7 +156,7 @@ fn read_called(alloc: Global, arguments: &[&[u8]]) -> Result<Option<Event>, NoMe
     read_call_and_reply(alloc, caller, &words[..place], &words[place + 1..])
 }
 
-/// A caller, its group, and what it joins.
+/// The join of a caller, a group, and the arguments.
 #[tactic(auto, unfolding(crate::specs::EventReading::joined_of))]
 fn read_joined(alloc: Global, arguments: &[&[u8]]) -> Result<Option<Event>, NoMemory>
     ensures { IfOk result (λ event. event ≡ joined_of (map (λ word. word.now) arguments.now)) }
@@ -169,7 +176,7 @@ fn read_joined(alloc: Global, arguments: &[&[u8]]) -> Result<Option<Event>, NoMe
     Ok(Some(Event::Joined(caller, group, args)))
 }
 
-/// An entry's origin, queue, target and number, and an outcome.
+/// The fields of a transfer: origin, queue, target and number of its entry, and the outcome.
 #[tactic(auto, unfolding(crate::specs::EventReading::moved_of))]
 fn read_moved(arguments: &[&[u8]]) -> Option<Moved>
     ensures { result ≡ moved_of (map (λ word. word.now) arguments.now) }
@@ -191,6 +198,7 @@ fn read_moved(arguments: &[&[u8]]) -> Option<Moved>
     })
 }
 
+/// The take with these fields.
 fn read_take(arguments: &[&[u8]]) -> Option<Event>
     ensures { result ≡ option_map taken (moved_of (map (λ word. word.now) arguments.now)) }
 {
@@ -204,6 +212,7 @@ fn read_take(arguments: &[&[u8]]) -> Option<Event>
     ))
 }
 
+/// The put with these fields.
 fn read_put(arguments: &[&[u8]]) -> Option<Event>
     ensures { result ≡ option_map put (moved_of (map (λ word. word.now) arguments.now)) }
 {
@@ -217,7 +226,7 @@ fn read_put(arguments: &[&[u8]]) -> Option<Event>
     ))
 }
 
-/// The event that words spell. Only bytes and lists take memory.
+/// The event that words spell: its word, and what follows that.
 #[tactic(auto, unfolding(crate::specs::EventReading::event_of))]
 pub(crate) fn read_event_words(alloc: Global, words: &[&[u8]]) -> Result<Option<Event>, NoMemory>
     ensures { IfOk result (λ event. event ≡ event_of (map (λ word. word.now) words.now)) }

@@ -1,4 +1,4 @@
-//! Texts of events.
+//! Texts of events, both ways. An event has one text: `read_event` accepts no other.
 
 ghost use Rattle.std.specs.Prelude.{◌≡◌, ◌≢◌, ◌++◌, ◌∷◌, ◌↔◌, IsTrue, take, length, OnOk, OnErr, IfOk, MatchOption};
 ghost use Rattle.std.specs.Fmt.{decimal};
@@ -13,7 +13,7 @@ use call_texts::{append_line, append_numbers, append_word, set_words, write_call
 use gaspi_types::{Bytes, CallerId, Event, GroupId, NoMemory, Sequence};
 use std::alloc::Global;
 
-/// Adds a caller behind a space: its rank and its thread. Without memory the text keeps its front.
+/// Adds a space and a caller: its rank, a dot, and its thread. After `NoMemory` the text still begins with what it had.
 fn append_caller(text: &mut Bytes, caller: CallerId) -> Result<(), NoMemory>
     ensures ok { OnOk result (text.new ≡ text.old ++ 32 ∷ caller_word caller) }
     ensures err { OnErr result (take (length text.old) text.new ≡ text.old) }
@@ -24,7 +24,7 @@ fn append_caller(text: &mut Bytes, caller: CallerId) -> Result<(), NoMemory>
     write_number(text, u64::from(caller.thread.number()))
 }
 
-/// Adds a caller and a group, each behind a space. Without memory the text keeps its front.
+/// Adds a caller and a group, each behind a space. After `NoMemory` the text still begins with what it had.
 fn append_caller_and_group(
     text: &mut Bytes,
     caller: CallerId,
@@ -37,7 +37,7 @@ fn append_caller_and_group(
     append_numbers(text, &[u64::from(group.number())])
 }
 
-/// Adds the text of an event. Without memory the text keeps its front.
+/// Adds the text of an event. After `NoMemory` the text still begins with what it had.
 #[tactic(auto, unfolding(crate::specs::EventText::words_of_event))]
 fn append_event(text: &mut Bytes, event: &Event) -> Result<(), NoMemory>
     ensures ok { OnOk result (text.new ≡ text.old ++ event_text event.now) }
@@ -86,7 +86,7 @@ fn append_event(text: &mut Bytes, event: &Event) -> Result<(), NoMemory>
     }
 }
 
-/// Adds the text of an event, in the one form that there is. Without memory nothing changes.
+/// Adds the text of an event. After `NoMemory` nothing has changed.
 pub fn write_event(text: &mut Bytes, event: &Event) -> Result<(), NoMemory>
     ensures ok { OnOk result (text.new ≡ text.old ++ event_text event.now) }
     ensures err { OnErr result (text.new ≡ text.old) }
@@ -99,8 +99,8 @@ pub fn write_event(text: &mut Bytes, event: &Event) -> Result<(), NoMemory>
     written
 }
 
-/// The room that reading an event takes, kept from one event to the next: for the words of its text, and for the text
-/// that an event has.
+/// Memory for reading events, used again for each: for the words of a text, and for the text of the event that they spell.
+/// Contracts say nothing of what it holds.
 #[derive(Debug, Drop)]
 pub struct ReadingBuffers<'a> {
     words: Vec<&'a [u8]>,
@@ -108,7 +108,7 @@ pub struct ReadingBuffers<'a> {
 }
 
 impl<'a> ReadingBuffers<'a> {
-    /// No room yet. It takes no memory.
+    /// Buffers without memory, which they take as they are used.
     pub fn new(alloc: Global) -> ReadingBuffers<'a> {
         ReadingBuffers {
             words: Vec::new(alloc),
@@ -117,7 +117,7 @@ impl<'a> ReadingBuffers<'a> {
     }
 }
 
-/// Whether a text is that of an event, which is written to be compared in place of what was written before.
+/// Whether a text is that of an event, whose text replaces what `written` held.
 fn is_text_of(written: &mut Bytes, event: &Event, text: &[u8]) -> Result<bool, NoMemory>
     ensures { IfOk result (λ same. IsTrue same ↔ (text.now ≡ event_text event.now)) }
 {
@@ -126,7 +126,7 @@ fn is_text_of(written: &mut Bytes, event: &Event, text: &[u8]) -> Result<bool, N
     Ok(written.as_slice() == text)
 }
 
-/// The event that a text spells; none exactly where it is the text of no event.
+/// The event that a text spells, or None exactly where it is the text of no event. It writes over `scratch`.
 pub fn read_event_with<'a>(
     alloc: Global,
     scratch: &mut ReadingBuffers<'a>,
@@ -150,7 +150,7 @@ pub fn read_event_with<'a>(
     }
 }
 
-/// The event that a text spells; none exactly where it is the text of no event.
+/// The same, with buffers of its own.
 pub fn read_event(alloc: Global, text: &[u8]) -> Result<Option<Event>, NoMemory>
     ensures { IfOk result (λ found. MatchOption found
         ((event : Event) → IsInEventRange event → text.now ≢ event_text event)

@@ -1,5 +1,5 @@
-//! Laws of journals. Each is a function whose body names, at most, the laws that it stands on: what it ensures is the
-//! law.
+//! A law of journals. A law is the contract of a function that does nothing, but that it may call the laws from which it
+//! follows.
 
 ghost use Rattle.std.specs.Prelude.{◌≡◌, List};
 ghost use Rattle.gaspi_types.specs.declared.events.Event.{Event};

@@ -1,4 +1,5 @@
-//! The lines of a journal's text.
+//! The lines of a journal's text, behind the first one: whether a line is the one that is expected. Each function writes over
+//! the buffers that it gets, also where it answers `NoMemory`.
 
 ghost use Rattle.std.specs.Prelude.{◌≡◌, ◌≢◌, ◌++◌, ◌↔◌, IsTrue, IfOk, OnOk, MatchOption};
 ghost use Rattle.std.specs.Fmt.{decimal};
@@ -10,7 +11,7 @@ use crate::{ReadingBuffers, read_event_with, write_number};
 use gaspi_types::{Bytes, Event, NoMemory};
 use std::alloc::Global;
 
-/// Writes a number in decimal over a text, and what stands behind it.
+/// Makes `text` a number in decimal and what follows it.
 fn set_number(text: &mut Bytes, number: u64, behind: &[u8]) -> Result<(), NoMemory>
     ensures { OnOk result (text.new ≡ decimal number ++ behind.now) }
 {
@@ -19,7 +20,7 @@ fn set_number(text: &mut Bytes, number: u64, behind: &[u8]) -> Result<(), NoMemo
     text.append(behind)
 }
 
-/// Whether a line is the end line of a journal of so many events. The scratch text is written over.
+/// Whether a line is the end line of a journal of `count` events.
 pub(crate) fn is_end_line(scratch: &mut Bytes, line: &[u8], count: u64) -> Result<bool, NoMemory>
     ensures { IfOk result (λ ends. IsTrue ends ↔ (line.now ≡ end_line count)) }
 {
@@ -30,7 +31,7 @@ pub(crate) fn is_end_line(scratch: &mut Bytes, line: &[u8], count: u64) -> Resul
     Ok(number == scratch.as_slice())
 }
 
-/// The event of a line, where it is the line of an event at that place. The number's text is written over.
+/// The event of a line, or None exactly where it is the line of no event at that place.
 pub(crate) fn read_event_line<'a>(
     alloc: Global,
     scratch: &mut ReadingBuffers<'a>,

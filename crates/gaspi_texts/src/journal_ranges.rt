@@ -1,12 +1,12 @@
-//! Journals in the ranges of their types.
+//! That the numbers of a journal are in the ranges of their types.
 
 ghost use Rattle.std.specs.Prelude.{◌≡◌, true};
 ghost use Rattle.gaspi_texts.specs.JournalText.{HaveOwnValues, AreInRange};
 
 use crate::{Journal, event_is_in_range};
 
-/// Whether the numbers of all events of a journal are those of their types. They always are, so no other journal has its text: it
-/// is asked in `prove!` alone, so that a compiler may leave it out. What callers join has the values that it says.
+/// Whether the numbers of all events of a journal are in the ranges of their types, so that no other journal has its text. They
+/// always are: `prove!` alone asks, so that a compiler may leave it out. Each join has to have the values of its collective.
 pub fn journal_is_in_range(journal: &Journal) -> bool
     requires { HaveOwnValues journal.now }
     ensures always { result ≡ true }

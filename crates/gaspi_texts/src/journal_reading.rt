@@ -1,4 +1,4 @@
-//! Journals read.
+//! The text of a journal read.
 
 ghost use Rattle.std.specs.Prelude.{◌≡◌, ℕ, IfOk, IsErrOf};
 ghost use Rattle.gaspi_texts.specs.JournalText.{journal_text, AreInRange, IsFaultyAt};
@@ -14,7 +14,8 @@ use thiserror::Error;
 /// Why a text is no journal.
 #[derive(Debug, Drop, Error)]
 pub enum JournalFault {
-    /// The first line that cannot stand there, from 1; where the text ends too early, the number of its lines plus 1.
+    /// The first line, from 1, that cannot follow those before it; where the text ends too early, the number of its lines plus
+    /// 1.
     #[error("not a journal {line}")]
     At { line: u64 },
     /// Out of memory.
@@ -25,12 +26,13 @@ pub enum JournalFault {
 impl From<NoMemory> for JournalFault {
     ghost from_gives = { λ _ fault. fault ≡ faults.NoMemory };
 
+    /// For the operator `?`, where memory runs out.
     fn from(_error: NoMemory) -> JournalFault {
         JournalFault::NoMemory
     }
 }
 
-/// Reads the text of a journal, which is accepted in its one form alone.
+/// The journal of a text, which has to have the one form of a journal; else the line of the first fault, or `NoMemory`.
 pub fn read(alloc: Global, text: &[u8]) -> Result<Journal, JournalFault>
     ensures text { IfOk result (λ journal. text.now ≡ journal_text journal) }
     ensures ranges { IfOk result (λ journal. AreInRange journal) }

@@ -1,11 +1,12 @@
-//! Journals whose joins have the values that they say.
+//! Whether the joins of a journal have the values of their collectives.
 
 ghost use Rattle.std.specs.Prelude.{◌↔◌, IsTrue};
 ghost use Rattle.gaspi_texts.specs.JournalText.{HaveOwnValues};
 
 use crate::{Journal, has_own_values};
 
-/// Whether what callers join has the values that it says, at all events of a journal.
+/// Whether each join of a journal has the values of its collective: an allreduce as many of its type as it says, and any other
+/// none.
 pub fn have_own_values(journal: &Journal) -> bool
     ensures { IsTrue result ↔ HaveOwnValues journal.now }
 {

@@ -1,4 +1,4 @@
-//! Journals written.
+//! The text of a journal written, whole or line by line.
 
 ghost use Rattle.std.specs.Prelude.{◌≡◌, ◌++◌, List, OnOk, OnErr};
 ghost use Rattle.gaspi_types.specs.declared.events.Event.{Event};
@@ -10,7 +10,7 @@ use crate::journal_ranges::journal_is_in_range;
 use crate::{Journal, write_event, write_number};
 use gaspi_types::{Bytes, Event, NoMemory};
 
-/// Adds the line of an event. Without memory a part of it may be there.
+/// Adds the line of an event. After `NoMemory` the text still begins with what it had; some of the line may be there.
 pub fn write_event_line(text: &mut Bytes, place: u64, event: &Event) -> Result<(), NoMemory>
     ensures ok { OnOk result (text.new ≡ text.old ++ event_line place event.now) }
     ensures kept { KeepsPrefix text.old text.new }
@@ -21,7 +21,8 @@ pub fn write_event_line(text: &mut Bytes, place: u64, event: &Event) -> Result<(
     text.append(b"\n")
 }
 
-/// Adds the end line of a journal of so many events. Without memory a part of it may be there.
+/// Adds the end line of a journal of `count` events. After `NoMemory` the text still begins with what it had; some of the line
+/// may be there.
 pub fn write_end_line(text: &mut Bytes, count: u64) -> Result<(), NoMemory>
     ensures ok { OnOk result (text.new ≡ text.old ++ end_line count) }
     ensures kept { KeepsPrefix text.old text.new }
@@ -31,7 +32,7 @@ pub fn write_end_line(text: &mut Bytes, count: u64) -> Result<(), NoMemory>
     text.append(b"\n")
 }
 
-/// Adds the text of a journal. Without memory a part of it may be there.
+/// Adds the text of a journal. After `NoMemory` the text still begins with what it had.
 fn append_journal(text: &mut Bytes, journal: &Journal) -> Result<(), NoMemory>
     ensures ok { OnOk result (text.new ≡ text.old ++ journal_text journal.now) }
     ensures kept { KeepsPrefix text.old text.new }
@@ -43,8 +44,8 @@ fn append_journal(text: &mut Bytes, journal: &Journal) -> Result<(), NoMemory>
     write_end_line(text, journal.len() as u64)
 }
 
-/// Adds the text of a journal, where what callers join has the values that it says. Without memory nothing changes. What is
-/// written is the text of this journal and of no other, so `read` takes it, and gives this journal.
+/// Adds the text of a journal, in which each join has to have the values of its collective. After `NoMemory` nothing has
+/// changed. The text is that of this journal and of no other, so `read` gives this journal.
 pub fn write(text: &mut Bytes, journal: &Journal) -> Result<(), NoMemory>
     requires { HaveOwnValues journal.now }
     ensures ok { OnOk result (text.new ≡ text.old ++ journal_text journal.now) }

@@ -1,7 +1,7 @@
-//! The texts of replies, events and journals, both ways, with those of the calls below them.
+//! The texts of replies, events and journals, both ways, with those of the calls in them; and the merge of rank journals.
 //!
-//! A `Journal` is the history of a world as a list of events. A `RankJournal` has the events of one rank with their places, and `MergeRoom`
-//! makes one journal of the lists of all ranks.
+//! A `Journal` is the history of a world as a list of events. A `RankJournal` has the events of one rank with their places, and
+//! `MergeRoom` makes one journal of the rank journals of all ranks.
 #![tactic(auto)]
 
 mod collective_texts;
@@ -45,11 +45,11 @@ pub use text_laws::{
 /// The events of a world in the order in which they happened: the place of an event is its index, from 0.
 pub type Journal = Sequence<Event>;
 
-/// A journal with room for so many events: it takes its memory when it is made, and adding an event below its room cannot
-/// fail. `into_sequence` makes a journal of it, without taking memory. The place of an event is its index, so it is the journal of
-/// a whole world, as under one lock, and not the part of one rank.
+/// A journal with a fixed capacity: it takes its memory when it is made, and to add an event within its capacity cannot fail.
+/// `into_sequence` makes a journal of it and takes no memory. It is the journal of a whole world, since the place of an event
+/// is its index.
 pub type ReservedJournal = Buffer<Event>;
 
-/// The part of one rank in a journal: the events that the rank owns, each with its place, in rising order of places. `MergeRoom`
-/// makes a journal of the parts of all ranks.
+/// The rank journal: the events that a rank owns, each with its place, in rising order of places. `MergeRoom` makes a journal
+/// of the rank journals of all ranks.
 pub type RankJournal = Buffer<PlacedEvent>;

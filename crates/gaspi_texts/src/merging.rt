@@ -1,4 +1,4 @@
-//! The journal of a world, merged of the journals of its ranks.
+//! The journal of a world, merged of its rank journals.
 
 ghost use Rattle.std.specs.Prelude.{◌≡◌, ◌<◌, ◌≤◌, ◌++◌, ◌∷◌, [], List, length, position, slice_get, slice_set, IfOk, Some};
 ghost use Rattle.gaspi_types.specs.declared.events.Event.{Event};
@@ -10,11 +10,11 @@ use gaspi_types::{Buffer, NoMemory, PlacedEvent};
 use std::alloc::Global;
 use std::marker::Model;
 
-/// Memory of a rank journal is given back in pieces of at least so many events.
+/// For how many events at least `take_next` gives memory back at a time.
 const GIVEN_BACK: usize = 4096;
 
-/// The events of a rank journal that are not merged yet. The next one is the last in memory, so that the memory behind it can be
-/// given back.
+/// The events of a rank journal that are not merged yet, of which contracts see the list. The next one is the last in memory,
+/// so that the memory behind it can be given back.
 #[derive(Drop)]
 struct UnmergedEvents {
     reversed: Vec<PlacedEvent>,
@@ -30,7 +30,7 @@ impl Model for UnmergedEvents {
 }
 
 impl UnmergedEvents {
-    /// All events of a rank journal.
+    /// All events of a rank journal. No memory is taken.
     fn all_of(journal: RankJournal) -> UnmergedEvents
         ensures { result ≡ journal.items }
     {
@@ -49,7 +49,7 @@ impl UnmergedEvents {
         }
     }
 
-    /// Takes the next event out. Memory that is no longer used is given back, a piece at a time.
+    /// Removes the next event and gives it to the caller. Now and then memory that is no longer used is given back.
     fn take_next(&mut self) -> PlacedEvent
         requires { 0 < length self.old }
         ensures { self.old ≡ result ∷ self.new }
@@ -62,15 +62,15 @@ impl UnmergedEvents {
     }
 }
 
-/// The index of the first list whose next event has that place.
+/// The index of the first list whose next event has that place, or None.
 fn next_list(lists: &[UnmergedEvents], place: u64) -> Option<usize>
     ensures { result ≡ position (starts_at place) lists.now }
 {
     lists.iter().position(|list| list.starts_at(place))
 }
 
-/// Rank journals, with room for the journal of the world. All memory is taken when it is made. Contracts see the rank journals,
-/// how many there may be, and how many events there may be in all.
+/// Rank journals, with memory for the journal of their world, taken when this is made. Contracts see the rank journals, how
+/// many there may be, and how many events there may be in all.
 #[derive(Drop)]
 pub struct MergeRoom {
     lists: Buffer<UnmergedEvents>,
@@ -89,7 +89,7 @@ impl Model for MergeRoom {
 }
 
 impl MergeRoom {
-    /// Room for the journals of so many ranks, which have so many events in all, and none of them yet.
+    /// Room for `ranks` rank journals with `events` events in all, and none of them yet.
     pub fn for_events(alloc: Global, ranks: usize, events: usize) -> Result<MergeRoom, NoMemory>
         ensures { IfOk result (λ room. room ≡ record { lists = []; ranks = ranks; events = events }) }
     {
@@ -99,7 +99,7 @@ impl MergeRoom {
         })
     }
 
-    /// Adds the journal of a rank. It takes no memory.
+    /// Adds a rank journal, for which there has to be room. No memory is taken.
     pub fn add(&mut self, journal: RankJournal)
         requires { length self.old.lists < self.old.ranks }
         ensures { self.new ≡ record self.old { lists = self.old.lists ++ journal.items ∷ [] } }
@@ -107,8 +107,9 @@ impl MergeRoom {
         self.lists.push(UnmergedEvents::all_of(journal));
     }
 
-    /// The journal of which the rank journals are parts: each event stands at its place. It takes no memory, and gives the memory
-    /// of the rank journals back while the journal grows.
+    /// The journal that has these rank journals: each event is at its place. There has to be one (`cut`), for which there is
+    /// room, and the places of each rank journal rise. No memory is taken, and that of the rank journals is given back while
+    /// the journal grows.
     pub fn merge(self) -> Journal
         requires rising { AreRisingFrom 0 self.lists }
         requires room { length (joined self.lists) ≤ self.events }

@@ -1,4 +1,4 @@
-//! Whether what callers join has the values that it says. (GASPI: allreduce)
+//! Whether a join has its own values: those of its collective, and no others. (GASPI: allreduce)
 
 ghost use Rattle.std.specs.Prelude.{◌≡◌, ◌↔◌, ◌==◌, IsTrue, length};
 ghost use Rattle.gaspi_types.specs.Collectives.{AreValuesOf};
@@ -7,7 +7,7 @@ ghost use Rattle.gaspi_texts.specs.EventText.{HasOwnValues};
 
 use gaspi_types::{Coll, Event, NumType, Numbers};
 
-/// Whether numbers are of a type, and so many.
+/// Whether numbers are of a type, and `count` in all.
 fn have_type_and_count(values: &Numbers, num_type: NumType, count: u32) -> bool
     ensures { IsTrue result ↔ ((values.now.num_type ≡ num_type) × (length values.now.items ≡ count)) }
 {
@@ -26,8 +26,7 @@ fn are_values_of(coll: Coll, values: &Numbers) -> bool
     }
 }
 
-/// Whether what the event's caller joins, if it joins, has the values that it says: then the event's numbers are those of its
-/// types.
+/// Whether an event, if it is a join, has the values of its collective. Then its numbers are in the ranges of their types.
 pub fn has_own_values(event: &Event) -> bool
     ensures { IsTrue result ↔ HasOwnValues event.now }
 {

@@ -1,4 +1,5 @@
-//! Values in the ranges of their types. What is said here holds of every value of the type: the functions only read it.
+//! That the numbers, bytes and lists in a value are in the ranges of their types, which is so of every value, but that a join
+//! has to have the values of its collective. Each function only reads the value, and its contract says so.
 
 ghost use Rattle.std.specs.Prelude.{◌^◌, ◌<◌};
 ghost use Rattle.std.specs.List.{AllByRecursion};
@@ -11,12 +12,12 @@ ghost use Rattle.gaspi_texts.specs.ReplyText.{IsInRange};
 use call_texts::{bytes_are_in_range, call_is_in_range};
 use gaspi_types::{Args, Coll, Event, Refusal, Reply};
 
-/// The numbers of a collective are those of their types.
+/// The numbers of a collective are below 2^32.
 fn coll_is_in_range(_coll: Coll)
     ensures { AllByRecursion (λ n. n < 2 ^ 32) (coll_fields _coll) }
 {}
 
-/// The numbers of a collective with its values are those of their types.
+/// The numbers of arguments are in the ranges of their types, where the values are those of the collective.
 fn args_are_in_range(args: &Args)
     requires { HaveOwnValues args.now }
     ensures { AreArgsInRange args.now }
@@ -25,7 +26,7 @@ fn args_are_in_range(args: &Args)
     let _read = args.values.items();
 }
 
-/// The numbers of a refusal are those of their types.
+/// The numbers of a refusal are below 2^32.
 fn refusal_is_in_range(refusal: Refusal)
     ensures { AllByRecursion (λ n. n < 2 ^ 32) (refusal_fields refusal) }
 {
@@ -37,7 +38,7 @@ fn refusal_is_in_range(refusal: Refusal)
     }
 }
 
-/// The numbers of a reply are those of its types, so its text reads back as that reply.
+/// The numbers of a reply are in the ranges of their types; so, by `replies_read_back`, its text reads back as that reply.
 pub fn reply_is_in_range(reply: &Reply)
     ensures { IsInRange reply.now }
 {
@@ -57,8 +58,8 @@ pub fn reply_is_in_range(reply: &Reply)
     }
 }
 
-/// The numbers of an event are those of its types, so its text reads back as that event. What a caller joins has the values
-/// that it says.
+/// The numbers of an event are in the ranges of their types, so its text reads back as that event. A join has to have the
+/// values of its collective.
 pub fn event_is_in_range(event: &Event)
     requires { HasOwnValues event.now }
     ensures { IsInEventRange event.now }

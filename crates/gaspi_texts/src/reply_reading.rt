@@ -1,4 +1,6 @@
-//! Replies read from words.
+//! Replies read from the words behind a reply's word. None is answered where these do not spell its fields.
+//!
+//! `read_X_reply` reads the fields of the reply X, and `read_refusal` and the functions before it those of a refusal.
 
 ghost use Rattle.std.specs.Prelude.{◌≡◌, map, IfOk, OnErr, true};
 ghost use Rattle.std.specs.Option.{option_map};
@@ -13,7 +15,7 @@ use call_texts::{read_bytes, read_elements, read_number, read_type, read_value};
 use gaspi_types::{NoMemory, Numbers, Refusal, Reply, Stage};
 use std::alloc::Global;
 
-/// A refusal without a field.
+/// This refusal, which has no field; None where there is a word.
 fn read_bare(refusal: Refusal, fields: &[&[u8]]) -> Option<Refusal>
     ensures { result ≡ option_map (λ nothing. refusal) (no_field (map (λ word. word.now) fields.now)) }
 {
@@ -24,7 +26,7 @@ fn read_bare(refusal: Refusal, fields: &[&[u8]]) -> Option<Refusal>
     }
 }
 
-/// The numbers that are the only two fields.
+/// The two numbers that the only two words spell.
 fn read_two_fields(fields: &[&[u8]]) -> Option<(u32, u32)>
     ensures { result ≡ two_fields (map (λ word. word.now) fields.now) }
 {
@@ -36,7 +38,7 @@ fn read_two_fields(fields: &[&[u8]]) -> Option<(u32, u32)>
     Some((first, second))
 }
 
-/// The stage that is the only field.
+/// The stage with the only word.
 fn read_stage_field(fields: &[&[u8]]) -> Option<Stage>
     ensures { result ≡ stage_field (map (λ word. word.now) fields.now) }
 {
@@ -46,7 +48,7 @@ fn read_stage_field(fields: &[&[u8]]) -> Option<Stage>
     read_stage(field)
 }
 
-/// The refusal of a number with its fields.
+/// The refusal with this number, and with the fields that these words spell; None also where no refusal has this number.
 #[tactic(auto, unfolding(crate::specs::RefusalText::refusal_of))]
 fn read_refusal(number: u64, fields: &[&[u8]]) -> Option<Refusal>
     ensures { result ≡ refusal_of number (map (λ word. word.now) fields.now) }
@@ -81,13 +83,14 @@ fn read_refusal(number: u64, fields: &[&[u8]]) -> Option<Refusal>
     }
 }
 
-/// A reply without an argument.
+/// This reply, which has no field; None where there is a word.
 fn read_plain(reply: Reply, words: &[&[u8]]) -> Option<Reply>
     ensures { result ≡ plain_reply reply (map (λ word. word.now) words.now) }
 {
     if words.is_empty() { Some(reply) } else { None }
 }
 
+/// A reply with a number below 2^64.
 fn read_value_reply(words: &[&[u8]]) -> Option<Reply>
     ensures { result ≡ value_reply (map (λ word. word.now) words.now) }
 {
@@ -98,6 +101,7 @@ fn read_value_reply(words: &[&[u8]]) -> Option<Reply>
     Some(Reply::Value(number))
 }
 
+/// A reply with bytes in hex.
 fn read_bytes_reply(alloc: Global, words: &[&[u8]]) -> Result<Option<Reply>, NoMemory>
     ensures { IfOk result (λ reply. reply ≡ bytes_reply (map (λ word. word.now) words.now)) }
 {
@@ -110,6 +114,7 @@ fn read_bytes_reply(alloc: Global, words: &[&[u8]]) -> Result<Option<Reply>, NoM
     Ok(Some(Reply::Bytes(bytes)))
 }
 
+/// A reply with a type and numbers of it.
 fn read_list_reply(alloc: Global, words: &[&[u8]]) -> Result<Option<Reply>, NoMemory>
     ensures { IfOk result (λ reply. reply ≡ list_reply (map (λ word. word.now) words.now)) }
 {
@@ -125,6 +130,7 @@ fn read_list_reply(alloc: Global, words: &[&[u8]]) -> Result<Option<Reply>, NoMe
     Ok(Some(Reply::List(Numbers::new(num_type, items))))
 }
 
+/// A refusal: its number and its fields.
 fn read_refused_reply(words: &[&[u8]]) -> Option<Reply>
     ensures { result ≡ refused_reply (map (λ word. word.now) words.now) }
 {
@@ -136,6 +142,7 @@ fn read_refused_reply(words: &[&[u8]]) -> Option<Reply>
     Some(Reply::Refused(refusal))
 }
 
+/// A reply with the number of something.
 fn read_id_reply(words: &[&[u8]]) -> Option<Reply>
     ensures { result ≡ option_map Id (one_field (map (λ word. word.now) words.now)) }
 {
@@ -143,6 +150,7 @@ fn read_id_reply(words: &[&[u8]]) -> Option<Reply>
     Some(Reply::Id(number))
 }
 
+/// A reply with a mask of ranks.
 fn read_mask_reply(words: &[&[u8]]) -> Option<Reply>
     ensures { result ≡ option_map Mask (one_field (map (λ word. word.now) words.now)) }
 {
@@ -150,7 +158,7 @@ fn read_mask_reply(words: &[&[u8]]) -> Option<Reply>
     Some(Reply::Mask(mask))
 }
 
-/// The reply of a word and the words behind it. Only bytes and lists take memory.
+/// The reply of a reply's word, with the fields that `words` spell. Only bytes and lists take memory.
 pub(crate) fn reply_with(
     alloc: Global,
     kind: ReplyWord,

@@ -1,4 +1,4 @@
-//! Texts of replies.
+//! Texts of replies, both ways: one form is written, and others are read too.
 
 ghost use Rattle.std.specs.Prelude.{◌≡◌, ◌++◌, ◌∷◌, map, take, length, OnOk, OnErr, IfOk, codes, true};
 ghost use Rattle.std.specs.Fmt.{decimal};
@@ -18,7 +18,7 @@ use call_texts::{
 use gaspi_types::{Bytes, NoMemory, Refusal, Reply};
 use std::alloc::Global;
 
-/// Adds the fields of a refusal, each behind a space. Without memory the text keeps its front.
+/// Adds the fields of a refusal, each behind a space. After `NoMemory` the text still begins with what it had.
 fn append_fields(text: &mut Bytes, refusal: Refusal) -> Result<(), NoMemory>
     ensures ok { OnOk result (text.new ≡ text.old ++ spaced (field_words refusal)) }
     ensures err { OnErr result (take (length text.old) text.new ≡ text.old) }
@@ -41,7 +41,7 @@ fn append_fields(text: &mut Bytes, refusal: Refusal) -> Result<(), NoMemory>
     }
 }
 
-/// Adds the text of a reply. Without memory the text keeps its front.
+/// Adds the text of a reply. After `NoMemory` the text still begins with what it had.
 #[tactic(auto, unfolding(crate::specs::ReplyText::words_of_reply))]
 fn append_reply(text: &mut Bytes, reply: &Reply) -> Result<(), NoMemory>
     ensures ok { OnOk result (text.new ≡ text.old ++ reply_text reply.now) }
@@ -69,7 +69,7 @@ fn append_reply(text: &mut Bytes, reply: &Reply) -> Result<(), NoMemory>
     }
 }
 
-/// Adds the text of a reply, in the one form that is written. Without memory nothing changes.
+/// Adds the text of a reply, in the one form that is written. After `NoMemory` nothing has changed.
 pub fn write_reply(text: &mut Bytes, reply: &Reply) -> Result<(), NoMemory>
     ensures ok { OnOk result (text.new ≡ text.old ++ reply_text reply.now) }
     ensures err { OnErr result (text.new ≡ text.old) }
@@ -82,8 +82,8 @@ pub fn write_reply(text: &mut Bytes, reply: &Reply) -> Result<(), NoMemory>
     written
 }
 
-/// The reply that words spell: numbers may have leading zeros, bytes digits of either case, and zero a sign. Only bytes
-/// and lists take memory.
+/// The reply that words spell, or None where they spell none. Numbers may have leading zeros, bytes digits of either case, and
+/// zero a sign. Only bytes and lists take memory.
 #[tactic(auto, unfolding(crate::specs::ReplyText::reply_of))]
 pub fn read_reply_words(alloc: Global, words: &[&[u8]]) -> Result<Option<Reply>, NoMemory>
     ensures ok { IfOk result (λ reply. reply ≡ reply_of (map (λ word. word.now) words.now)) }
@@ -98,7 +98,7 @@ pub fn read_reply_words(alloc: Global, words: &[&[u8]]) -> Result<Option<Reply>,
     reply_with(alloc, kind, arguments)
 }
 
-/// The reply that a text spells, its words apart by spaces and tabs.
+/// The reply that the words of a text spell, or None; spaces and tabs separate words.
 pub fn read_reply(alloc: Global, text: &[u8]) -> Result<Option<Reply>, NoMemory>
     ensures { IfOk result (λ reply. reply ≡ reply_of (words_of text.now)) }
 {

@@ -1,4 +1,4 @@
-//! The words of replies.
+//! The words with which replies begin, and those of the stages in them, both ways.
 
 ghost use Rattle.std.specs.Prelude.{◌≡◌};
 ghost use Rattle.gaspi_texts.specs.CollectiveText.{stage_word, stage_of};
@@ -6,7 +6,7 @@ ghost use Rattle.gaspi_texts.specs.ReplyText.{reply_spelling, reply_word_of};
 
 use gaspi_types::Stage;
 
-/// The word that a reply's text begins with.
+/// The word with which a reply's text begins.
 #[derive(Clone, Copy, Debug, PartialEq, Eq)]
 pub(crate) enum ReplyWord {
     Done,
@@ -20,7 +20,7 @@ pub(crate) enum ReplyWord {
 }
 
 impl ReplyWord {
-    /// Its spelling.
+    /// The spelling of this word.
     pub(crate) fn spelling(self) -> &'static [u8]
         ensures { result.now ≡ reply_spelling self }
     {
@@ -36,7 +36,7 @@ impl ReplyWord {
         }
     }
 
-    /// The reply's word that is spelled so.
+    /// The reply's word with this spelling, or None.
     #[tactic(auto, unfolding(crate::specs::ReplyText::reply_word_of))]
     pub(crate) fn of(word: &[u8]) -> Option<ReplyWord>
         ensures { result ≡ reply_word_of word.now }
@@ -57,7 +57,7 @@ impl ReplyWord {
     }
 }
 
-/// The word for a stage.
+/// The word of a stage.
 pub(crate) fn stage_word(stage: Stage) -> &'static [u8]
     ensures { result.now ≡ stage_word stage }
 {
@@ -67,7 +67,7 @@ pub(crate) fn stage_word(stage: Stage) -> &'static [u8]
     }
 }
 
-/// The stage that a word stands for.
+/// The stage with this word, or None.
 #[tactic(auto, unfolding(crate::specs::CollectiveText::stage_of))]
 pub(crate) fn read_stage(word: &[u8]) -> Option<Stage>
     ensures { result ≡ stage_of word.now }

@@ -1,5 +1,5 @@
-//! Laws of the texts. Each is a function whose body names, at most, the laws that it stands on: what it ensures is the
-//! law.
+//! Laws of the texts of replies and events. A law is the contract of a function that does nothing, but that it may call the
+//! laws from which it follows.
 
 ghost use Rattle.std.specs.Prelude.{◌≡◌, ◌==◌, ℕ, List, Some, false};
 ghost use Rattle.std.specs.List.{All};
@@ -16,7 +16,7 @@ use call_texts::{
     read_words_are_counted, read_words_are_in_range, words_read_back, written_words_are_plain,
 };
 
-/// The laws of the texts of calls, on which those of replies and events stand.
+/// The laws of the texts of calls, from which those of replies and events follow.
 fn call_laws()
     ensures { CallLaws }
 {
@@ -30,7 +30,7 @@ fn call_laws()
     written_words_are_plain();
 }
 
-/// Different replies have different texts.
+/// Replies in range with the same text are equal.
 pub fn replies_differ_in_text()
     ensures { (first second : Reply) → IsInRange first → IsInRange second
         → reply_text first ≡ reply_text second → first ≡ second }
@@ -45,28 +45,28 @@ pub fn replies_read_back()
     call_laws();
 }
 
-/// The numbers of a reply that words spell are those of its types.
+/// The numbers of a reply that words spell are in the ranges of their types.
 pub fn read_replies_are_in_range()
     ensures { (words : List (List ℕ)) (reply : Reply) → reply_of words ≡ Some reply → IsInRange reply }
 {
     call_laws();
 }
 
-/// An event in the one form that there is reads back as that event.
+/// The text of an event in range reads back as that event.
 pub(crate) fn events_read_back()
     ensures { (event : Event) → IsInEventRange event → event_of (words_of (event_text event)) ≡ Some event }
 {
     call_laws();
 }
 
-/// The numbers of an event that words spell are those of its types.
+/// The numbers of an event that words spell are in the ranges of their types.
 pub(crate) fn read_events_are_in_range()
     ensures { (words : List (List ℕ)) (event : Event) → event_of words ≡ Some event → IsInEventRange event }
 {
     call_laws();
 }
 
-/// Different events have different texts.
+/// Events in range with the same text are equal.
 pub fn events_differ_in_text()
     ensures { (first second : Event) → IsInEventRange first → IsInEventRange second
         → event_text first ≡ event_text second → first ≡ second }

@@ -1,21 +1,22 @@
--- Steps that may fail, one after another: the first failure is the answer.
+-- Checks one after another: the first failure is the answer.
 use Rattle.std.specs.Prelude.{Bool, List, [], ◌∷◌, Option, None, Some, Result, Ok, Err, if◌then◌else◌}
 
+-- the second step, where the first is Ok
 infixl 10 ◌>>=◌
 abbrev pub ◌>>=◌ : {A B E : Type 0} → Result A E → (A → Result B E) → Result B E
 (Ok x) >>= f = f x
 (Err e) >>= f = Err e
 
--- passes where the test holds
+-- Ok where the test holds, else that failure
 abbrev pub check : {E : Type 0} → Bool → E → Result (Unit {0}) E
 check test e = if test then Ok tt else Err e
 
--- passes with what is there
+-- Ok with the value, where there is one, else that failure
 abbrev pub ok_or : {A E : Type 0} → Option A → E → Result A E
 ok_or (Some x) e = Ok x
 ok_or None e = Err e
 
--- passes where nothing is there
+-- Ok where there is no value, else the failure that is made of it
 abbrev pub err_if_some : {A E : Type 0} → Option A → (A → E) → Result (Unit {0}) E
 err_if_some None e = Ok tt
 err_if_some (Some x) e = Err (e x)

@@ -1,4 +1,5 @@
--- What an event touches beside the posts of its owner's rank, and what it then reaches. (own choice)
+-- The footprint of an event: the parts that it may read or change beside the posts of its owner, as declared and as they are
+-- there. (own choice)
 use Rattle.std.specs.Prelude.{ℕ, ◌==◌, nat_lt, if◌then◌else◌}
 use Rattle.gaspi_types.specs.declared.entries.Kind.{Kind}
 use Rattle.gaspi_types.specs.declared.entries.Kind.TheVariants.{Write, Read, Notify, ReadNote}
@@ -7,8 +8,8 @@ use Rattle.gaspi_types.specs.declared.footprints.DeclaredFootprint.TheVariants a
 use Rattle.gaspi_types.specs.declared.footprints.Footprint.{Footprint}
 use Rattle.gaspi_types.specs.declared.footprints.Footprint.TheVariants.{Alone, OwnMemory, PeerMemory, BothMemories, PeerPosts, Group, GroupAndMemory}
 
--- in a world of so many ranks, by an event of a rank; what is no rank or no number of a group has no part, and a peer that is
--- the owner is none
+-- the footprint, in a world of `ranks` ranks, of an event that `me` owns: where a rank or a group is declared that is not
+-- there, it has no part at all, and the owner is no peer
 abbrev pub footprint_of : ℕ → ℕ → DeclaredFootprint → Footprint
 footprint_of ranks me touches.Nothing = Alone
 footprint_of ranks me touches.OwnMemory = OwnMemory

@@ -6,6 +6,7 @@ use Rattle.gaspi_types.specs.declared.collectives.NumType.TheVariants.{Int, Uint
 
 -- the range of a type; numbers of FLOAT and DOUBLE are those of LONG
 
+-- the least number of a type
 abbrev pub lowest : NumType → ℤ
 lowest Int = negsuc 2147483647
 lowest Uint = pos 0
@@ -14,6 +15,7 @@ lowest Ulong = pos 0
 lowest Float = negsuc 9223372036854775807
 lowest Double = negsuc 9223372036854775807
 
+-- the greatest number of a type
 abbrev pub highest : NumType → ℤ
 highest Int = pos 2147483647
 highest Uint = pos 4294967295
@@ -22,6 +24,7 @@ highest Ulong = pos 18446744073709551615
 highest Float = pos 9223372036854775807
 highest Double = pos 9223372036854775807
 
+-- whether a number is in the range of a type
 abbrev pub is_in_type : NumType → ℤ → Bool
 is_in_type t z = int_le (lowest t) z && int_le z (highest t)
 

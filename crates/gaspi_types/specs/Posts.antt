@@ -1,5 +1,5 @@
--- What a post asks for: its entries, or the first refusal up to the notification value. A single post is a list post of
--- one item. (GASPI: one-sided communication)
+-- What a post asks for: the kinds of its entries, or its first refusal up to that of the notification value. A single post is
+-- checked as a list post of one item. (GASPI: one-sided communication)
 use Rattle.std.specs.Prelude.{ℕ, Bool, true, false, not, ◌==◌, ◌&&◌, nat_lt, nat_le, List, [], ◌∷◌, ◌++◌, length, Result, Ok}
 use Rattle.gaspi_types.specs.Checks.{◌>>=◌, check, ok_or, check_each}
 use Rattle.gaspi_types.specs.SegmentBytes.{is_transfer_size, is_within}
@@ -28,11 +28,11 @@ use Rattle.gaspi_types.specs.declared.entries.Kind.TheVariants.{Write, Read, Not
 use Rattle.gaspi_types.specs.declared.replies.Refusal.{Refusal}
 use Rattle.gaspi_types.specs.declared.replies.Refusal.TheVariants.{NoSegment, Unregistered, BadRange, BadSize, BadNote, ZeroValue, BadCount}
 
--- a range of a segment that is known so
+-- a range of a segment of this extent
 abbrev pub range_in : Extent → ℕ → ℕ → ℕ → ByteRange
 range_in extent segment offset size = record { segment = segment; generation = extent.generation; offset = offset; size = size }
 
--- a slot of a segment that is known so
+-- a slot of a segment of this extent
 abbrev pub slot_in : Extent → ℕ → ℕ → NoteSlot
 slot_in extent segment note = record { segment = segment; generation = extent.generation; note = note }
 
@@ -40,16 +40,19 @@ slot_in extent segment note = record { segment = segment; generation = extent.ge
 abbrev pub is_list_length : ℕ → Bool
 is_list_length items = nat_le 1 items && nat_le items 256
 
--- what each single post transfers
+-- the ranges of a `write`
 abbrev pub write_item : write.Write → Item
 write_item call = record { seg = call.seg; offset = call.offset; rseg = call.rseg; roffset = call.roffset; size = call.size }
 
+-- the ranges of a `read`
 abbrev pub read_item : read.Read → Item
 read_item call = record { seg = call.seg; offset = call.offset; rseg = call.rseg; roffset = call.roffset; size = call.size }
 
+-- the ranges of a `write_notify`
 abbrev pub write_notify_item : write_notify.WriteNotify → Item
 write_notify_item call = record { seg = call.seg; offset = call.offset; rseg = call.rseg; roffset = call.roffset; size = call.size }
 
+-- the ranges of a `read_notify`
 abbrev pub read_notify_item : read_notify.ReadNotify → Item
 read_notify_item call = record { seg = call.seg; offset = call.offset; rseg = call.rseg; roffset = call.roffset; size = call.size }
 
@@ -64,8 +67,8 @@ has_segments me table rank item = do
 abbrev pub has_size : Item → Result (Unit {0}) Refusal
 has_size item = check (is_transfer_size item.size) BadSize
 
--- The two ends of a transfer with a rank, or its first refusal. The refusals stand in the order of all calls: segments,
--- sizes, ranges.
+-- What a post finds for one write or read with a rank, or its first refusal. The refusals come in the order of all calls:
+-- segments, sizes, ranges.
 abbrev pub endpoints_of : ℕ → SegmentTable → ℕ → Item → Result Endpoints Refusal
 endpoints_of me table rank item = do
   mine ← ok_or (extent_in table.own item.seg) NoSegment
@@ -80,12 +83,12 @@ endpoints_of me table rank item = do
     target = range_in theirs item.rseg item.roffset item.size;
   })
 
--- what a transfer between two ends asks for
+-- the kind of an entry with these ranges
 abbrev pub transfer_kind : Direction → Endpoints → Kind
 transfer_kind Outward ends = Write ends.own ends.target
 transfer_kind Inward ends = Read ends.own ends.target
 
--- a transfer for each item, in order
+-- the kinds of the writes or reads of all items, in order
 abbrev pub transfers_of : Direction → ℕ → SegmentTable → ℕ → List Item → Result (List Kind) Refusal
 transfers_of direction me table rank [] = Ok []
 transfers_of direction me table rank (item ∷ items) = do
@@ -93,8 +96,8 @@ transfers_of direction me table rank (item ∷ items) = do
   kinds ← transfers_of direction me table rank items
   Ok (transfer_kind direction ends ∷ kinds)
 
--- The transfers of a post, and what else it looks up, behind the segments of its items. Own choice: each kind of check goes
--- through all items before the next one.
+-- The writes or reads of a post, with what `beside` finds, which is checked behind the segments of the items. Own choice: each
+-- kind of check goes through all items before the next one.
 abbrev pub checked_transfers : {A : Type 0} → Direction → ℕ → SegmentTable → ℕ → List Item → Result A Refusal → Result (A × List Kind) Refusal
 checked_transfers direction me table rank items beside = do
   there ← check_each (has_segments me table rank) items
@@ -103,11 +106,11 @@ checked_transfers direction me table rank items beside = do
   kinds ← transfers_of direction me table rank items
   Ok (known, kinds)
 
--- nothing else is looked up
+-- nothing else is checked
 abbrev pub no_further_check : Result (Unit {0}) Refusal
 no_further_check = Ok tt
 
--- transfers alone
+-- writes or reads, without a notification
 abbrev pub transfers_alone : Direction → ℕ → SegmentTable → ℕ → List Item → Result (List Kind) Refusal
 transfers_alone direction me table rank items = do
   checked ← checked_transfers direction me table rank items no_further_check
@@ -129,7 +132,7 @@ reads_with_notification notes me table rank items segment note = do
   noted ← check (nat_lt note notes) BadNote
   Ok (checked.1 ++ ReadNote (slot_in checked.0 segment note) ∷ [])
 
--- what a list asks for: its length is checked before all else
+-- what a list post asks for: its length is checked first
 abbrev pub listed : List Item → Result (List Kind) Refusal → Result (List Kind) Refusal
 listed items asked = do
   counted ← check (is_list_length (length items)) BadCount
@@ -171,7 +174,7 @@ write_list_notify_kinds notes me table call = listed call.items (writes_with_not
 abbrev pub read_list_notify_kinds : ℕ → ℕ → SegmentTable → read_list_notify.ReadListNotify → Result (List Kind) Refusal
 read_list_notify_kinds notes me table call = listed call.items (reads_with_notification notes me table call.rank call.items call.nseg call.note)
 
--- the posts of lists
+-- whether a call is a list post
 abbrev pub is_list_post : Call → Bool
 is_list_post (calls.WriteList call) = true
 is_list_post (calls.WriteListNotify call) = true
@@ -179,7 +182,7 @@ is_list_post (calls.ReadList call) = true
 is_list_post (calls.ReadListNotify call) = true
 is_list_post call = false
 
--- what a call asks to be appended that posts, with so many notification slots in a segment; any other asks for nothing
+-- the kinds of the entries of a call, where a segment has `notes` notification slots; a call that is no post has none
 abbrev pub call_kinds : ℕ → ℕ → SegmentTable → Call → Result (List Kind) Refusal
 call_kinds notes me table (calls.Write call) = write_kinds me table call
 call_kinds notes me table (calls.Read call) = read_kinds me table call

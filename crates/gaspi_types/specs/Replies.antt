@@ -16,7 +16,7 @@ use Rattle.gaspi_types.specs.declared.replies.Refusal.TheVariants.{BadRank, NoSe
 use Rattle.gaspi_types.specs.declared.replies.Reply.{Reply}
 use Rattle.gaspi_types.specs.declared.replies.Reply.TheVariants as replies
 
--- the number of a refusal, which stands in texts
+-- the number of a refusal in texts
 abbrev pub refusal_number : Refusal → ℕ
 refusal_number BadRank = 1
 refusal_number NoSegment = 2
@@ -44,17 +44,20 @@ refusal_number (SegmentBusy queue) = 23
 refusal_number GroupsFull = 24
 refusal_number CallerEnded = 25
 
--- what stands for a stage, an operation, a type and a collective where they are compared
+-- the numbers by which a stage, an operation, a type and a collective are compared
 
+-- the number of a stage
 abbrev pub stage_number : Stage → ℕ
 stage_number Building = 0
 stage_number Committed = 1
 
+-- the number of an operation
 abbrev pub op_number : Op → ℕ
 op_number Min = 0
 op_number Max = 1
 op_number Sum = 2
 
+-- the number of a type
 abbrev pub type_number : NumType → ℕ
 type_number Int = 0
 type_number Uint = 1
@@ -63,6 +66,7 @@ type_number Ulong = 3
 type_number Float = 4
 type_number Double = 5
 
+-- the numbers of a collective: its kind, and what it is called with, values aside
 abbrev pub coll_fields : Coll → List ℕ
 coll_fields Barrier = 0 ∷ []
 coll_fields (Allreduce op num_type count) = 1 ∷ op_number op ∷ type_number num_type ∷ count ∷ []
@@ -91,6 +95,7 @@ same_refusal a b = (refusal_number a == refusal_number b) && pointwise nat_eq (r
 abbrev pub same_numbers : Numbers → Numbers → Bool
 same_numbers a b = (type_number a.num_type == type_number b.num_type) && pointwise int_eq a.items b.items
 
+-- whether replies are the same
 abbrev pub same_reply : Reply → Reply → Bool
 same_reply replies.Done replies.Done = true
 same_reply (replies.Value m) (replies.Value n) = m == n
@@ -106,7 +111,7 @@ abbrev pub is_done : Reply → Bool
 is_done replies.Done = true
 is_done reply = false
 
--- a reply that says that the call did nothing
+-- a reply that says that the call did nothing: a timeout or a refusal
 abbrev pub is_idle : Reply → Bool
 is_idle replies.Timeout = true
 is_idle (replies.Refused refusal) = true

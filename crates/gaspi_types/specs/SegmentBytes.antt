@@ -5,15 +5,15 @@ use Rattle.gaspi_types.specs.Ranges.{is_between}
 use Rattle.gaspi_types.specs.declared.replies.Refusal.{Refusal}
 use Rattle.gaspi_types.specs.declared.replies.Refusal.TheVariants.{BadRange, BadSize}
 
--- own choice: how many bytes a transfer, a store or a load may have
+-- own choice: how many bytes a write, a read, a store or a load may have
 abbrev pub is_transfer_size : ℕ → Bool
 is_transfer_size size = is_between 1 65536 size
 
--- whether a range lies within that many bytes
+-- whether a range lies within `whole` bytes
 abbrev pub is_within : ℕ → ℕ → ℕ → Bool
 is_within offset size whole = nat_le (offset + size) whole
 
--- what a range of a segment of that many bytes is refused for
+-- what a range is refused for in a segment of `whole` bytes
 abbrev pub range_checks : ℕ → ℕ → ℕ → Result (Unit {0}) Refusal
 range_checks whole offset size = do
   sized ← check (is_transfer_size size) BadSize
@@ -28,7 +28,7 @@ abbrev pub with_range : List ℕ → ℕ → List ℕ → List ℕ
 with_range bytes offset new =
     if is_within offset (length new) (length bytes) then take offset bytes ++ new ++ drop (offset + length new) bytes else bytes
 
--- exactly a range of bytes: there the written ones stand, and everywhere else what stood before
+-- exactly a range is written: its bytes are the written ones, and every other byte is as before
 pub record IsRangeWritten (old new written : List ℕ) (offset : ℕ) : Type 0 where
   pub size : length new ≡ length old
   pub within : offset + length written ≤ length old

@@ -1,4 +1,4 @@
--- Tables of segments: what a rank has, and what it knows of others, by the numbers of the segments. (GASPI: segments)
+-- Tables of segments: the extents of the own segments of a rank and of those that it knows, by segment id. (GASPI: segments)
 use Rattle.std.specs.Prelude.{ℕ, ◌+◌, ◌==◌, nat_lt, List, Option, None, Some, Result, if◌then◌else◌, slice_get, slice_set, slice_index, option_and_then}
 use Rattle.gaspi_types.specs.Checks.{◌>>=◌, check, ok_or, err_if_some}
 use Rattle.gaspi_types.specs.SegmentBytes.{range_checks}
@@ -9,12 +9,13 @@ use Rattle.gaspi_types.specs.declared.segments.SegmentTable.{SegmentTable}
 use Rattle.gaspi_types.specs.declared.replies.Refusal.{Refusal}
 use Rattle.gaspi_types.specs.declared.replies.Refusal.TheVariants.{NoSegment, SegmentThere, BadSize}
 
--- what stands in a table of segments at a number, which is below 32
+-- the extent in a table at a segment id; None for an id over 31
 abbrev pub extent_in : List (Option Extent) → ℕ → Option Extent
 extent_in table segment =
     if nat_lt segment 32 then option_and_then (λ (x : Option Extent). x) (slice_get table segment) else None
 
--- what the rank knows of a segment of a rank: of its own what is there, of others what was made known to it
+-- the extent of a segment of a rank, as the rank `me` knows it: of an own segment its present extent, of another that of its
+-- registration
 abbrev pub known_extent : ℕ → SegmentTable → ℕ → ℕ → Option Extent
 known_extent me table rank segment =
     if rank == me then extent_in table.own segment else option_and_then (λ known. extent_in known segment) (slice_get table.known rank)
@@ -32,26 +33,27 @@ alloc_checks own segment size = do
   free ← err_if_some (extent_in own segment) (λ extent. SegmentThere)
   check (is_segment_size size) BadSize
 
--- own choice: each new segment of a number has the next generation of that number, from 0
+-- own choice: each new segment of an id has the next generation, from 0
 abbrev pub next_generation : List ℕ → ℕ → ℕ
 next_generation generations segment = slice_index generations segment
 
+-- the generations after one more segment of an id
 abbrev pub with_generation : List ℕ → ℕ → List ℕ
 with_generation generations segment = slice_set generations segment (next_generation generations segment + 1)
 
 -- What calls change.
 
--- an own segment more, of the next generation of its number (segment_alloc)
+-- the table with one own segment more, in the next generation of its id (segment_alloc)
 abbrev pub with_own : SegmentTable → ℕ → ℕ → SegmentTable
 with_own table segment size = record table {
   own = slice_set table.own segment (Some (record { generation = next_generation table.next_generations segment; size = size }));
   next_generations = with_generation table.next_generations segment;
 }
 
--- an own segment less (segment_delete)
+-- the table without an own segment (segment_delete)
 abbrev pub without_own : SegmentTable → ℕ → SegmentTable
 without_own table segment = record table { own = slice_set table.own segment None }
 
--- a segment of an owner made known (segment_register)
+-- the table with a segment of an owner known in an extent (segment_register)
 abbrev pub with_known : ℕ → ℕ → Option Extent → SegmentTable → SegmentTable
 with_known owner segment extent table = record table { known = changed_at table.known owner (λ known. slice_set known segment extent) }

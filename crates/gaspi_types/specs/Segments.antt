@@ -1,4 +1,4 @@
--- The segments of a rank by their numbers, with their bytes. (GASPI: segments)
+-- The segments of a rank by segment id, with their bytes. (GASPI: segments)
 use Rattle.std.specs.Prelude.{◌≡◌, ◌≢◌, ℕ, Bool, false, ◌==◌, List, [], length, map, replicate, Option, None, Some, slice_set}
 use Rattle.std.specs.Option.{option_map}
 use Rattle.gaspi_types.specs.SegmentBytes.{IsRangeWritten}
@@ -20,14 +20,15 @@ abbrev pub is_generation : ℕ → Option Segment → Bool
 is_generation generation None = false
 is_generation generation (Some s) = s.generation == generation
 
--- the generation and the size of a segment
+-- the extent of a segment
 abbrev pub extent_of : Segment → Extent
 extent_of s = record { generation = s.generation; size = length s.bytes }
 
--- the segment of a number
+-- the segment of an id
 abbrev pub segment_in : List (Option Segment) → ℕ → Option Segment
 segment_in own segment = item_at own segment
 
+-- the bytes of the segment of an id; none where it is not there
 abbrev pub bytes_of : List (Option Segment) → ℕ → List ℕ
 bytes_of own segment = bytes_in (segment_in own segment)
 
@@ -35,7 +36,7 @@ bytes_of own segment = bytes_in (segment_in own segment)
 abbrev pub with_bytes : List (Option Segment) → ℕ → List ℕ → List (Option Segment)
 with_bytes own segment bytes = slice_set own segment (option_map (λ (s : Segment). record s { bytes = bytes }) (segment_in own segment))
 
--- the generations and sizes of the segments, as a table
+-- the extents of the segments, as a table
 abbrev pub extents_of : List (Option Segment) → List (Option Extent)
 extents_of own = map (option_map extent_of) own
 

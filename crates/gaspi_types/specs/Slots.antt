@@ -1,9 +1,10 @@
--- The notification slots of a segment: a list of numbers, 0 where no notification stands. (GASPI: notifications)
+-- The notification slots of a segment: a list of numbers, 0 where there is no notification. (GASPI: notifications)
 use Rattle.std.specs.Prelude.{◌≡◌, ◌≢◌, ℕ, ◌+◌, length, slice_get, Some, List, [], take, drop, position, Option, Bool, not, ◌==◌, ◌&&◌, nat_le, slice_set}
 use Rattle.std.specs.Option.{option_map, unwrap_or}
 use Rattle.gaspi_types.specs.SegmentBytes.{is_within}
 use Rattle.gaspi_types.specs.Tables.{item_at}
 
+-- whether a slot has a notification
 abbrev pub is_set : ℕ → Bool
 is_set value = not (value == 0)
 
@@ -15,7 +16,7 @@ is_slot_range begin num notes = nat_le 1 num && is_within begin num notes
 abbrev pub first_set : List ℕ → ℕ → ℕ → Option ℕ
 first_set slots begin num = option_map (λ k. begin + k) (position is_set (take num (drop begin slots)))
 
--- Tables of slots: those of each segment of a rank, by the numbers of the segments.
+-- Tables of slots: those of each segment of a rank, by segment id.
 
 -- the slots of a segment; of one that is not there, none
 abbrev pub slots_of : List (Option (List ℕ)) → ℕ → List ℕ

@@ -1,11 +1,11 @@
--- Tables: lists by numbers, some of things that may be missing.
+-- Tables: lists by numbers, some with items that may be missing. The parameter `place` is an index.
 use Rattle.std.specs.Prelude.{ℕ, List, Option, None, Some, slice_get, slice_set, option_and_then}
 
--- what stands at a place of a table of things that may be missing
+-- the item at an index of a table, where there is one
 abbrev pub item_at : {A : Type 0} → List (Option A) → ℕ → Option A
 item_at {A} table place = option_and_then (λ (x : Option A). x) (slice_get table place)
 
--- a table with one item changed
+-- the table with the item at an index changed; the same table where it has no such index
 abbrev pub changed_at : {A : Type 0} → List A → ℕ → (A → A) → List A
 changed_at {A} table place change = set_to (slice_get table place)
   where

@@ -1,4 +1,4 @@
--- A world: its limits, its declared segments and its callers.
+-- Shapes: the limits of a world, its declared segments and its callers.
 use Rattle.std.specs.Prelude.{◌≡◌, ℕ, ◌≤◌, Bool, true, ◌&&◌, List, [], ◌∷◌, ◌++◌, Result, Ok, Err, if◌then◌else◌, nat_lt, ◌==◌, count_by, slice_get, Some, ◌<◌}
 use Rattle.std.specs.List.{list_any}
 use Rattle.gaspi_types.specs.Ranges.{is_between}
@@ -8,8 +8,7 @@ use Rattle.gaspi_types.specs.declared.shapes.CallerId.{CallerId}
 use Rattle.gaspi_types.specs.declared.shapes.ShapeFault.{ShapeFault}
 use Rattle.gaspi_types.specs.declared.shapes.ShapeFault.TheVariants as faults
 
--- what a program starts from: the limits, the segments that are there from the start, and the threads that have
--- a script, in the order in which they were declared
+-- what a contract sees of a shape: the limits, the declared segments, and the callers, both in the order of their declaration
 pub record ShapeValue : Type 0 where
   pub limits : Limits
   pub segments : List DeclaredSegment
@@ -21,14 +20,15 @@ are_limits l =
     is_between 1 16 l.ranks && (is_between 1 8 l.queues && (is_between 1 256 l.depth
     && (is_between 1 1024 l.notes && (is_between 1 64 l.inbox && is_between 1 65536 l.events))))
 
+-- own choice: how many bytes a segment may have
 abbrev pub is_segment_size : ℕ → Bool
 is_segment_size size = is_between 1 1048576 size
 
--- the world of these limits with nothing declared
+-- the shape of these limits, with nothing declared
 abbrev pub shape_of : Limits → Result ShapeValue ShapeFault
 shape_of limits = if are_limits limits then Ok (record { limits = limits; segments = []; callers = [] }) else Err faults.Limit
 
--- the segment of that rank and number
+-- whether a declared segment is of that rank and id
 abbrev pub is_segment : ℕ → ℕ → DeclaredSegment → Bool
 is_segment rank segment d = (d.rank == rank) && (d.segment == segment)
 
@@ -41,6 +41,7 @@ segment_added w rank segment size =
     else Ok (record { limits = w.limits; segments = w.segments ++ record { rank = rank; segment = segment; size = size } ∷ []; callers = w.callers }))
     else Err faults.Limit
 
+-- whether a caller is of that rank and thread
 abbrev pub is_caller : ℕ → ℕ → CallerId → Bool
 is_caller rank thread c = (c.rank == rank) && (c.thread == thread)
 
@@ -56,7 +57,7 @@ caller_added w rank thread =
     else Err faults.Threads))
     else Err faults.Limit
 
--- what holds of every world that was declared so
+-- what holds of every shape that was declared so
 pub record IsShape (w : ShapeValue) : Type 0 where
   pub limits : are_limits w.limits ≡ true
   pub callers : (rank : ℕ) → count_by (λ c. c.rank == rank) w.callers ≤ w.limits.events
@@ -65,7 +66,8 @@ pub record IsShape (w : ShapeValue) : Type 0 where
   pub segments : (place : ℕ) (d : DeclaredSegment) → slice_get w.segments place ≡ Some d → (d.rank < w.limits.ranks) × (d.segment < 32) × (is_segment_size d.size ≡ true)
   pub declared_once : (rank segment : ℕ) → count_by (is_segment rank segment) w.segments ≤ 1
 
--- the world after a declaration that was tried: changed as the outcome says, and unchanged where it was refused
+-- a shape before and after a declaration: changed as the outcome says, and unchanged where it was refused, or where memory ran
+-- out
 abbrev pub Declares : Result (Unit {0}) ShapeFault → ShapeValue → ShapeValue → Result ShapeValue ShapeFault → Type 0
 Declares (Ok done) old new outcome = outcome ≡ Ok new
 Declares (Err faults.NoMemory) old new outcome = new ≡ old

@@ -1,4 +1,5 @@
-//! Lists with room: their memory is taken when they are made, and never after.
+//! Lists with a fixed capacity (`Buffer`): their memory is taken when they are made, and never after. A parameter `place` is an
+//! index in the list.
 
 ghost use Rattle.std.specs.Prelude.{◌≡◌, ◌<◌, ◌≤◌, ◌↔◌, ◌++◌, ◌∷◌, [], length, take, remove, slice_get, IsTrue, IfOk, Some};
 
@@ -6,8 +7,8 @@ use crate::{NoMemory, Sequence};
 use std::alloc::Global;
 use std::marker::Model;
 
-/// A list with room for so many items, which contracts see as its items and its room. Only `with_capacity` takes memory: an
-/// item is added below the room, and then nothing can fail. (own choice)
+/// A list with a fixed capacity, which contracts see as its items and its capacity. Only `with_capacity` takes memory: an item
+/// is added while there are fewer items than the capacity, and then nothing can fail. (own choice)
 #[derive(Debug, Drop)]
 pub struct Buffer<T> {
     held: Vec<T>,
@@ -26,7 +27,7 @@ impl<T> Model for Buffer<T> {
 }
 
 impl<T> Buffer<T> {
-    /// The empty list with room for so many items, for which it takes the memory.
+    /// The empty list with room for `capacity` items, for which it takes the memory.
     pub fn with_capacity(alloc: Global, capacity: usize) -> Result<Buffer<T>, NoMemory>
         ensures { IfOk result (λ buffer. buffer ≡ record { items = []; capacity = capacity }) }
     {
@@ -43,7 +44,7 @@ impl<T> Buffer<T> {
         self.held.as_slice()
     }
 
-    /// How many items there are, at most the room.
+    /// How many items there are, at most the capacity.
     pub fn len(&self) -> usize
         ensures value { result ≡ length self.now.items }
         ensures bound { result ≤ self.now.capacity }
@@ -51,7 +52,7 @@ impl<T> Buffer<T> {
         self.held.len()
     }
 
-    /// How many items there may be.
+    /// For how many items the list was made.
     pub fn capacity(&self) -> usize
         ensures { result ≡ self.now.capacity }
     {
@@ -65,7 +66,7 @@ impl<T> Buffer<T> {
         self.held.len() < self.capacity
     }
 
-    /// Adds an item at the end, where there is room; `has_capacity` tells. It takes no memory, and the room stays as it is.
+    /// Adds an item at the end. There has to be room for it, which `has_capacity` answers. The capacity stays.
     pub fn push(&mut self, item: T)
         requires { length self.old.items < self.old.capacity }
         ensures { self.new ≡ record { items = self.old.items ++ item ∷ []; capacity = self.old.capacity } }
@@ -73,7 +74,7 @@ impl<T> Buffer<T> {
         self.held.push_reserved(item);
     }
 
-    /// Keeps the first items alone, as many as that or all. The room stays as it is.
+    /// Keeps the first `count` items, or all where there are fewer. The others are dropped, and the capacity stays.
     pub fn truncate(&mut self, count: usize)
     where
         T: Drop,
@@ -82,7 +83,8 @@ impl<T> Buffer<T> {
         self.held.truncate(count);
     }
 
-    /// Takes the item at a place out. Those behind it move up, and the room stays as it is.
+    /// Removes the item at the index `place`, which has to be below the length, and gives it to the caller. The items behind it
+    /// move up by one, and the capacity stays.
     pub fn remove(&mut self, place: usize) -> T
         requires { place < length self.old.items }
         ensures item { slice_get self.old.items place ≡ Some result }
@@ -91,7 +93,7 @@ impl<T> Buffer<T> {
         self.held.remove(place)
     }
 
-    /// The same items as a list, at most as many as the room, without taking memory.
+    /// The items as a `Sequence`, at most as many as the capacity. No memory is taken.
     pub fn into_sequence(self) -> Sequence<T>
         ensures items { result ≡ self.items }
         ensures bound { length self.items ≤ self.capacity }

@@ -1,4 +1,5 @@
-//! What calls share: a row for each call.
+//! The row of each call: what every call has, so that code for all calls need not tell one from another. `Call::row` has the
+//! table; the private functions of `CallRow` make the rows in it.
 
 ghost use Rattle.std.specs.Prelude.{◌≡◌, ◌≤◌, OnSome, Some, None, true, false};
 ghost use Rattle.gaspi_types.specs.CallRows.{row_of, row_with_footprint, row_posting, row_joining, list_entries, entries_in, need_in, need_of};
@@ -7,7 +8,8 @@ ghost use Rattle.gaspi_types.specs.declared.footprints.DeclaredFootprint.TheVari
 use crate::calls::{Call, is_list_length};
 use crate::footprints::DeclaredFootprint;
 
-/// The entries that a call appends: how many, and to the lane of which rank and queue. (GASPI: one-sided communication)
+/// The entries that a post appends: how many, and to the lane of which rank and queue. Rank and queue are any numbers, as the
+/// call has them. (GASPI: one-sided communication)
 #[derive(Clone, Copy, Debug, PartialEq, Eq)]
 pub struct Posting {
     pub entries: u32,
@@ -15,25 +17,25 @@ pub struct Posting {
     pub queue: u64,
 }
 
-/// What is said of a call as of every other.
+/// The row of a call: what every call has.
 #[derive(Clone, Copy, Debug, PartialEq, Eq)]
 pub struct CallRow {
-    /// What it touches beside the posts of its caller's rank. (own choice)
+    /// Its footprint: the parts that it may read or change beside the posts of its caller's rank. (own choice)
     pub footprint: DeclaredFootprint,
-    /// What it appends, where it posts. (GASPI: one-sided communication)
+    /// The entries that it appends, or None where it is no post. (GASPI: one-sided communication)
     pub posting: Option<Posting>,
-    /// The group that it joins, where it is a collective. (GASPI: collectives)
+    /// The number of the group that it joins, or None where it is no collective. (GASPI: collectives)
     pub group: Option<u64>,
     /// Whether it takes a timeout. (GASPI: timeouts)
     pub times_out: bool,
     /// Whether it may take memory. (own choice)
     pub takes_memory: bool,
-    /// Whether it is the end of its caller. (own choice)
+    /// Whether it is the end. (own choice)
     pub ends: bool,
 }
 
 impl CallRow {
-    /// A call that touches that, and does no more of what rows tell.
+    /// The row of a call with this footprint that is no post, no collective and no end, and takes neither a timeout nor memory.
     fn with_footprint(declaration: DeclaredFootprint) -> CallRow
         ensures { result ≡ row_with_footprint declaration }
     {
@@ -47,7 +49,8 @@ impl CallRow {
         }
     }
 
-    /// A call that appends so many entries to the lane of a rank and a queue.
+    /// The row of a post of `entries` entries to the lane of a rank and a queue, which takes no memory. Its footprint has no
+    /// part.
     fn posting(entries: u32, rank: u64, queue: u64) -> CallRow
         ensures { result ≡ row_posting entries rank queue }
     {
@@ -61,7 +64,7 @@ impl CallRow {
         }
     }
 
-    /// A collective on a group, which takes a timeout, and touches that.
+    /// The row of a collective of a group, with this footprint. A collective takes a timeout.
     fn collective(group: u64, declaration: DeclaredFootprint) -> CallRow
         ensures { result ≡ row_joining group declaration }
     {
@@ -71,7 +74,7 @@ impl CallRow {
         }
     }
 
-    /// The same of a call that may take memory.
+    /// The same row, of a call that may take memory.
     fn with_memory(self) -> CallRow
         ensures { result ≡ record self { takes_memory = true } }
     {
@@ -81,7 +84,7 @@ impl CallRow {
         }
     }
 
-    /// The same of a call that takes a timeout.
+    /// The same row, of a call that takes a timeout.
     fn with_timeout(self) -> CallRow
         ensures { result ≡ record self { times_out = true } }
     {
@@ -91,7 +94,7 @@ impl CallRow {
         }
     }
 
-    /// How many entries the call appends.
+    /// How many entries the call appends; 0 where it is no post.
     pub fn entries(&self) -> u32
         ensures { result ≡ entries_in self.now.posting }
     {
@@ -101,9 +104,10 @@ impl CallRow {
         }
     }
 
-    /// How many events of its caller's rank a call of this row needs room for: none for the end of a caller that has not
-    /// ended, one and two for each entry for a post, two for a collective where none is pending for the caller on that group,
-    /// which joins first, and one for every other call, also for a list post whose length is outside its limits. (own choice)
+    /// The need of a call of this row: how many events its caller's rank must have room for. It is 0 for the end of a caller
+    /// that has not ended; 2 for a collective where none is pending for its caller on that group, which joins first; for a post
+    /// 1, and 2 more for each entry; and 1 for every other call, also for a list post whose length is outside its limits. (own
+    /// choice)
     pub fn need(&self, pending: bool, ended: bool) -> u64
         ensures { result ≡ need_in self.now pending ended }
     {
@@ -117,8 +121,8 @@ impl CallRow {
     }
 }
 
-/// How many entries a list post asks for: one for each of its items, and so many more. Where its length is outside its
-/// limits it asks for none.
+/// How many entries a list post asks for: one for each of its items, and `more` for a notification. Where its length is outside
+/// its limits it asks for none.
 fn list_entries(length: usize, more: u32) -> u32
     requires { more ≤ 1 }
     ensures value { result ≡ list_entries length more }
@@ -132,7 +136,7 @@ fn list_entries(length: usize, more: u32) -> u32
 }
 
 impl Call {
-    /// Its row.
+    /// The row of this call.
     #[inline(always)]
     pub fn row(&self) -> CallRow
         ensures row { result ≡ row_of self.now }
@@ -215,7 +219,8 @@ impl Call {
     }
 }
 
-/// How many events of its caller's rank a call needs room for, by its row. (own choice)
+/// The need of a call: how many events its caller's rank must have room for, as `CallRow::need` says. `pending` is whether the
+/// call is a collective that is pending for its caller, `ended` whether its caller has ended. (own choice)
 pub fn need(call: &Call, pending: bool, ended: bool) -> u64
     ensures { result ≡ need_of call.now pending ended }
 {

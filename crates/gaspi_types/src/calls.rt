@@ -1,4 +1,4 @@
-//! The calls of a rank, by the chapters of GASPI.
+//! The type of all calls. Each call with fields is a struct of its own, in a module below for each chapter of GASPI.
 
 ghost use Rattle.std.specs.Prelude.{◌≡◌, IfOk, IsOk, true};
 ghost use Rattle.gaspi_types.specs.Copies.{is_listless_call};
@@ -28,8 +28,8 @@ pub use queues::{Purge, Qsize, Wait};
 pub use segments::{Alloc, Delete, Register};
 use std::alloc::Global;
 
-/// A call as its caller wrote it, without its timeout: ids, ranks, offsets and sizes are any numbers, and a call
-/// whose numbers are outside their limits is refused when it is made. Offsets and sizes are in bytes.
+/// A call as its caller wrote it, without its timeout: ids, ranks, offsets and sizes are any numbers, and a call whose numbers
+/// are outside their limits is refused at its look. Offsets and sizes are in bytes.
 #[derive(Debug, PartialEq, Eq, Drop)]
 pub enum Call {
     Alloc(Alloc),
@@ -55,7 +55,7 @@ pub enum Call {
     PassiveReceive(PassiveReceive),
     FetchAdd(FetchAdd),
     CompareSwap(CompareSwap),
-    /// A new group of the caller's rank. (GASPI: group_create)
+    /// Makes a group of the caller's rank, with no rank in it, and answers its number. (GASPI: group_create)
     GroupCreate,
     GroupAdd(GroupAdd),
     GroupDelete(GroupDelete),
@@ -63,23 +63,23 @@ pub enum Call {
     Barrier(Barrier),
     Allreduce(Allreduce),
     Create(Create),
-    /// Which ranks are corrupt for the caller's rank. (GASPI: state_vec_get)
+    /// Answers which ranks are corrupt for the caller's rank. (GASPI: state_vec_get)
     State,
     /// The end of a caller. (own choice)
     End,
 }
 
-/// How many looks a call may take. (GASPI: timeouts)
+/// How many looks a call may have. (GASPI: timeouts)
 #[derive(Clone, Copy, Debug, PartialEq, Eq)]
 pub enum Timeout {
     /// That many looks, at least one.
     Looks(u32),
-    /// Looks without end.
+    /// Looks without end, until the call is refused or ready.
     Block,
 }
 
 impl Call {
-    /// An equal call. It takes no memory where no list in the call has an item.
+    /// An equal call. No memory is taken where no list in the call has an item.
     pub fn copy(&self, alloc: Global) -> Result<Call, NoMemory>
         ensures ok { IfOk result (λ call. call ≡ self.now) }
         ensures listless { is_listless_call self.now ≡ true → IsOk result }

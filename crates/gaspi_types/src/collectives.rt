@@ -1,4 +1,5 @@
-//! What collectives are asked for, and lists of numbers.
+//! Collectives without their values, the stage of a group, and the numbers of an allreduce: their types, the ranges of these,
+//! and lists.
 
 ghost use Rattle.std.specs.Prelude.{◌≡◌, ◌↔◌, IsTrue, IfOk, IsOk, length};
 ghost use Rattle.std.specs.List.{list_all};
@@ -9,7 +10,7 @@ use crate::memory::NoMemory;
 use std::alloc::Global;
 use std::marker::Model;
 
-/// A type of numbers. `Float` and `Double` are refused by the calls that take a type. (GASPI: collectives)
+/// A type of numbers. The calls that take a type refuse `Float` and `Double`. (GASPI: collectives)
 #[derive(Clone, Copy, Debug, PartialEq, Eq)]
 pub enum NumType {
     /// 32 bits with a sign.
@@ -26,37 +27,37 @@ pub enum NumType {
     Double,
 }
 
-/// What an allreduce makes of its numbers. (GASPI: allreduce)
+/// The operation of an allreduce. (GASPI: allreduce)
 #[derive(Clone, Copy, Debug, PartialEq, Eq)]
 pub enum Op {
     Min,
     Max,
-    /// It wraps at the type's end.
+    /// The sum, which wraps in the bits of the type.
     Sum,
 }
 
-/// How far a group of a rank has come. (GASPI: groups)
+/// The stage of a group. (GASPI: groups)
 #[derive(Clone, Copy, Debug, PartialEq, Eq)]
 pub enum Stage {
     /// Ranks may be added.
     Building,
-    /// Its members are fixed.
+    /// No rank may be added.
     Committed,
 }
 
-/// What a collective is asked for, values aside. (GASPI: collectives)
+/// What a collective is called with, values aside. (GASPI: collectives)
 #[derive(Clone, Copy, Debug, PartialEq, Eq)]
 pub enum Coll {
     Barrier,
-    /// An operation, the type of the numbers, and how many there are.
+    /// The operation, the type of the numbers, and how many numbers a member gives.
     Allreduce(Op, NumType, u32),
-    /// The id of a segment, and its size in bytes.
+    /// The segment id, and the size in bytes.
     Create(u32, u32),
-    /// The ranks of a group: bit r for rank r.
+    /// The ranks of the group: bit r for rank r.
     Commit(u32),
 }
 
-/// The least number of a type.
+/// The least number of a type; those of `Float` and `Double` are as those of `Long`.
 fn lowest(num_type: NumType) -> i128
     ensures { result ≡ lowest num_type }
 {
@@ -67,7 +68,7 @@ fn lowest(num_type: NumType) -> i128
     }
 }
 
-/// The greatest number of a type.
+/// The greatest number of a type; those of `Float` and `Double` are as those of `Long`.
 fn highest(num_type: NumType) -> i128
     ensures { result ≡ highest num_type }
 {
@@ -87,7 +88,7 @@ pub fn is_in_type(num_type: NumType, number: i128) -> bool
     lowest(num_type) <= number && number <= highest(num_type)
 }
 
-/// Whether no number fails the test of a type's range.
+/// Whether each number is in the range of a type, for `are_in_type`.
 fn all_pass(num_type: NumType, numbers: &[i128]) -> bool
     ensures { result ≡ list_all (is_in_type num_type) numbers.now }
 {
@@ -101,7 +102,7 @@ pub fn are_in_type(num_type: NumType, numbers: &[i128]) -> bool
     all_pass(num_type, numbers)
 }
 
-/// Numbers of a type, each in its range. Contracts see the type and the numbers. (GASPI: allreduce)
+/// Numbers of a type, each in the type's range. Contracts see the type and the numbers. (GASPI: allreduce)
 #[derive(Debug, PartialEq, Eq, Drop)]
 pub struct Numbers {
     num_type: NumType,
@@ -121,7 +122,7 @@ impl Model for Numbers {
 }
 
 impl Numbers {
-    /// The numbers of a type, which are all in its range; `are_in_type` tells. It takes no memory.
+    /// Numbers of a type, which have to be in its range, as `are_in_type` answers. No memory is taken.
     pub fn new(num_type: NumType, items: Sequence<i128>) -> Numbers
         requires { AreInType num_type items }
         ensures { result ≡ record { num_type = num_type; items = items } }
@@ -129,7 +130,7 @@ impl Numbers {
         Numbers { num_type, items }
     }
 
-    /// The type.
+    /// The type of the numbers.
     pub fn num_type(&self) -> NumType
         ensures { result ≡ self.now.num_type }
     {
@@ -144,7 +145,7 @@ impl Numbers {
         self.items.as_slice()
     }
 
-    /// Equal numbers. It takes no memory where there are none.
+    /// Equal numbers. No memory is taken where there are none.
     pub fn copy(&self, alloc: Global) -> Result<Numbers, NoMemory>
         ensures ok { IfOk result (λ numbers. numbers ≡ self.now) }
         ensures empty { length self.now.items ≡ 0 → IsOk result }

@@ -1,5 +1,7 @@
-//! Queues, and the entries of their lanes: the requests that a post appends, and that transfers carry out.
-//! (GASPI: one-sided communication)
+//! Queues, their lanes and the entries in them; and what the kind of an entry says: the range from which it takes bytes, and
+//! what its put changes. (GASPI: one-sided communication)
+//!
+//! `own` is said of a range or slot of the origin's segment, `target` of one of the target's.
 
 ghost use Rattle.std.specs.Prelude.{◌≡◌};
 ghost use Rattle.gaspi_types.specs.Kinds.{destination_of, source_of};
@@ -9,7 +11,7 @@ use crate::ids::RankId;
 use crate::lists::{Bytes, Sequence};
 use crate::segments::Extent;
 
-/// A range of bytes of a segment of that generation.
+/// A range of bytes of a segment, in one generation of its id.
 #[derive(Clone, Copy, Debug, PartialEq, Eq)]
 pub struct ByteRange {
     pub segment: u32,
@@ -18,7 +20,7 @@ pub struct ByteRange {
     pub size: u32,
 }
 
-/// A notification slot of a segment of that generation.
+/// A notification slot of a segment, in one generation of its id.
 #[derive(Clone, Copy, Debug, PartialEq, Eq)]
 pub struct NoteSlot {
     pub segment: u32,
@@ -26,10 +28,12 @@ pub struct NoteSlot {
     pub note: u32,
 }
 
-/// The two ends of a transfer: the own segment and the target's as they are known, and a range in each.
+/// What a post finds for one write or read: the extents of both segments, and a range in each.
 #[derive(Clone, Copy, Debug, PartialEq, Eq)]
 pub struct Endpoints {
+    /// The extent of the own segment.
     pub mine: Extent,
+    /// The extent of the target's segment, as the origin knows it.
     pub theirs: Extent,
     pub own: ByteRange,
     pub target: ByteRange,
@@ -42,13 +46,13 @@ pub enum Kind {
     Write { own: ByteRange, target: ByteRange },
     /// The bytes of a range of the target go to an own range.
     Read { own: ByteRange, target: ByteRange },
-    /// A slot of the target gets a value, from 1 on.
+    /// A slot of the target gets a value, which is not 0.
     Notify { target: NoteSlot, value: u32 },
     /// An own slot gets 1: the notification of a read.
     ReadNote { own: NoteSlot },
 }
 
-/// Which way the bytes of a transfer go.
+/// Which way the bytes of an entry go.
 #[derive(Clone, Copy, Debug, PartialEq, Eq)]
 pub enum Direction {
     /// From an own segment to the target: a write.
@@ -58,7 +62,7 @@ pub enum Direction {
 }
 
 impl Endpoints {
-    /// What a transfer between these ends asks for.
+    /// The kind of an entry with these ranges: a write where the direction is outward, a read where it is inward.
     pub fn kind(&self, direction: Direction) -> Kind
         ensures { result ≡ transfer_kind direction self.now }
     {
@@ -85,7 +89,8 @@ pub enum Destination {
 }
 
 impl Kind {
-    /// The range from which an entry takes its bytes, where it takes any.
+    /// The range from which an entry of this kind takes its bytes: the own one of a write, the target's of a read. None for a
+    /// notification and the notification of a read, which take no bytes.
     pub fn source(&self) -> Option<ByteRange>
         ensures { result ≡ source_of self.now }
     {
@@ -96,7 +101,7 @@ impl Kind {
         }
     }
 
-    /// What its put changes.
+    /// What the put of an entry of this kind changes.
     pub fn destination(&self) -> Destination
         ensures { result ≡ destination_of self.now }
     {
@@ -109,14 +114,14 @@ impl Kind {
     }
 }
 
-/// How far an entry has come.
+/// The phase of an entry: how far it has come.
 #[derive(Debug, PartialEq, Eq, Drop)]
 pub enum Phase {
-    /// It stands as it was posted.
+    /// It has not taken its bytes.
     Posted,
-    /// It has taken its bytes.
+    /// It has taken its bytes, which are these; a notification has none.
     Carried(Bytes),
-    /// Its target was gone.
+    /// Its transfer has failed: the target's segment of that generation was gone.
     Failed,
 }
 
@@ -132,10 +137,10 @@ pub struct Entry {
 /// A queue of a rank. (GASPI: one-sided communication)
 #[derive(Debug, PartialEq, Eq, Drop)]
 pub struct Queue {
-    /// How many entries were posted since the last wait that was done or the last purge.
+    /// How many entries were posted since the last wait or purge that was done.
     pub open_count: u32,
-    /// The target with which it is broken.
+    /// The target of its failed entry where it is broken, else None.
     pub broken: Option<RankId>,
-    /// Its lane to each rank.
+    /// Its lane to each rank, by the number of the rank.
     pub lanes: Sequence<Sequence<Entry>>,
 }

@@ -1,4 +1,4 @@
-//! The events of the machine.
+//! Events, an event with its place, and transfers without an outcome, which are no events.
 
 ghost use Rattle.std.specs.Prelude.{◌≡◌, IfOk, IsOk, true};
 ghost use Rattle.gaspi_types.specs.Copies.{is_listless_event};
@@ -11,24 +11,25 @@ use crate::replies::Reply;
 use crate::shapes::CallerId;
 use std::alloc::Global;
 
-/// How a transfer ends. (GASPI: state vector)
+/// The outcome of a transfer. (GASPI: state vector)
 #[derive(Clone, Copy, Debug, PartialEq, Eq)]
 pub enum Outcome {
+    /// It has done what it is for.
     Applied,
-    /// The target's segment is gone.
+    /// It has failed: the target's segment of that generation was gone.
     Failed,
 }
 
 /// One event of the machine.
 #[derive(Debug, PartialEq, Eq, Drop)]
 pub enum Event {
-    /// A caller's call with its reply.
+    /// A caller's call, with its reply.
     Called(CallerId, Call, Reply),
-    /// A caller's collective joins its group, with these arguments. (GASPI: collectives)
+    /// The join of a caller's collective on a group, with its arguments. (GASPI: collectives)
     Joined(CallerId, GroupId, Args),
-    /// The entry with that number of that origin, queue and target takes its bytes.
+    /// The take of an entry: its origin, queue, target and number, and the outcome.
     Take(RankId, QueueId, RankId, u32, Outcome),
-    /// That entry puts them, or sets its slot.
+    /// The put of an entry, by the same fields.
     Put(RankId, QueueId, RankId, u32, Outcome),
 }
 
@@ -39,7 +40,7 @@ pub struct PlacedEvent {
     pub event: Event,
 }
 
-/// A transfer that may come next: a `Take`, or where `put` a `Put`.
+/// A transfer, without its outcome: the put of an entry where `put`, else its take. `number` is the entry's number.
 #[derive(Clone, Copy, Debug, PartialEq, Eq)]
 pub struct Transfer {
     pub origin: RankId,
@@ -50,7 +51,7 @@ pub struct Transfer {
 }
 
 impl Event {
-    /// An equal event. It takes no memory where no list in the event has an item.
+    /// An equal event. No memory is taken where no list in the event has an item.
     pub fn copy(&self, alloc: Global) -> Result<Event, NoMemory>
         ensures ok { IfOk result (λ event. event ≡ self.now) }
         ensures listless { is_listless_event self.now ≡ true → IsOk result }

@@ -1,4 +1,5 @@
-//! The footprint of an event beside the posts of its owner's rank.
+//! The footprint of an event: the parts that it may read or change beside the posts of its owner. A call's row or an entry's
+//! kind declares it with any numbers (`DeclaredFootprint`); a `Footprint` has what of that is in the world.
 
 ghost use Rattle.std.specs.Prelude.{◌≡◌, ◌≤◌};
 ghost use Rattle.gaspi_types.specs.Footprints.{footprint_of, take_footprint, put_footprint};
@@ -6,39 +7,48 @@ ghost use Rattle.gaspi_types.specs.Footprints.{footprint_of, take_footprint, put
 use crate::entries::Kind;
 use crate::ids::{GroupId, RankId};
 
-/// What an event touches beside its owner's posts. A rank and a group are any numbers, as a caller wrote them. (own choice)
+/// A footprint as it is declared. A rank and a group are any numbers, as a caller wrote them. (own choice)
 #[derive(Clone, Copy, Debug, PartialEq, Eq)]
 pub enum DeclaredFootprint {
+    /// No part.
     Nothing,
-    /// The memory of its owner's rank.
+    /// The memory of the owner.
     OwnMemory,
     /// The memory of a rank.
     MemoryOf(u64),
-    /// The memory of its owner's rank, to read, and that of a rank.
+    /// The memory of the owner, to read, and that of a rank.
     BothMemories(u64),
     /// The posts of a rank.
     PostsOf(u64),
     /// A group, by its number.
     GroupOf(u64),
-    /// A group, and the memory of its owner's rank.
+    /// A group, and the memory of the owner.
     GroupAndMemory(u64),
 }
 
-/// The parts that an event reaches beside its owner's posts: what it touches, where it is there. A peer is a rank of the
-/// world that is not the owner's; a group has a number below 8.
+/// The parts that an event reaches beside its owner's posts: what is declared, where it is in the world. A peer is a rank of
+/// the world other than the owner; a group has a number below 8.
 #[derive(Clone, Copy, Debug, PartialEq, Eq)]
 pub enum Footprint {
+    /// No part.
     Alone,
+    /// The memory of the owner.
     OwnMemory,
+    /// The memory of that peer.
     PeerMemory(RankId),
+    /// The memories of the owner and of that peer.
     BothMemories(RankId),
+    /// The posts of that peer.
     PeerPosts(RankId),
+    /// That group.
     Group(GroupId),
+    /// That group, and the memory of the owner.
     GroupAndMemory(GroupId),
 }
 
 impl DeclaredFootprint {
-    /// What is reached, in a world of so many ranks, by an event of a rank.
+    /// The footprint, in a world of `ranks` ranks, of an event that `me` owns. Where a rank or a group is declared that is not
+    /// there, it has no part at all; the owner is no peer.
     pub fn footprint(self, ranks: u32, me: RankId) -> Footprint
         requires { ranks ≤ 16 }
         ensures { result ≡ footprint_of ranks me self }
@@ -92,8 +102,8 @@ impl DeclaredFootprint {
 }
 
 impl Kind {
-    /// What the take of an entry of that kind touches: a write takes its bytes from its own segment, a read from its
-    /// target's.
+    /// The footprint of the take of an entry of this kind to that target: a write takes its bytes from its own segment, a read
+    /// from its target's, and a notification takes none.
     pub fn take_footprint(&self, target: RankId) -> DeclaredFootprint
         ensures { result ≡ take_footprint target self.now }
     {
@@ -104,7 +114,8 @@ impl Kind {
         }
     }
 
-    /// What its put touches: the memory of its target, or, of a read and its notification, that of its origin.
+    /// The footprint of the put of an entry of this kind to that target: the memory of the target, or, of a read and its
+    /// notification, that of the origin.
     pub fn put_footprint(&self, target: RankId) -> DeclaredFootprint
         ensures { result ≡ put_footprint target self.now }
     {

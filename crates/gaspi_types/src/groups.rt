@@ -1,5 +1,5 @@
-//! The groups of a rank, the collectives that are pending there, and what ranks have contributed to a group.
-//! (GASPI: groups, collectives)
+//! What a rank has of groups (`Handles`), its pending collectives with their arguments, and what ranks have contributed to the
+//! rounds of a group. (GASPI: groups, collectives)
 
 ghost use Rattle.std.specs.Prelude.{◌≡◌, ◌≤◌, slice_set, IfOk, IsOk, length};
 ghost use Rattle.gaspi_types.specs.Groups.{opening_handles, handle_at, building_at};
@@ -12,7 +12,7 @@ use crate::memory::NoMemory;
 use crate::replies::Refusal;
 use std::alloc::Global;
 
-/// A group of a rank.
+/// What one rank has of a group: its stage and its ranks.
 #[derive(Clone, Copy, Debug, PartialEq, Eq)]
 pub struct Handle {
     pub stage: Stage,
@@ -20,17 +20,18 @@ pub struct Handle {
     pub members: u32,
 }
 
-/// The groups of a rank, by their numbers, with how many it has made. Group 0 has every rank; those that are made have the
-/// numbers 1 to 7, one after another.
+/// The handles of a rank by group id, with how many groups it has made. Group 0 has every rank; the groups that a rank makes
+/// have the numbers 1 to 7, one after another.
 #[derive(Debug, PartialEq, Eq, Drop)]
 pub struct Handles {
+    /// The handle of each group id, or None where the rank has no such group.
     pub table: Sequence<Option<Handle>>,
     /// How many groups the rank has made, at most 7.
     pub last_id: u32,
 }
 
 impl Handles {
-    /// Room for eight groups, of which group 0 alone is there: it has every rank below a number, and is committed.
+    /// The handles at the start in a world of `ranks` ranks: group 0 alone, committed and with every rank.
     pub fn opening(alloc: Global, ranks: u32) -> Result<Handles, NoMemory>
         requires { ranks ≤ 16 }
         ensures { IfOk result (λ handles. handles ≡ opening_handles ranks) }
@@ -43,7 +44,7 @@ impl Handles {
         Ok(Handles { table, last_id: 0 })
     }
 
-    /// The group with a number, if it is there.
+    /// The handle of group `id`, or None where the rank has no such group.
     pub fn handle(&self, id: u64) -> Option<Handle>
         ensures { result ≡ handle_at self.now id }
     {
@@ -53,7 +54,7 @@ impl Handles {
         }
     }
 
-    /// The group with a number, if it is built yet: else `NoGroup`, or `GroupStage`.
+    /// The handle of group `id`, where its stage is building; else `NoGroup`, or `GroupStage` where it is committed.
     pub fn building(&self, id: u64) -> Result<Handle, Refusal>
         ensures { result ≡ building_at self.now id }
     {
@@ -66,7 +67,8 @@ impl Handles {
         }
     }
 
-    /// Puts a group at a number, or takes away the one that is there; where there is no such number, nothing.
+    /// Sets the handle of group `id`, or removes it where `handle` is None; an id outside the table changes nothing. `last_id`
+    /// stays.
     pub fn set(&mut self, id: u64, handle: Option<Handle>)
         ensures { self.new ≡ record self.old { table = slice_set self.old.table id handle } }
     {
@@ -77,8 +79,8 @@ impl Handles {
     }
 }
 
-/// What a collective is asked for, with its values: of an allreduce as many numbers as it says, of its type, and of any other
-/// none.
+/// The arguments of a collective, values included: an allreduce has as many values as `coll` says, of its type, and any other
+/// collective has none.
 #[derive(Debug, PartialEq, Eq, Drop)]
 pub struct Args {
     pub coll: Coll,
@@ -86,7 +88,7 @@ pub struct Args {
 }
 
 impl Args {
-    /// Equal arguments. It takes no memory where there are no values.
+    /// Equal arguments. No memory is taken where there are no values.
     pub fn copy(&self, alloc: Global) -> Result<Args, NoMemory>
         ensures ok { IfOk result (λ args. args ≡ self.now) }
         ensures empty { length self.now.values.items ≡ 0 → IsOk result }
@@ -98,48 +100,50 @@ impl Args {
     }
 }
 
-/// A collective of a rank on a group that a thread has joined, and whose answer it has not got.
+/// A pending collective of a rank on a group: the thread that joined, and the arguments with which it joined.
 #[derive(Debug, PartialEq, Eq, Drop)]
 pub struct PendingCollective {
     pub thread: ThreadId,
     pub args: Args,
 }
 
-/// What a collective meets that is looked at: none of its rank is pending on its group, or it is the one that is.
-/// (GASPI: timeouts)
+/// What a look at a collective finds pending on the group. (GASPI: timeouts)
 #[derive(Clone, Copy, Debug, PartialEq, Eq)]
 pub enum Resume {
+    /// No collective of the rank.
     Fresh,
+    /// This very collective.
     Same,
 }
 
-/// In which generation a rank has made its segment by a collective. (GASPI: segment_create)
+/// A rank, and in which generation it has made its segment by a collective. (GASPI: segment_create)
 #[derive(Clone, Copy, Debug, PartialEq, Eq)]
 pub struct MemberSegment {
     pub rank: RankId,
     pub generation: u32,
 }
 
-/// What a rank brings to one round of a group: what it asks for, and for a segment that it makes its generation.
+/// What a join appends to the contributions of its rank: the arguments, and the generation of a new segment.
 #[derive(Debug, PartialEq, Eq, Drop)]
 pub struct Contribution {
     pub args: Args,
-    /// 0 where no segment is made.
+    /// Of the segment that a `create` makes; 0 for every other collective.
     pub generation: u32,
 }
 
-/// What one rank has had to do with a group: all that it has contributed, round by round, and how many of these rounds it has
-/// completed.
+/// All contributions of one rank to a group, one for each round, and how many of these rounds the rank has completed.
 #[derive(Debug, PartialEq, Eq, Drop)]
 pub struct RankContributions {
+    /// By rounds.
     pub contributions: Sequence<Contribution>,
     pub completed: u32,
 }
 
-/// A group of the whole world: its members, once they are fixed, and the part of each rank.
+/// What all ranks share of a group id: the member list, and the contributions of each rank.
 #[derive(Debug, PartialEq, Eq, Drop)]
 pub struct Group {
-    /// Bit r for rank r.
+    /// The member list, bit r for rank r, or None where none is fixed.
     pub members: Option<u32>,
+    /// By the numbers of the ranks.
     pub contributions: Sequence<RankContributions>,
 }

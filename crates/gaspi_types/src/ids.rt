@@ -1,6 +1,8 @@
 //! Ranks, threads, segments, queues, notification slots and groups by their numbers.
 //!
-//! A contract sees each id as its number, which is below the limit of its kind.
+//! A contract sees each id as its number, which is below the limit of its kind. Each kind has `of`, for a number that the
+//! caller knows to be below that limit; `new`, for any number, which is None where the number is not below its limit; and its
+//! number, in two types. Every `new` takes the shape, also where the limit is the same in every shape.
 
 ghost use Rattle.std.specs.Prelude.{◌≡◌, ◌<◌, SomeIff};
 
@@ -26,7 +28,7 @@ impl Model for RankId {
 }
 
 impl RankId {
-    /// The id with a number in its range.
+    /// The id with this number, which has to be below 16.
     pub fn of(number: u32) -> RankId
         requires { number < 16 }
         ensures { result ≡ number }
@@ -36,7 +38,7 @@ impl RankId {
         }
     }
 
-    /// The rank with a number, exactly where it is below the number of ranks.
+    /// The rank with this number, or None where it is not below the number of ranks.
     pub fn new(n: u64, shape: &Shape) -> Option<RankId>
         ensures { SomeIff result (n < shape.now.limits.ranks) n }
     {
@@ -47,7 +49,7 @@ impl RankId {
         }
     }
 
-    /// Its number.
+    /// The number of this id.
     pub fn number(self) -> u32
         ensures value { result ≡ self }
         ensures bound { result < 16 }
@@ -55,7 +57,7 @@ impl RankId {
         u32::from(self.number)
     }
 
-    /// Its number, as an index.
+    /// The number of this id, to index a list.
     pub fn index(self) -> usize
         ensures value { result ≡ self }
         ensures bound { result < 16 }
@@ -83,7 +85,7 @@ impl Model for ThreadId {
 }
 
 impl ThreadId {
-    /// The id with a number in its range.
+    /// The id with this number, which has to be below 4.
     pub fn of(number: u32) -> ThreadId
         requires { number < 4 }
         ensures { result ≡ number }
@@ -93,7 +95,7 @@ impl ThreadId {
         }
     }
 
-    /// The thread with a number, exactly where it is below 4.
+    /// The thread with this number, or None where it is not below 4.
     pub fn new(n: u64, shape: &Shape) -> Option<ThreadId>
         ensures { SomeIff result (n < 4) n }
     {
@@ -105,7 +107,7 @@ impl ThreadId {
         }
     }
 
-    /// Its number.
+    /// The number of this id.
     pub fn number(self) -> u32
         ensures value { result ≡ self }
         ensures bound { result < 4 }
@@ -113,7 +115,7 @@ impl ThreadId {
         u32::from(self.number)
     }
 
-    /// Its number, as an index.
+    /// The number of this id, to index a list.
     pub fn index(self) -> usize
         ensures value { result ≡ self }
         ensures bound { result < 4 }
@@ -122,7 +124,7 @@ impl ThreadId {
     }
 }
 
-/// The number of a segment of a rank, from 0. It is below 32. (GASPI: segments)
+/// The segment id: the number of a segment in its rank, from 0. It is below 32. (GASPI: segments)
 #[derive(Clone, Copy, Debug, PartialEq, Eq)]
 pub struct SegId {
     number: u8,
@@ -141,7 +143,7 @@ impl Model for SegId {
 }
 
 impl SegId {
-    /// The id with a number in its range.
+    /// The id with this number, which has to be below 32.
     pub fn of(number: u32) -> SegId
         requires { number < 32 }
         ensures { result ≡ number }
@@ -151,7 +153,7 @@ impl SegId {
         }
     }
 
-    /// The segment with a number, exactly where it is below 32.
+    /// The segment id with this number, or None where it is not below 32.
     pub fn new(n: u64, shape: &Shape) -> Option<SegId>
         ensures { SomeIff result (n < 32) n }
     {
@@ -163,7 +165,7 @@ impl SegId {
         }
     }
 
-    /// Its number.
+    /// The number of this id.
     pub fn number(self) -> u32
         ensures value { result ≡ self }
         ensures bound { result < 32 }
@@ -171,7 +173,7 @@ impl SegId {
         u32::from(self.number)
     }
 
-    /// Its number, as an index.
+    /// The number of this id, to index a list.
     pub fn index(self) -> usize
         ensures value { result ≡ self }
         ensures bound { result < 32 }
@@ -180,7 +182,7 @@ impl SegId {
     }
 }
 
-/// The number of a queue, from 0. It is below 8. (GASPI: one-sided communication)
+/// The number of a queue of a rank, from 0. It is below 8. (GASPI: one-sided communication)
 #[derive(Clone, Copy, Debug, PartialEq, Eq)]
 pub struct QueueId {
     number: u8,
@@ -199,7 +201,7 @@ impl Model for QueueId {
 }
 
 impl QueueId {
-    /// The id with a number in its range.
+    /// The id with this number, which has to be below 8.
     pub fn of(number: u32) -> QueueId
         requires { number < 8 }
         ensures { result ≡ number }
@@ -209,7 +211,7 @@ impl QueueId {
         }
     }
 
-    /// The queue with a number, exactly where it is below the number of queues.
+    /// The queue with this number, or None where it is not below the number of queues.
     pub fn new(n: u64, shape: &Shape) -> Option<QueueId>
         ensures { SomeIff result (n < shape.now.limits.queues) n }
     {
@@ -220,7 +222,7 @@ impl QueueId {
         }
     }
 
-    /// Its number.
+    /// The number of this id.
     pub fn number(self) -> u32
         ensures value { result ≡ self }
         ensures bound { result < 8 }
@@ -228,7 +230,7 @@ impl QueueId {
         u32::from(self.number)
     }
 
-    /// Its number, as an index.
+    /// The number of this id, to index a list.
     pub fn index(self) -> usize
         ensures value { result ≡ self }
         ensures bound { result < 8 }
@@ -237,7 +239,7 @@ impl QueueId {
     }
 }
 
-/// The number of a notification slot of a segment, from 0. It is below 1,024. (GASPI: notifications)
+/// The notification id: the number of a slot of a segment, from 0. It is below 1,024. (GASPI: notifications)
 #[derive(Clone, Copy, Debug, PartialEq, Eq)]
 pub struct NoteId {
     number: u16,
@@ -256,7 +258,7 @@ impl Model for NoteId {
 }
 
 impl NoteId {
-    /// The id with a number in its range.
+    /// The id with this number, which has to be below 1,024.
     pub fn of(number: u32) -> NoteId
         requires { number < 1024 }
         ensures { result ≡ number }
@@ -266,7 +268,7 @@ impl NoteId {
         }
     }
 
-    /// The slot with a number, exactly where it is below the number of slots.
+    /// The slot with this number, or None where it is not below the number of slots of a segment.
     pub fn new(n: u64, shape: &Shape) -> Option<NoteId>
         ensures { SomeIff result (n < shape.now.limits.notes) n }
     {
@@ -277,7 +279,7 @@ impl NoteId {
         }
     }
 
-    /// Its number.
+    /// The number of this id.
     pub fn number(self) -> u32
         ensures value { result ≡ self }
         ensures bound { result < 1024 }
@@ -285,7 +287,7 @@ impl NoteId {
         u32::from(self.number)
     }
 
-    /// Its number, as an index.
+    /// The number of this id, to index a list.
     pub fn index(self) -> usize
         ensures value { result ≡ self }
         ensures bound { result < 1024 }
@@ -294,7 +296,7 @@ impl NoteId {
     }
 }
 
-/// The number of a group of a rank, from 0, which is the group of all ranks. It is below 8. (GASPI: groups)
+/// The number of a group, from 0, which is the group of all ranks. It is below 8. (GASPI: groups)
 #[derive(Clone, Copy, Debug, PartialEq, Eq)]
 pub struct GroupId {
     number: u8,
@@ -313,7 +315,7 @@ impl Model for GroupId {
 }
 
 impl GroupId {
-    /// The id with a number in its range.
+    /// The id with this number, which has to be below 8.
     pub fn of(number: u32) -> GroupId
         requires { number < 8 }
         ensures { result ≡ number }
@@ -323,7 +325,7 @@ impl GroupId {
         }
     }
 
-    /// The group with a number, exactly where it is below 8.
+    /// The group id with this number, or None where it is not below 8.
     pub fn new(n: u64, shape: &Shape) -> Option<GroupId>
         ensures { SomeIff result (n < 8) n }
     {
@@ -335,7 +337,7 @@ impl GroupId {
         }
     }
 
-    /// Its number.
+    /// The number of this id.
     pub fn number(self) -> u32
         ensures value { result ≡ self }
         ensures bound { result < 8 }
@@ -343,7 +345,7 @@ impl GroupId {
         u32::from(self.number)
     }
 
-    /// Its number, as an index.
+    /// The number of this id, to index a list.
     pub fn index(self) -> usize
         ensures value { result ≡ self }
         ensures bound { result < 8 }

@@ -1,4 +1,4 @@
-//! Messages, and the inboxes in which they wait. (GASPI: passive communication)
+//! Messages, and inboxes of them. (GASPI: passive communication)
 
 ghost use Rattle.std.specs.Prelude.{◌≡◌};
 ghost use Rattle.gaspi_types.specs.Inboxes.{is_passive_size};
@@ -14,10 +14,10 @@ pub struct Message {
     pub bytes: Bytes,
 }
 
-/// The messages that were sent to a rank and that it has not received, the earliest first.
+/// An inbox: the messages that a rank has not received, the earliest first.
 pub type Messages = Sequence<Message>;
 
-/// Whether a message may have that many bytes, and a receive take that many: 1 to 4,096. (own choice)
+/// Whether a message may have that many bytes, and a receive allow that many: 1 to 4,096. (own choice)
 pub fn is_passive_size(size: u64) -> bool
     ensures { result ≡ is_passive_size size }
 {

@@ -1,4 +1,4 @@
-//! A call as it is made: by whom, and with its row.
+//! A call as it is made: its caller, the call, and its row.
 
 ghost use Rattle.std.specs.Prelude.{◌≡◌, ◌≤◌};
 ghost use Rattle.gaspi_types.specs.CallRows.{row_of, entries_in};
@@ -7,7 +7,7 @@ use crate::call_rows::CallRow;
 use crate::calls::Call;
 use crate::shapes::CallerId;
 
-/// A call that a caller makes, with the call's row. Whoever makes a call computes its row once, and hands both on. (own choice)
+/// A call that a caller makes, with the call's row. The row is made once, and handed on with the call. (own choice)
 #[derive(Debug, Drop)]
 pub struct Invocation<'a> {
     pub caller: CallerId,

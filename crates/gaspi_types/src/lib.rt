@@ -1,4 +1,9 @@
-//! The types of the GASPI runtime: the shape of a world, its calls, replies and events, and lists whose memory is taken when they are made.
+//! The types that all crates of the runtime share: ids, limits and shapes; calls with their rows, replies and footprints;
+//! entries, queues and events; segments with their tables, messages, groups; and two kinds of lists. Functions here make, copy
+//! and read such values. None knows a state of the machine.
+//!
+//! Here and in all crates `alloc` is where memory is taken from, and a contract sees of a value its model: what `impl Model`
+//! says.
 #![tactic(auto)]
 
 mod buffers;

@@ -1,4 +1,7 @@
-//! Lists that contracts see as lists: no capacity and no pointer stands in an equation about them.
+//! Lists (`Sequence`) that contracts see as their items alone: no capacity and no pointer is in an equation about them.
+//!
+//! A function that may take memory answers `NoMemory` where memory runs out, and then its list is as before. The others take
+//! none. A parameter `place` is an index in the list.
 
 ghost use Rattle.std.specs.Prelude.{◌≡◌, ◌+◌, ◌<◌, ◌≤◌, ◌↔◌, ◌++◌, ◌∷◌, [], length, slice_set, slice_get, take, drop, remove, IsTrue, OnOk, OnErr, IfOk, IsOk, Some};
 ghost use Rattle.std.specs.Borrow.{sem};
@@ -9,7 +12,7 @@ use crate::memory::NoMemory;
 use std::alloc::Global;
 use std::marker::Model;
 
-/// A list of items, which contracts see as the list alone.
+/// A list of items, which contracts see as these items. Its memory grows as items are added.
 #[derive(Debug, Drop)]
 pub struct Sequence<T> {
     items: Vec<T>,
@@ -38,7 +41,7 @@ impl<T> Sequence<T> {
         }
     }
 
-    /// The empty list, with memory taken for so many items.
+    /// The empty list, with memory for `room` items.
     pub fn with_capacity(alloc: Global, room: usize) -> Result<Sequence<T>, NoMemory>
         ensures { IfOk result (λ rows. rows ≡ []) }
     {
@@ -47,14 +50,14 @@ impl<T> Sequence<T> {
         })
     }
 
-    /// The same items, without taking memory.
+    /// The items of a vector, as a list. No memory is taken.
     pub fn from_vec(items: Vec<T>) -> Sequence<T>
         ensures { result ≡ items.items }
     {
         Sequence { items }
     }
 
-    /// The same items, without taking memory.
+    /// The items of the list, as a vector. No memory is taken.
     pub fn into_vec(self) -> Vec<T>
         ensures { result.items ≡ self }
     {
@@ -83,7 +86,7 @@ impl<T> Sequence<T> {
         self.items.is_empty()
     }
 
-    /// The item at a place.
+    /// The item at the index `place`, which has to be below the length.
     pub fn at(&self, place: usize) -> &T
         requires { place < length self.now }
         ensures { slice_get self.now place ≡ Some result.now }
@@ -91,7 +94,7 @@ impl<T> Sequence<T> {
         &self.items[place]
     }
 
-    /// The item at a place, to be written.
+    /// The item at the index `place`, which has to be below the length, to be written. Every other item stays.
     pub fn at_mut(&mut self, place: usize) -> &mut T
         requires { place < length self.old }
         ensures* writes_back { sem 𝓛 (LendsItem T.row self.entry place result) }
@@ -100,7 +103,7 @@ impl<T> Sequence<T> {
         &mut self.items[place]
     }
 
-    /// Adds an item at the end. Without memory nothing changes but that the item is dropped.
+    /// Adds an item at the end. After `NoMemory` the list is as before, and the item is dropped.
     pub fn push(&mut self, item: T) -> Result<(), NoMemory>
     where
         T: Drop,
@@ -111,12 +114,12 @@ impl<T> Sequence<T> {
         Ok(())
     }
 
-    /// The allocator that holds the list.
+    /// The allocator from which the list takes its memory.
     pub fn allocator(&self) -> Global {
         *self.items.allocator()
     }
 
-    /// Keeps the first items alone, as many as that or all.
+    /// Keeps the first `count` items, or all where there are fewer. The others are dropped.
     pub fn truncate(&mut self, count: usize)
     where
         T: Drop,
@@ -125,14 +128,15 @@ impl<T> Sequence<T> {
         self.items.truncate(count);
     }
 
-    /// The item at a place, where there is one.
+    /// The item at the index `place`, or None where the list ends before it.
     pub fn get(&self, place: usize) -> Option<&T>
         ensures { option_copied result ≡ slice_get self.now place }
     {
         self.items.get(place)
     }
 
-    /// Takes the item at a place out. Those behind it move up.
+    /// Removes the item at the index `place`, which has to be below the length, and gives it to the caller. The items behind it
+    /// move up by one.
     pub fn remove(&mut self, place: usize) -> T
         requires { place < length self.old }
         ensures item { slice_get self.old place ≡ Some result }
@@ -141,7 +145,7 @@ impl<T> Sequence<T> {
         self.items.remove(place)
     }
 
-    /// Moves the items of a list to the end. Without memory nothing changes but that those items are dropped.
+    /// Moves all items of `more` to the end. After `NoMemory` the list is as before, and the items of `more` are dropped.
     pub fn extend(&mut self, more: Sequence<T>) -> Result<(), NoMemory>
     where
         T: Drop,
@@ -155,7 +159,7 @@ impl<T> Sequence<T> {
 }
 
 impl<T: Copy> Sequence<T> {
-    /// A list of the same items. It takes no memory where there are none.
+    /// A list of copies of the items. It takes no memory where there are none.
     pub fn copied_from(alloc: Global, items: &[T]) -> Result<Sequence<T>, NoMemory>
         ensures ok { IfOk result (λ rows. rows ≡ items.now) }
         ensures empty { length items.now ≡ 0 → IsOk result }
@@ -168,7 +172,7 @@ impl<T: Copy> Sequence<T> {
         })
     }
 
-    /// Adds items at the end. Without memory nothing changes.
+    /// Adds copies of the items at the end. After `NoMemory` the list is as before.
     pub fn append(&mut self, items: &[T]) -> Result<(), NoMemory>
         ensures ok { OnOk result (self.new ≡ self.old ++ items.now) }
         ensures err { OnErr result (self.new ≡ self.old) }
@@ -177,7 +181,8 @@ impl<T: Copy> Sequence<T> {
         Ok(())
     }
 
-    /// Writes items over those from a place on.
+    /// Writes copies of the items over the items from the index `place` on. There have to be as many; all other items and the
+    /// length stay.
     pub fn overwrite(&mut self, place: usize, items: &[T])
         requires { place + length items.now ≤ length self.old }
         ensures { self.new ≡ take place self.old ++ items.now ++ drop (place + length items.now) self.old }
@@ -194,6 +199,7 @@ impl<T: PartialEq> PartialEq for Sequence<T> {
 
     ghost laws = { lists_per T.laws };
 
+    /// Whether the items are equal, one by one.
     fn eq(&self, other: &Self) -> bool {
         self.items == other.items
     }

@@ -1,11 +1,11 @@
-//! Sets of ranks as one number.
+//! Sets of ranks as one number, a mask: bit r for rank r.
 
 ghost use Rattle.std.specs.Prelude.{◌≡◌, ◌≤◌, ◌<◌, ◌^◌, length};
 ghost use Rattle.gaspi_types.specs.Masks.{mask_of, is_member, with_member, all_below};
 
 use crate::ids::RankId;
 
-/// The set of the ranks that are marked: bit r is the mark of rank r. (GASPI: state vector)
+/// The set of the ranks that are marked: bit r is the mark of rank r, of at most 32 marks. (GASPI: state vector)
 pub fn mask_of(marks: &[bool]) -> u32
     requires { length marks.now ≤ 32 }
     ensures mask { result ≡ mask_of marks.now }
@@ -24,7 +24,7 @@ pub fn is_member(mask: u32, rank: RankId) -> bool
     (mask >> rank.number()) & 1 == 1
 }
 
-/// A set with a rank added. One that is there changes nothing. (GASPI: groups)
+/// The set with a rank added; the same set where the rank is in it. (GASPI: groups)
 pub fn with_member(mask: u32, rank: RankId) -> u32
     ensures { result ≡ with_member mask rank }
 {

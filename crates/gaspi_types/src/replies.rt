@@ -1,4 +1,4 @@
-//! What a call answers.
+//! Replies, the refusals among them, and the answer of a look.
 
 ghost use Rattle.std.specs.Prelude.{◌≡◌, IfOk, IsOk, true};
 ghost use Rattle.gaspi_types.specs.Copies.{is_listless_reply};
@@ -10,8 +10,8 @@ use crate::lists::{Bytes, Sequence};
 use crate::memory::NoMemory;
 use std::alloc::Global;
 
-/// Why a call is refused. Each has a number, which stands in texts. The numbers of a refusal's fields are any of 32 bits,
-/// since a text may claim any.
+/// Why a call is refused. Each refusal has a number, which texts write. Its fields are any numbers of 32 bits, since a text may
+/// claim any.
 #[derive(Clone, Copy, Debug, PartialEq, Eq)]
 pub enum Refusal {
     /// 1: the rank is not below the number of ranks.
@@ -22,13 +22,13 @@ pub enum Refusal {
     SegmentThere,
     /// 4: the target's segment is not known to the caller; for an atomic also where the known generation is gone.
     Unregistered,
-    /// 5: offset and length in bytes, added up, are over the segment's size.
+    /// 5: the range is not within the segment, which has `size` bytes.
     BadRange { size: u32 },
     /// 6: the length is 0, or over its limit.
     BadSize,
     /// 7: the queue is not below the number of queues.
     BadQueue,
-    /// 8: the open count and the entries needed are over the depth.
+    /// 8: the open count `count` and the `need` entries of the post come to more than DEPTH.
     QueueFull { count: u32, need: u32 },
     /// 9: the queue is broken, with that target.
     QueueBroken { rank: u32 },
@@ -38,36 +38,36 @@ pub enum Refusal {
     ZeroValue,
     /// 12: the offset is not divisible by 8.
     BadAlign,
-    /// 13: the first message has so many bytes, more than the receive size.
+    /// 13: the first message has `waiting` bytes, which are more than the receive allows.
     PassiveSize { waiting: u32 },
-    /// 14: the rank has made no such group, or deleted it.
+    /// 14: the rank has no such group.
     NoGroup,
-    /// 15: the group is at that stage, at which there is no such call.
+    /// 15: the group is at that stage, at which the call is not allowed.
     GroupStage { stage: Stage },
-    /// 16: the list to be committed lacks the caller's rank.
+    /// 16: the caller's rank is not in the group that is to be committed.
     NotMember,
-    /// 17: another list is fixed for the group: bit r for rank r.
+    /// 17: the group id has another member list, `kept`: bit r for rank r.
     GroupMismatch { kept: u32 },
-    /// 18: a collective of the rank on the group is pending in that thread.
+    /// 18: a collective of the rank is pending on the group, in that thread.
     ActiveCollective { thread: u32 },
-    /// 19: that collective is pending for the caller, and the call is another one.
+    /// 19: `kept` is pending for the caller on the group, and the call is another collective, or has other arguments.
     ResumeOther { kept: Coll },
-    /// 20: a member takes part in the same round with that collective.
+    /// 20: a member has contributed another collective to the round: `kept`.
     CollectiveMismatch { kept: Coll },
     /// 21: a list's length or a number of elements is outside its limits.
     BadCount,
     /// 22: the type is Float or Double.
     FloatType,
-    /// 23: an own entry has to read the segment yet; the least queue that has one.
+    /// 23: an entry of the rank still uses the segment; `queue` is the least queue that has such an entry.
     SegmentBusy { queue: u32 },
-    /// 24: the rank has made the last group that it may.
+    /// 24: the rank has made seven groups.
     GroupsFull,
     /// 25: the caller's end is recorded.
     CallerEnded,
 }
 
 impl Refusal {
-    /// Its number, which stands in texts.
+    /// The number of this refusal in texts.
     pub fn number(&self) -> u32
         ensures { result ≡ refusal_number self.now }
     {
@@ -101,41 +101,41 @@ impl Refusal {
     }
 }
 
-/// What a call answers.
+/// The reply of a call.
 #[derive(Debug, PartialEq, Eq, Drop)]
 pub enum Reply {
     /// The call has done what it is for, and answers nothing else.
     Done,
-    /// A number: the value of a notification slot, or the word that stood there before an atomic. (GASPI: notify_reset,
-    /// atomic_fetch_add, atomic_compare_swap)
+    /// A number: the old value of a slot or a memory word, or an open count. (GASPI: notify_reset, atomic_fetch_add,
+    /// atomic_compare_swap)
     Value(u64),
-    /// A number that names something: a notification slot. (GASPI: notify_waitsome)
+    /// A number that names something: a slot, the sender of a message, or a new group. (GASPI: notify_waitsome)
     Id(u32),
     /// The bytes of a range.
     Bytes(Bytes),
     /// A set of ranks: bit r for rank r. (GASPI: state vector)
     Mask(u32),
-    /// Numbers. (GASPI: allreduce)
+    /// The reduction of the values of all members. (GASPI: allreduce)
     List(Numbers),
     /// The call was not ready at its last look. (GASPI: timeouts)
     Timeout,
-    /// The call has changed nothing, for that cause.
+    /// The call is refused, and has changed nothing but the count of its rank's events.
     Refused(Refusal),
 }
 
-/// What a look at a call finds.
+/// The answer of a look at a call.
 #[derive(Debug, PartialEq, Eq, Drop)]
 pub enum Ready {
     /// The call is refused or ready, with this reply.
     Reply(Reply),
     /// It is a collective that may join its group, with these arguments. (GASPI: collectives)
     Join(Args),
-    /// It is neither.
+    /// It is neither refused nor ready, and may not join.
     NotReady,
 }
 
 impl Reply {
-    /// An equal reply. It takes no memory where no list in the reply has an item.
+    /// An equal reply. No memory is taken where no list in the reply has an item.
     pub fn copy(&self, alloc: Global) -> Result<Reply, NoMemory>
         ensures ok { IfOk result (λ reply. reply ≡ self.now) }
         ensures listless { is_listless_reply self.now ≡ true → IsOk result }

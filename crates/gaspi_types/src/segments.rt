@@ -1,41 +1,42 @@
-//! Segments: what a rank has of them, and what it knows of those of others. (GASPI: segments)
+//! Segments with their bytes, and tables of segments, which have generations and sizes alone. (GASPI: segments)
 
 ghost use Rattle.std.specs.Prelude.{◌≡◌};
 ghost use Rattle.gaspi_types.specs.World.{is_segment_size};
 
 use crate::lists::{Bytes, Sequence};
 
-/// What is known of a segment: its generation and its size in bytes. (GASPI: segments)
+/// The extent of a segment: its generation and its size in bytes. (GASPI: segments)
 #[derive(Clone, Copy, Debug, PartialEq, Eq)]
 pub struct Extent {
     pub generation: u32,
     pub size: u32,
 }
 
-/// A table of segments, by their numbers.
+/// Extents by segment id; None where no segment is there, or none is known.
 pub type Extents = Sequence<Option<Extent>>;
 
-/// What a rank has and knows of segments, their bytes aside: a post is built from it.
+/// The table of segments of a rank: the extents of its own segments and of those that it knows, without bytes. The ranges of a
+/// post are checked with it.
 #[derive(Debug, PartialEq, Eq, Drop)]
 pub struct SegmentTable {
-    /// Its own segments, by their numbers.
+    /// Its own segments, by segment id.
     pub own: Extents,
-    /// The generation that its next segment of each number has.
+    /// For each segment id the generation of its next own segment.
     pub next_generations: Sequence<u32>,
-    /// What was made known to it of the segments of each rank, by their numbers.
+    /// For each rank, by its number, the segments that this rank knows of it.
     pub known: Sequence<Extents>,
 }
 
 /// A segment of a rank. (GASPI: segments)
 #[derive(Debug, PartialEq, Eq, Drop)]
 pub struct Segment {
-    /// Which of the segments it is that had its number, from 0.
+    /// How often its id was used before.
     pub generation: u32,
     /// 1 to 1,048,576 bytes.
     pub bytes: Bytes,
 }
 
-/// The segments of a rank, by their numbers.
+/// The segments of a rank by segment id; None where there is no segment.
 pub type OwnSegments = Sequence<Option<Segment>>;
 
 /// Whether a segment may have that many bytes: 1 to 1,048,576. (own choice)

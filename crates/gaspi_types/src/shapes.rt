@@ -1,4 +1,5 @@
-//! The shape of a world: its limits, its declared segments and its callers.
+//! The shape of a world: its limits, its declared segments and its callers, declared one after another. The private functions
+//! search what is declared.
 
 ghost use Rattle.std.specs.Prelude.{◌≡◌, ◌+◌, ◌<◌, ◌≤◌, IsTrue, IfOk, IfErr, OnOk, OnErr, MatchResult, Ok, Err, IsOk, [], true};
 ghost use Rattle.std.specs.Prelude.{count_by, ◌==◌};
@@ -18,28 +19,28 @@ use thiserror::Error;
 /// The limits of a world.
 #[derive(Clone, Copy, Debug, PartialEq, Eq)]
 pub struct Limits {
-    /// How many ranks there are, 1 to 16.
+    /// RANKS: how many ranks there are, 1 to 16.
     pub ranks: u32,
-    /// How many queues a rank has, 1 to 8.
+    /// QUEUES: how many queues a rank has, 1 to 8.
     pub queues: u32,
-    /// How many entries a queue holds, 1 to 256.
+    /// DEPTH: the highest open count of a queue, 1 to 256. No lane has more carried entries.
     pub depth: u32,
-    /// How many notification slots a segment has, 1 to 1,024.
+    /// NOTES: how many notification slots a segment has, 1 to 1,024.
     pub notes: u32,
-    /// How many messages an inbox holds, 1 to 64.
+    /// INBOX: how many messages an inbox may have, 1 to 64.
     pub inbox: u32,
-    /// How many events a rank records at most, 1 to 65,536.
+    /// EVENTS: how many events a rank may record, 1 to 65,536.
     pub events: u32,
 }
 
-/// A thread of a rank, which makes calls.
+/// A caller: a thread of a rank that makes calls.
 #[derive(Clone, Copy, Debug, PartialEq, Eq)]
 pub struct CallerId {
     pub rank: RankId,
     pub thread: ThreadId,
 }
 
-/// A segment that is there from the start, and known to every rank. (GASPI: segments)
+/// A declared segment: it is there from the start, and known to every rank. (GASPI: segments)
 #[derive(Clone, Copy, Debug, PartialEq, Eq)]
 pub struct DeclaredSegment {
     pub rank: RankId,
@@ -48,16 +49,16 @@ pub struct DeclaredSegment {
     pub size: u32,
 }
 
-/// Why a shape is refused.
+/// Why a shape, or a declaration for it, is refused.
 #[derive(Debug, Drop, Error)]
 pub enum ShapeFault {
-    /// A number is outside its limits, or names no rank.
+    /// A number is outside its limits, or is the number of no rank.
     #[error("a number is outside its limits")]
     Limit,
-    /// The segment or the caller is there.
+    /// The segment or the caller is declared already.
     #[error("declared twice")]
     Twice,
-    /// The rank's callers would be more than the events that it may record.
+    /// The rank would have more callers than it may record events.
     #[error("more threads than events")]
     Threads,
     /// Out of memory.
@@ -68,19 +69,20 @@ pub enum ShapeFault {
 impl From<NoMemory> for ShapeFault {
     ghost from_gives = { λ _ fault. fault ≡ NoMemory };
 
+    /// For the operator `?`, where memory runs out.
     fn from(_error: NoMemory) -> ShapeFault {
         ShapeFault::NoMemory
     }
 }
 
-/// Whether a number is from low to high.
+/// Whether `n` is from `low` to `high`.
 fn is_between(low: u64, high: u64, n: u64) -> bool
     ensures { result ≡ is_between low high n }
 {
     low <= n && n <= high
 }
 
-/// The limits of a world, its declared segments and its callers.
+/// The limits of a world, its declared segments and its callers. Each is within the limits, and none is declared twice.
 #[derive(Debug, Drop)]
 pub struct Shape {
     limits: Limits,
@@ -101,7 +103,7 @@ impl Model for Shape {
 impl Shape {
     ghost use Rattle.gaspi_types.specs.World.{are_limits, IsShape, shape_of, segment_added, caller_added, Declares};
 
-    /// The shape of these limits, with nothing declared. It takes no memory.
+    /// The shape of these limits, with nothing declared; `Limit` where one is outside its range. It takes no memory.
     pub fn new(
         alloc: Global,
         ranks: u64,
@@ -136,7 +138,7 @@ impl Shape {
         })
     }
 
-    /// The limits.
+    /// The limits. Its contract also says what holds of every shape (`world`).
     pub fn limits(&self) -> Limits
         ensures value { result ≡ self.now.limits }
         ensures within { are_limits result ≡ true }
@@ -159,7 +161,7 @@ impl Shape {
         self.limits.queues
     }
 
-    /// How many entries a queue holds, 1 to 256.
+    /// The highest open count of a queue, 1 to 256.
     pub fn depth(&self) -> u32
         ensures { result ≡ self.now.limits.depth }
     {
@@ -173,14 +175,14 @@ impl Shape {
         self.limits.notes
     }
 
-    /// How many messages an inbox holds, 1 to 64.
+    /// How many messages an inbox may have, 1 to 64.
     pub fn inbox(&self) -> u32
         ensures { result ≡ self.now.limits.inbox }
     {
         self.limits.inbox
     }
 
-    /// How many events a rank records at most, 1 to 65,536.
+    /// How many events a rank may record, 1 to 65,536.
     pub fn events(&self) -> u32
         ensures { result ≡ self.now.limits.events }
     {
@@ -201,7 +203,7 @@ impl Shape {
         self.callers.as_slice()
     }
 
-    /// An equal shape. It takes no memory where nothing is declared.
+    /// An equal shape. No memory is taken where nothing is declared.
     pub fn copy(&self, alloc: Global) -> Result<Shape, NoMemory>
         ensures ok { IfOk result (λ shape. shape ≡ self.now) }
         ensures listless { self.now.segments ≡ [] → self.now.callers ≡ [] → IsOk result }
@@ -213,9 +215,9 @@ impl Shape {
         })
     }
 
-    /// Declares a segment of a rank below RANKS, with a number from 0 to 31 and a size of 1 to 1,048,576 bytes.
-    /// `Limit` where one of them is outside its limits, else `Twice` where the segment is there. A refused call
-    /// changes nothing. (GASPI: segments)
+    /// Declares a segment of a rank below RANKS, with an id from 0 to 31 and a size of 1 to 1,048,576 bytes. `Limit` where one
+    /// of them is outside its limits, else `Twice` where the rank has declared the id, else `NoMemory` where memory runs out.
+    /// In each of these cases nothing has changed. (GASPI: segments)
     pub fn add_segment(&mut self, rank: u64, seg: u64, size: u64) -> Result<(), ShapeFault>
         ensures { Declares result self.old self.new (segment_added self.old rank seg size) }
     {
@@ -237,9 +239,9 @@ impl Shape {
         Ok(())
     }
 
-    /// Declares a caller: a thread from 0 to 3 of a rank below RANKS. `Limit` where one of them is outside its limits,
-    /// else `Twice` where the caller is there, else `Threads` where its rank would have more callers than EVENTS,
-    /// since each of them records its end. A refused call changes nothing.
+    /// Declares a caller: a thread from 0 to 3 of a rank below RANKS. `Limit` where one of them is outside its limits, else
+    /// `Twice` where the caller is declared, else `Threads` where its rank would have more callers than EVENTS, since each of
+    /// them records its end, else `NoMemory` where memory runs out. In each of these cases nothing has changed.
     pub fn add_caller(&mut self, rank: u64, thread: u64) -> Result<(), ShapeFault>
         ensures { Declares result self.old self.new (caller_added self.old rank thread) }
     {
@@ -261,7 +263,7 @@ impl Shape {
     }
 }
 
-/// Whether the segment is declared.
+/// Whether segment `seg` of a rank is among those that are declared.
 fn has_segment(segments: &[DeclaredSegment], rank: u64, seg: u64) -> bool
     ensures { result ≡ list_any (is_segment rank seg) segments.now }
 {
@@ -269,7 +271,7 @@ fn has_segment(segments: &[DeclaredSegment], rank: u64, seg: u64) -> bool
         && u64::from(d.segment.number()) == seg)
 }
 
-/// Whether the caller is declared.
+/// Whether a thread of a rank is among the callers.
 fn has_caller(callers: &[CallerId], rank: u64, thread: u64) -> bool
     ensures { result ≡ list_any (is_caller rank thread) callers.now }
 {
@@ -277,7 +279,7 @@ fn has_caller(callers: &[CallerId], rank: u64, thread: u64) -> bool
         && u64::from(c.thread.number()) == thread)
 }
 
-/// How many callers a rank has.
+/// How many of the callers are of a rank.
 fn threads_of(callers: &[CallerId], rank: u64) -> usize
     ensures { result ≡ count_by (λ c. c.rank == rank) callers.now }
 {

@@ -16,6 +16,7 @@ use Rattle.journal_pictures.specs.declared.tracing.TraceAnswer.TheVariants.{Trac
 abbrev pub most_events : ℕ
 most_events = 400
 
+-- the answer where the sequence diagram of a journal is asked for
 abbrev pub IsSequenceAnswer : ShapeValue → List Event → SequenceAnswer → Type 0
 IsSequenceAnswer w journal (Drawn text) = (is_legal w journal ≡ true) × (length journal ≤ most_events) × (text ≡ sequence_text w journal)
 IsSequenceAnswer w journal (Long events) = (is_legal w journal ≡ true) × (most_events < length journal) × (events ≡ length journal)

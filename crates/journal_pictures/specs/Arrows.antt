@@ -19,7 +19,7 @@ use Rattle.journal_pictures.specs.Trace.{event_objects, got_slot, nothing_open, 
 use Rattle.journal_pictures.specs.declared.open_entries.RankEntries.{RankEntries}
 use Rattle.journal_pictures.specs.declared.set_slots.SetSlot.{SetSlot}
 
--- What a trace takes for open, and for set, after events.
+-- The open entries, and the set slots, after events.
 
 abbrev pub open_after : List RankEntries → List Event → List RankEntries
 open_after ranks [] = ranks

@@ -1,4 +1,5 @@
--- What entries bring: by what they ask for, and by the calls that posted them. (GASPI: one-sided communication, notifications)
+-- Deliveries: what the puts of entries bring, by their kinds, and by the calls that posted them. (GASPI: one-sided
+-- communication, notifications)
 use Rattle.std.specs.Prelude.{◌≡◌, ℕ, ◌==◌, List, [], ◌∷◌, ◌++◌, map, length, Option, None, Some, if◌then◌else◌, slice_get}
 use Rattle.std.specs.List.{flat_map}
 use Rattle.gaspi_types.specs.Posts.{write_item, read_item, write_notify_item, read_notify_item}
@@ -23,7 +24,7 @@ delivery_of (kinds.Read own target) = Bytes Inward own.size own.segment own.offs
 delivery_of (kinds.Notify target value) = Notification Outward target.segment target.note value
 delivery_of (kinds.ReadNote own) = Notification Inward own.segment own.note 1
 
--- what a transfer brings
+-- what the write or read of an item brings
 abbrev pub item_delivery : Direction → Item → Delivery
 item_delivery Outward item = Bytes Outward item.size item.rseg item.roffset
 item_delivery Inward item = Bytes Inward item.size item.seg item.offset
@@ -41,12 +42,12 @@ deliveries_of (calls.WriteListNotify call) = map (item_delivery Outward) call.it
 deliveries_of (calls.ReadListNotify call) = map (item_delivery Inward) call.items ++ Notification Inward call.nseg call.note 1 ∷ []
 deliveries_of call = []
 
--- what the entries bring that an event posts of a rank: those of a call that is done
+-- what the entries of an origin that an event posts bring: those of a call that is done
 abbrev pub posted_in : ℕ → Event → List Delivery
 posted_in origin (Called c call replies.Done) = if c.rank == origin then deliveries_of call else []
 posted_in origin e = []
 
--- and all events of a history, by the numbers of the entries
+-- what all entries of an origin bring that a history posts, by the numbers of the entries
 abbrev pub posted : ℕ → List Event → List Delivery
 posted origin history = flat_map (posted_in origin) history
 
@@ -60,11 +61,12 @@ abbrev pub table_after : Event → List (List Delivery) → List (List Delivery)
 table_after (Called c call replies.Done) table = changed_at table c.rank (λ row. row ++ deliveries_of call)
 table_after e table = table
 
--- what the entry of a transfer brings, by the table
+-- what the entry with a number brings, by the deliveries of its origin
 abbrev pub entry_delivery : Option (List Delivery) → ℕ → Option Delivery
 entry_delivery None number = None
 entry_delivery (Some row) number = slice_get row number
 
+-- what the entry of a transfer brings, by the table
 abbrev pub delivery_for : List (List Delivery) → Event → Option Delivery
 delivery_for table (Take origin queue target number outcome) = entry_delivery (slice_get table origin) number
 delivery_for table (Put origin queue target number outcome) = entry_delivery (slice_get table origin) number

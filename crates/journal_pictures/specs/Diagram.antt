@@ -26,7 +26,7 @@ use Rattle.journal_pictures.specs.Deliveries.{delivery_of}
 use Rattle.journal_pictures.specs.declared.deliveries.Delivery.{Delivery}
 use Rattle.journal_pictures.specs.declared.deliveries.Delivery.TheVariants.{Bytes, Notification}
 
--- the first bytes of a text that is long
+-- a text, or of one over 60 bytes the first 57 and three dots
 abbrev pub shortened : List ℕ → List ℕ
 shortened text = if nat_lt 60 (length text) then take 57 text ++ codes "..." else text
 
@@ -38,10 +38,11 @@ labelled label n = label ++ decimal n
 abbrev pub participant_line : ℕ → List ℕ
 participant_line rank = labelled (codes "    participant R") rank ++ labelled (codes " as rank ") rank ++ codes "\n"
 
--- a note over a rank, of the event at a place
+-- the first bytes of a note: over which rank, and the place of its event
 abbrev pub note_head : ℕ → ℕ → List ℕ
 note_head place rank = labelled (codes "    Note over R") rank ++ labelled (codes ": ") place
 
+-- a note over a rank, of the event at a place
 abbrev pub note_line : ℕ → ℕ → List ℕ → List ℕ
 note_line place rank text = note_head place rank ++ codes " " ++ text ++ codes "\n"
 
@@ -56,30 +57,35 @@ entry_word (Bytes Inward size segment offset) = codes "read"
 entry_word (Notification Outward segment note value) = codes "notify"
 entry_word (Notification Inward segment note value) = codes "read_notify"
 
+-- whether the transfer failed
 abbrev pub failed_word : Outcome → List ℕ
 failed_word Applied = codes ": "
 failed_word Failed = codes " failed: "
 
--- what it brings
+-- bytes, by their number, segment and offset
 abbrev pub bytes_text : ℕ → ℕ → ℕ → List ℕ
 bytes_text size segment offset = labelled (codes "size ") size ++ labelled (codes ", segment ") segment ++ labelled (codes ", offset ") offset
 
+-- a notification, by its id, value and segment
 abbrev pub notification_text : ℕ → ℕ → ℕ → List ℕ
 notification_text segment note value = labelled (codes "id ") note ++ labelled (codes ", value ") value ++ labelled (codes ", segment ") segment
 
+-- what an entry brings
 abbrev pub delivery_text : Delivery → List ℕ
 delivery_text (Bytes direction size segment offset) = bytes_text size segment offset
 delivery_text (Notification direction segment note value) = notification_text segment note value
 
--- from which rank to which it comes
+-- whether a delivery is outward or inward
 abbrev pub way_of : Delivery → Direction
 way_of (Bytes direction size segment offset) = direction
 way_of (Notification direction segment note value) = direction
 
+-- the rank from which a delivery comes
 abbrev pub sender : Direction → ℕ → ℕ → ℕ
 sender Outward origin target = origin
 sender Inward origin target = target
 
+-- the rank to which a delivery comes
 abbrev pub receiver : Direction → ℕ → ℕ → ℕ
 receiver Outward origin target = target
 receiver Inward origin target = origin
@@ -89,6 +95,7 @@ abbrev pub arrow : Outcome → List ℕ
 arrow Applied = codes "->>R"
 arrow Failed = codes "--xR"
 
+-- the first bytes of an arrow: from which rank to which
 abbrev pub arrow_head : ℕ → ℕ → Outcome → List ℕ
 arrow_head from to outcome = labelled (codes "    R") from ++ labelled (arrow outcome) to ++ codes ": "
 
@@ -102,6 +109,7 @@ arrow_line place origin queue target outcome d =
     arrow_head (sender (way_of d) origin target) (receiver (way_of d) origin target) outcome
     ++ decimal place ++ codes " " ++ entry_text outcome d ++ delivery_text d ++ labelled (codes ", queue ") queue ++ codes "\n"
 
+-- the arrow of a transfer, where it is known what its entry brings
 abbrev pub transfer_line : ℕ → ℕ → ℕ → ℕ → Outcome → Option Delivery → List ℕ
 transfer_line place origin queue target outcome None = []
 transfer_line place origin queue target outcome (Some d) = arrow_line place origin queue target outcome d
@@ -114,10 +122,11 @@ event_line place (Take origin queue target number Applied) d = []
 event_line place (Take origin queue target number Failed) d = transfer_line place origin queue target Failed d
 event_line place (Put origin queue target number outcome) d = transfer_line place origin queue target outcome d
 
--- what the entry of a transfer brings that stands in a state
+-- what an entry brings, where there is one
 abbrev pub entry_brings : Option Entry → Option Delivery
 entry_brings e = option_map (λ x. delivery_of x.kind) e
 
+-- what the entry of a transfer brings, by the state
 abbrev pub brought : State → Event → Option Delivery
 brought s (Take origin queue target number outcome) = entry_brings (entry_after s origin queue target number)
 brought s (Put origin queue target number outcome) = entry_brings (entry_after s origin queue target number)
@@ -129,6 +138,7 @@ line_before place None r = []
 line_before place (Some e) (Err why) = []
 line_before place (Some e) (Ok s) = event_line place e (brought s e)
 
+-- the line of the event at a place
 abbrev pub line_at : ShapeValue → List Event → ℕ → List ℕ
 line_at w journal place = line_before place (slice_get journal place) (reached w (take place journal))
 

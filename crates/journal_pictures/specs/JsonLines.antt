@@ -15,25 +15,27 @@ whole n = number (unsigned n)
 abbrev pub line : Data → List ℕ
 line d = codes ",\n" ++ compact_text d
 
+-- objects, each in a line of its own
 abbrev pub lines : List Data → List ℕ
 lines [] = []
 lines (d ∷ ds) = line d ++ lines ds
 
 -- How lines are put together.
 
--- pieces, one behind the other
+-- the bytes of a piece
 abbrev pub piece_text : Piece → List ℕ
 piece_text (Fixed bytes) = bytes.now
 piece_text (Number n) = decimal n
 
+-- pieces, one behind the other
 abbrev pub pieces_text : List Piece → List ℕ
 pieces_text [] = []
 pieces_text (piece ∷ pieces) = piece_text piece ++ pieces_text pieces
 
--- a text that stands between quotes as it is: no byte of it is escaped
+-- a text that is between quotes as it is: JSON escapes no byte of it
 abbrev pub IsPlain : List ℕ → Type 0
 IsPlain text = escape text ≡ text
 
--- the front of a line, up to the arguments of its object
+-- the front of a line, up to the `args` of its object
 abbrev pub line_front : Members → List ℕ
 line_front arguments = codes ",\n{\"args\":" ++ compact_text (object arguments)

@@ -1,5 +1,6 @@
--- What is open after a history, which a trace joins with what comes: the entries of each rank that are posted and have not ended, and the
--- notification slots that a put has set and no reset has read. (GASPI: one-sided communication, notifications)
+-- What a trace keeps of a history: the open entries of each rank, and the notification slots that a put has set and no reset
+-- has read since. An entry is open from its post to its put, its failure, or the purge of its queue. (GASPI: one-sided
+-- communication, notifications)
 use Rattle.std.specs.Prelude.{ℕ, ◌+◌, ◌==◌, Bool, not, ◌&&◌, List, [], ◌∷◌, ◌++◌, Option, None, Some, filter, find, slice_get, nat_lt, if◌then◌else◌}
 use Rattle.gaspi_types.specs.CallRows.{row_of, entries_of}
 use Rattle.gaspi_types.specs.Tables.{changed_at}
@@ -21,30 +22,33 @@ use Rattle.journal_pictures.specs.declared.set_slots.SetSlot.{SetSlot}
 
 -- The entries of a rank.
 
--- the entries of a queue that go to a target and bring this, with numbers one after another
+-- entries of a queue and a target with these deliveries, with numbers one after another
 abbrev pub numbered : ℕ → ℕ → ℕ → List Delivery → List OpenEntry
 numbered queue target n [] = []
 numbered queue target n (d ∷ ds) = record { queue = queue; target = target; number = n; delivery = d } ∷ numbered queue target (n + 1) ds
 
--- a queue's number is below 8
+-- the entries of a post with these deliveries; none where the queue is over 7
 abbrev pub entries_to : Option Posting → ℕ → List Delivery → List OpenEntry
 entries_to None next ds = []
 entries_to (Some to) next ds = if nat_lt to.queue 8 then numbered to.queue to.rank next ds else []
 
--- the entries that a call posts, where the rank's next number is that
+-- the entries that a call posts, from the rank's next number on
 abbrev pub new_entries : ℕ → Call → List OpenEntry
 new_entries next call = entries_to (row_of call).posting next (deliveries_of call)
 
+-- whether an entry is of that queue
 abbrev pub is_in_queue : ℕ → OpenEntry → Bool
 is_in_queue queue x = x.queue == queue
 
+-- whether an entry has that number
 abbrev pub is_numbered : ℕ → OpenEntry → Bool
 is_numbered number x = x.number == number
 
--- those of a queue, which its purge ends, and those that stay
+-- those of a queue, which its purge ends
 abbrev pub in_queue : ℕ → List OpenEntry → List OpenEntry
 in_queue queue entries = filter (is_in_queue queue) entries
 
+-- those of all other queues
 abbrev pub not_in_queue : ℕ → List OpenEntry → List OpenEntry
 not_in_queue queue entries = filter (λ x. not (is_in_queue queue x)) entries
 
@@ -80,9 +84,11 @@ put_entry ranks e = None
 
 -- The slots.
 
+-- whether a slot is that of a rank, segment and notification id
 abbrev pub is_slot : ℕ → ℕ → ℕ → SetSlot → Bool
 is_slot rank segment note s = (s.rank == rank) && ((s.segment == segment) && (s.note == note))
 
+-- the set slots without that one
 abbrev pub without_slot : ℕ → ℕ → ℕ → List SetSlot → List SetSlot
 without_slot rank segment note slots = filter (λ s. not (is_slot rank segment note s)) slots
 
@@ -90,7 +96,7 @@ without_slot rank segment note slots = filter (λ s. not (is_slot rank segment n
 abbrev pub with_slot : SetSlot → List SetSlot → List SetSlot
 with_slot s slots = without_slot s.rank s.segment s.note slots ++ s ∷ []
 
--- after a put at a place, of an entry that brings that
+-- after a put at a place, of that open entry
 abbrev pub slots_put : ℕ → ℕ → ℕ → ℕ → Option OpenEntry → List SetSlot → List SetSlot
 slots_put place origin queue target None slots = slots
 slots_put place origin queue target (Some x) slots = brings x.delivery
@@ -100,7 +106,7 @@ slots_put place origin queue target (Some x) slots = brings x.delivery
         with_slot (record { rank = receiver direction origin target; segment = segment; note = note; origin = origin; queue = queue; place = place }) slots
     brings other = slots
 
--- after an event, of which that entry is put: a put of a notification sets its slot, and a reset of a slot reads it
+-- after an event, the put of that open entry: a put of a notification sets its slot, and a reset of a slot reads it
 abbrev pub slots_after : Option OpenEntry → ℕ → Event → List SetSlot → List SetSlot
 slots_after x place (Put origin queue target number Applied) slots = slots_put place origin queue target x slots
 slots_after x place (Called c (Reset call) (replies.Value value)) slots = without_slot c.rank call.seg call.note slots

@@ -45,6 +45,7 @@ process_name rank name =
     object (member (codes "args") (object name) (member (codes "name") (string (codes "process_name"))
     (member (codes "ph") (string (codes "M")) (member (codes "pid") (whole rank) no_members))))
 
+-- the name of a rank
 abbrev pub rank_name : ℕ → Data
 rank_name rank = process_name rank (named (codes "rank ") rank)
 
@@ -54,12 +55,15 @@ track_name rank track name =
     object (member (codes "args") (object name) (member (codes "name") (string (codes "thread_name"))
     (member (codes "ph") (string (codes "M")) (member (codes "pid") (whole rank) (member (codes "tid") (whole track) no_members)))))
 
+-- the name of the track of a caller
 abbrev pub caller_name : CallerId → Data
 caller_name c = track_name c.rank c.thread (named (codes "thread ") c.thread)
 
+-- the name of the track of a queue
 abbrev pub queue_name : ℕ → ℕ → Data
 queue_name rank queue = track_name rank (queue_track queue) (named (codes "queue ") queue)
 
+-- the names of the tracks of a rank's queues
 abbrev pub queue_names : ℕ → ℕ → List Data
 queue_names queues rank = map (queue_name rank) (range_with_len 0 queues)
 
@@ -71,11 +75,12 @@ slice place rank track name arguments =
     object (member (codes "args") (object arguments) (member (codes "dur") (whole 1) (member (codes "name") (string name)
     (member (codes "ph") (string (codes "X")) (member (codes "pid") (whole rank) (member (codes "tid") (whole track) (member (codes "ts") (whole place) no_members)))))))
 
--- the word of a call
+-- the word of what is spelled; the end of a caller has a word of its own
 abbrev pub spelled_word : Option Spelled → List ℕ
 spelled_word None = end_word
 spelled_word (Some s) = spelling_of s.word
 
+-- the word of a call
 abbrev pub call_word : Call → List ℕ
 call_word call = spelled_word (spelled call)
 
@@ -83,16 +88,19 @@ call_word call = spelled_word (spelled call)
 abbrev pub readable : List ℕ → List ℕ
 readable text = utf8_lossy text
 
+-- the slice of a call
 abbrev pub call_slice : ℕ → CallerId → Call → Reply → Data
 call_slice place c call reply =
     slice place c.rank c.thread (call_word call) (member (codes "call") (string (readable (call_text call))) (member (codes "reply") (string (readable (reply_text reply))) no_members))
 
+-- the word of a collective
 abbrev pub coll_word : Coll → List ℕ
 coll_word Barrier = codes "barrier"
 coll_word (Allreduce op num_type count) = codes "allreduce"
 coll_word (Create seg size) = codes "create"
 coll_word (Commit mask) = codes "commit"
 
+-- the slice of a join
 abbrev pub join_slice : ℕ → CallerId → ℕ → Coll → Data
 join_slice place c group coll =
     slice place c.rank c.thread (codes "join") (member (codes "collective") (string (coll_word coll)) (member (codes "group") (whole group) no_members))
@@ -101,6 +109,7 @@ join_slice place c group coll =
 abbrev pub note_members : ℕ → ℕ → ℕ → Members
 note_members segment note value = member (codes "notification") (whole note) (member (codes "segment") (whole segment) (member (codes "value") (whole value) no_members))
 
+-- the slice of the put of a notification; bytes have none
 abbrev pub put_slice : ℕ → ℕ → ℕ → Delivery → List Data
 put_slice place origin queue (Bytes direction size segment offset) = []
 put_slice place origin queue (Notification direction segment note value) =
@@ -108,7 +117,7 @@ put_slice place origin queue (Notification direction segment note value) =
 
 -- Spans of entries: each begins with the call that posts it, and goes over its take to its end.
 
--- one entry of a rank is told from another by both numbers
+-- the name of an entry in a trace: its origin and its number
 abbrev pub entry_id : ℕ → ℕ → List ℕ
 entry_id origin number = decimal origin ++ codes "." ++ decimal number
 
@@ -119,6 +128,7 @@ mark letter place origin queue id name arguments =
     (member (codes "name") (string name) (member (codes "ph") (string letter) (member (codes "pid") (whole origin)
     (member (codes "tid") (whole (queue_track queue)) (member (codes "ts") (whole place) no_members))))))))
 
+-- a mark of the span of an entry
 abbrev pub span_mark : List ℕ → ℕ → ℕ → ℕ → ℕ → Members → Data
 span_mark letter place origin queue number arguments = mark letter place origin queue (entry_id origin number) (labelled (codes "queue ") queue) arguments
 
@@ -138,7 +148,7 @@ entry_members x = brings x.delivery
 abbrev pub span_begin : ℕ → ℕ → OpenEntry → Data
 span_begin place origin x = span_mark (codes "b") place origin x.queue x.number (entry_members x)
 
--- it takes its bytes
+-- its take is applied
 abbrev pub span_take : ℕ → ℕ → ℕ → ℕ → Data
 span_take place origin queue number = span_mark (codes "n") place origin queue number (member (codes "step") (string (codes "take")) no_members)
 
@@ -146,22 +156,26 @@ span_take place origin queue number = span_mark (codes "n") place origin queue n
 abbrev pub span_end : List ℕ → ℕ → ℕ → ℕ → ℕ → Data
 span_end how place origin queue number = span_mark (codes "e") place origin queue number (member (codes "step") (string how) no_members)
 
+-- the word of a put
 abbrev pub put_step : Outcome → List ℕ
 put_step Applied = codes "put"
 put_step Failed = codes "put failed"
 
+-- the mark of a take: within the span, or its end where the take failed
 abbrev pub span_taken : Outcome → ℕ → ℕ → ℕ → ℕ → Data
 span_taken Applied place origin queue number = span_take place origin queue number
 span_taken Failed place origin queue number = span_end (codes "take failed") place origin queue number
 
+-- the end of the span of a purged entry
 abbrev pub purge_end : ℕ → ℕ → OpenEntry → Data
 purge_end place origin x = span_end (codes "purge") place origin x.queue x.number
 
--- of a rank
+-- the open entries of a rank
 abbrev pub open_of : Option RankEntries → List OpenEntry
 open_of None = []
 open_of (Some r) = r.entries
 
+-- the number of a rank's next entry
 abbrev pub next_of : Option RankEntries → ℕ
 next_of None = 0
 next_of (Some r) = r.next
@@ -173,12 +187,13 @@ call_marks place origin r call = map (span_begin place origin) (new_entries (nex
 
 -- Arrows: from the put of a notification to the call that gets it.
 
--- an end of an arrow, with the letter of which it is
+-- the start of an arrow, at the put that has set a slot
 abbrev pub arrow_start : ℕ → SetSlot → Data
 arrow_start id s =
     object (member (codes "cat") (string (codes "notification")) (member (codes "id") (whole id) (member (codes "name") (string (codes "notification"))
     (member (codes "ph") (string (codes "s")) (member (codes "pid") (whole s.origin) (member (codes "tid") (whole (queue_track s.queue)) (member (codes "ts") (whole s.place) no_members)))))))
 
+-- the finish of an arrow, at a call
 abbrev pub arrow_finish : ℕ → CallerId → Data
 arrow_finish id c =
     object (member (codes "bp") (string (codes "e")) (member (codes "cat") (string (codes "notification")) (member (codes "id") (whole id)
@@ -198,14 +213,17 @@ got_slot slots c call reply = None
 
 -- The objects of an event, by what is open before it.
 
+-- the marks of a call with its reply
 abbrev pub done_marks : ℕ → ℕ → Option RankEntries → Call → Reply → List Data
 done_marks place origin r call replies.Done = call_marks place origin r call
 done_marks place origin r call reply = []
 
+-- the slice of a put, where its entry is known
 abbrev pub put_marks : ℕ → ℕ → ℕ → Option OpenEntry → List Data
 put_marks place origin queue None = []
 put_marks place origin queue (Some x) = put_slice place origin queue x.delivery
 
+-- the objects of an event
 abbrev pub event_objects : List RankEntries → List SetSlot → ℕ → Event → List Data
 event_objects ranks slots place (Called c call reply) =
     call_slice place c call reply ∷ (done_marks place c.rank (slice_get ranks c.rank) call reply ++ arrow_to place c (got_slot slots c call reply))
@@ -220,7 +238,7 @@ objects_from ranks slots place [] = []
 objects_from ranks slots place (e ∷ events) =
     event_objects ranks slots place e ++ objects_from (entries_after e ranks) (slots_after (put_entry ranks e) place e slots) (place + 1) events
 
--- nothing is open at the beginning
+-- no entry is open at the start
 abbrev pub nothing_open : List RankEntries
 nothing_open = replicate 16 (record { next = 0; entries = [] })
 

@@ -1,4 +1,5 @@
-//! What entries bring, as the calls that posted them say.
+//! Deliveries: what the puts of entries bring, as the calls that post the entries say. What a list has after `NoMemory` is not
+//! said: no caller goes on with it.
 
 ghost use Rattle.std.specs.Prelude.{◌≡◌, ◌++◌, ◌∷◌, [], map, OnOk};
 ghost use Rattle.gaspi_types.specs.declared.entries.Direction.TheVariants.{Outward, Inward};
@@ -7,11 +8,11 @@ ghost use Rattle.journal_pictures.specs.Deliveries.{deliveries_of, item_delivery
 
 use gaspi_types::{Call, Direction, Item, NoMemory, Sequence};
 
-/// What the put of an entry brings. Outward it comes to the target of the entry, inward to its origin. Segment, offset and
-/// notification id are of the rank to which it comes.
+/// What the put of an entry brings. It comes to the target of the entry where it is outward, and to the origin where it is
+/// inward. Segment, offset and notification id are of the rank to which it comes.
 #[derive(Clone, Copy, Debug, PartialEq, Eq)]
 pub enum Delivery {
-    /// So many bytes, for a segment from an offset on.
+    /// `size` bytes, for a segment from an offset on.
     Bytes {
         direction: Direction,
         size: u64,
@@ -27,7 +28,7 @@ pub enum Delivery {
     },
 }
 
-/// What a transfer brings.
+/// What the write or read of an item brings.
 fn item_delivery(direction: Direction, item: &Item) -> Delivery
     ensures { result ≡ item_delivery direction item.now }
 {
@@ -43,7 +44,7 @@ fn item_delivery(direction: Direction, item: &Item) -> Delivery
     }
 }
 
-/// Adds what the transfers of a list bring.
+/// Adds what the writes or reads of items bring.
 fn append_items(
     list: &mut Sequence<Delivery>,
     direction: Direction,
@@ -57,7 +58,7 @@ fn append_items(
     Ok(())
 }
 
-/// Adds what the transfers of a list bring, and behind them a notification.
+/// Adds what the writes or reads of items bring, and behind them a notification.
 fn append_noted(
     list: &mut Sequence<Delivery>,
     direction: Direction,
@@ -70,7 +71,7 @@ fn append_noted(
     list.push(note)
 }
 
-/// Adds what the entries bring that a call posts, in their order.
+/// Adds what each entry of a call brings, in the order of the entries; nothing for a call that is no post.
 pub(crate) fn append_deliveries(list: &mut Sequence<Delivery>, call: &Call) -> Result<(), NoMemory>
     ensures { OnOk result (list.new ≡ list.old ++ deliveries_of call.now) }
 {
@@ -113,7 +114,7 @@ pub(crate) fn append_deliveries(list: &mut Sequence<Delivery>, call: &Call) -> R
     }
 }
 
-/// The notification of a write.
+/// What a notification brings to its target.
 fn outward_note(segment: u64, note: u64, value: u32) -> Delivery
     ensures { result ≡ Notification Outward segment note value }
 {
@@ -125,7 +126,7 @@ fn outward_note(segment: u64, note: u64, value: u32) -> Delivery
     }
 }
 
-/// The notification of a read.
+/// What the notification of a read brings to its origin.
 fn inward_note(segment: u64, note: u64) -> Delivery
     ensures { result ≡ Notification Inward segment note 1 }
 {

@@ -1,4 +1,8 @@
-//! The lines of a sequence diagram.
+//! The lines of a sequence diagram: participants, notes and arrows. `write_X` adds a whole line, or none, and `append_X` some
+//! of a line. A note here is one of Mermaid: a text over a participant. `told` is a text that another function has written.
+//!
+//! What the text has after `NoMemory` is not said: no caller goes on with it. Some functions take memory for a text that goes
+//! into the line.
 
 ghost use Rattle.std.specs.Prelude.{◌≡◌, ◌++◌, IfOk, OnOk};
 ghost use Rattle.call_texts.specs.CallText.{call_text};
@@ -13,10 +17,11 @@ use gaspi_types::{
 };
 use std::alloc::Global;
 
-/// The most bytes that stand of the text of a call, a reply or a join.
+/// How many bytes the text of a call, a reply or a join may have in a line. A longer one is cut to its first 57, and three
+/// dots.
 const MOST_BYTES: usize = 60;
 
-/// Adds a text, or where it is long its first bytes.
+/// Adds the text `told`; of one over 60 bytes the first 57 and three dots.
 fn append_shortened(text: &mut Bytes, told: &[u8]) -> Result<(), NoMemory>
     ensures { OnOk result (text.new ≡ text.old ++ shortened told.now) }
 {
@@ -29,7 +34,7 @@ fn append_shortened(text: &mut Bytes, told: &[u8]) -> Result<(), NoMemory>
     }
 }
 
-/// Adds a number behind a text.
+/// Adds a label, and a number behind it.
 fn append_labelled(text: &mut Bytes, label: &[u8], number: u64) -> Result<(), NoMemory>
     ensures { OnOk result (text.new ≡ text.old ++ labelled label.now number) }
 {
@@ -37,7 +42,7 @@ fn append_labelled(text: &mut Bytes, label: &[u8], number: u64) -> Result<(), No
     write_number(text, number)
 }
 
-/// Adds the line of a rank.
+/// Adds the line that names a rank.
 pub(crate) fn write_participant(text: &mut Bytes, rank: u32) -> Result<(), NoMemory>
     ensures { OnOk result (text.new ≡ text.old ++ participant_line rank) }
 {
@@ -46,7 +51,7 @@ pub(crate) fn write_participant(text: &mut Bytes, rank: u32) -> Result<(), NoMem
     text.append(b"\n")
 }
 
-/// Adds the head of a note: over which rank it stands, and the place of its event.
+/// Adds the first bytes of a note: the rank over which it is, and the place of its event.
 fn append_note_head(text: &mut Bytes, place: u64, rank: u64) -> Result<(), NoMemory>
     ensures { OnOk result (text.new ≡ text.old ++ note_head place rank) }
 {
@@ -54,7 +59,7 @@ fn append_note_head(text: &mut Bytes, place: u64, rank: u64) -> Result<(), NoMem
     append_labelled(text, b": ", place)
 }
 
-/// Adds a note over a rank, of the event at a place.
+/// Adds a note over a rank, for the event at a place.
 fn write_note(text: &mut Bytes, place: u64, rank: RankId, note: &[u8]) -> Result<(), NoMemory>
     ensures { OnOk result (text.new ≡ text.old ++ note_line place rank note.now) }
 {
@@ -82,7 +87,7 @@ fn append_reply(text: &mut Bytes, reply: &Reply) -> Result<(), NoMemory>
     append_shortened(text, told.as_slice())
 }
 
-/// Adds a call with its reply.
+/// Adds a caller, its call, and the reply, each of the last two shortened where it is long.
 fn append_called(
     text: &mut Bytes,
     caller: CallerId,
@@ -101,7 +106,7 @@ fn append_called(
     append_reply(text, reply)
 }
 
-/// The text of a call with its reply.
+/// The text of the note of a call with its reply.
 fn called_text(
     alloc: Global,
     caller: CallerId,
@@ -130,7 +135,7 @@ fn write_called(
     write_note(text, place, rank, note.as_slice())
 }
 
-/// The text of a join, shortened where it is long.
+/// The text of the note of a join, shortened where it is long.
 fn joined_text(alloc: Global, event: &Event) -> Result<Bytes, NoMemory>
     ensures { IfOk result (λ text. text ≡ shortened (event_text event.now)) }
 {
@@ -149,7 +154,7 @@ fn write_joined(text: &mut Bytes, place: u64, rank: RankId, event: &Event) -> Re
     write_note(text, place, rank, note.as_slice())
 }
 
-/// What an entry is called.
+/// The name of an entry in a diagram, by what it brings.
 fn entry_word(delivery: &Delivery) -> &'static [u8]
     ensures { result.now ≡ entry_word delivery.now }
 {
@@ -165,7 +170,7 @@ fn entry_word(delivery: &Delivery) -> &'static [u8]
     }
 }
 
-/// Adds how many bytes come to which offset of a segment.
+/// Adds how many bytes come to which segment and offset.
 fn append_bytes(text: &mut Bytes, size: u64, segment: u64, offset: u64) -> Result<(), NoMemory>
     ensures { OnOk result (text.new ≡ text.old ++ bytes_text size segment offset) }
 {
@@ -174,7 +179,7 @@ fn append_bytes(text: &mut Bytes, size: u64, segment: u64, offset: u64) -> Resul
     append_labelled(text, b", offset ", offset)
 }
 
-/// Adds which value comes to which notification id of a segment.
+/// Adds which value comes to which notification id and segment.
 fn append_notification(
     text: &mut Bytes,
     segment: u64,
@@ -208,7 +213,7 @@ fn append_delivery(text: &mut Bytes, delivery: &Delivery) -> Result<(), NoMemory
     }
 }
 
-/// Which way an entry brings it.
+/// Whether a delivery is outward or inward.
 fn way_of(delivery: &Delivery) -> Direction
     ensures { result ≡ way_of delivery.now }
 {
@@ -217,7 +222,7 @@ fn way_of(delivery: &Delivery) -> Direction
     }
 }
 
-/// An arrow, and one with a cross where the transfer failed.
+/// The arrow of a transfer: one with a cross where the transfer failed.
 fn arrow(outcome: Outcome) -> &'static [u8]
     ensures { result.now ≡ arrow outcome }
 {
@@ -227,7 +232,7 @@ fn arrow(outcome: Outcome) -> &'static [u8]
     }
 }
 
-/// Adds the head of an arrow: from which rank to which it goes.
+/// Adds the first bytes of an arrow: from which rank to which it goes.
 fn append_arrow(
     text: &mut Bytes,
     from: RankId,
@@ -241,7 +246,7 @@ fn append_arrow(
     text.append(b": ")
 }
 
-/// Adds what an entry is called, and whether its transfer failed.
+/// Adds the name of an entry, and that its transfer failed, where it did.
 fn append_entry(text: &mut Bytes, outcome: Outcome, delivery: &Delivery) -> Result<(), NoMemory>
     ensures { OnOk result (text.new ≡ text.old ++ entry_text outcome delivery.now) }
 {
@@ -252,7 +257,8 @@ fn append_entry(text: &mut Bytes, outcome: Outcome, delivery: &Delivery) -> Resu
     }
 }
 
-/// Adds the arrow of a transfer, with the queue of its entry.
+/// Adds the arrow of a transfer: the rank that it leaves and the one to which it comes, what it brings, and the queue of its
+/// entry.
 fn write_arrow(
     text: &mut Bytes,
     place: u64,
@@ -276,7 +282,7 @@ fn write_arrow(
     text.append(b"\n")
 }
 
-/// Adds the arrow of a transfer, where it is known what its entry brings.
+/// Adds the arrow of a transfer; nothing where `delivery` is None, since no such entry was posted.
 fn write_transfer(
     text: &mut Bytes,
     place: u64,
@@ -294,7 +300,8 @@ fn write_transfer(
     }
 }
 
-/// Adds the line of the event at a place, where its entry brings that.
+/// Adds the line of the event at a place; nothing for a take that is applied. `delivery` is what the entry of a transfer
+/// brings, as `delivery_for` answers.
 pub(crate) fn write_line(
     text: &mut Bytes,
     place: u64,

@@ -1,4 +1,4 @@
-//! The sequence diagram of a journal.
+//! The sequence diagram of a journal: its first lines, and then a line for each event, after the journal was checked.
 
 ghost use Rattle.std.specs.Prelude.{◌≡◌, ◌++◌, true, codes, IfOk, OnOk};
 ghost use Rattle.std.specs.List.{flat_map, range_with_len};
@@ -17,7 +17,7 @@ use std::alloc::Global;
 /// How many events a diagram may have.
 const MOST_EVENTS: usize = 400;
 
-/// What is answered where the sequence diagram of a journal is asked for.
+/// What `sequence` answers.
 #[derive(Debug, PartialEq, Eq, Drop)]
 pub enum SequenceAnswer {
     /// The text of the diagram.
@@ -28,7 +28,7 @@ pub enum SequenceAnswer {
     Illegal { place: u64, why: Why },
 }
 
-/// Adds the participants of a diagram, a rank each.
+/// Adds the lines that name the ranks. What the text has after `NoMemory` is not said.
 fn write_participants(text: &mut Bytes, ranks: u32) -> Result<(), NoMemory>
     ensures { OnOk result (text.new ≡ text.old ++ flat_map participant_line (range_with_len 0 ranks)) }
 {
@@ -38,7 +38,7 @@ fn write_participants(text: &mut Bytes, ranks: u32) -> Result<(), NoMemory>
     Ok(())
 }
 
-/// The head of a diagram, with its participants.
+/// The first lines of a diagram, up to those that name the ranks.
 fn diagram_head(alloc: Global, ranks: u32) -> Result<Bytes, NoMemory>
     ensures { IfOk result (λ text. text ≡ codes "sequenceDiagram\n" ++ flat_map participant_line (range_with_len 0 ranks)) }
 {
@@ -48,7 +48,7 @@ fn diagram_head(alloc: Global, ranks: u32) -> Result<Bytes, NoMemory>
     Ok(text)
 }
 
-/// The diagram of a legal journal.
+/// The diagram of a journal, which has to be legal.
 fn draw(alloc: Global, shape: &Shape, journal: &Journal) -> Result<Bytes, NoMemory>
     requires { is_legal shape.now journal.now ≡ true }
     ensures { IfOk result (λ text. text ≡ sequence_text shape.now journal.now) }
@@ -63,8 +63,8 @@ fn draw(alloc: Global, shape: &Shape, journal: &Journal) -> Result<Bytes, NoMemo
     Ok(text)
 }
 
-/// The sequence diagram of a journal, in the text of Mermaid. The whole journal is judged first, as by `check`. A journal of more than
-/// 400 events has none. (own choice)
+/// The sequence diagram of a journal, in the text of Mermaid. First the whole journal is checked, as by `check`. A journal of
+/// more than 400 events has none. (own choice)
 pub fn sequence(alloc: Global, shape: &Shape, journal: &Journal) -> Result<SequenceAnswer, NoMemory>
     ensures { IfOk result (λ answer. IsSequenceAnswer shape.now journal.now answer) }
 {

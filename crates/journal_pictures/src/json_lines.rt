@@ -1,4 +1,4 @@
-//! Lines of JSON, put together from pieces.
+//! Lines of JSON, put together from pieces. What the text has after `NoMemory` is not said.
 
 ghost use Rattle.std.specs.Prelude.{◌≡◌, ◌++◌, OnOk};
 ghost use Rattle.journal_pictures.specs.JsonLines.{piece_text, pieces_text};
@@ -6,7 +6,7 @@ ghost use Rattle.journal_pictures.specs.JsonLines.{piece_text, pieces_text};
 use gaspi_texts::write_number;
 use gaspi_types::{Bytes, NoMemory};
 
-/// A piece of a line: bytes as they stand there, or a number in decimal.
+/// A piece of a line: bytes that are in it as they are, or a number in decimal.
 #[derive(Clone, Copy, Debug)]
 pub enum Piece<'a> {
     Fixed(&'a [u8]),

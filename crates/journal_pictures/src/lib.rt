@@ -1,5 +1,5 @@
-//! Pictures of journals: the sequence diagram of a run, in the text of Mermaid, and its trace, in the JSON of the Chrome trace event
-//! format.
+//! Pictures of journals: the sequence diagram of a run, in the text of Mermaid, and its trace, in the JSON of the Chrome trace
+//! event format. A picture is made of the journal of a run alone, which is checked first.
 #![tactic(auto)]
 
 mod deliveries;

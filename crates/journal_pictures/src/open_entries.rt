@@ -1,4 +1,8 @@
-//! The entries of each rank that are posted and have not ended.
+//! The open entries of each rank, for the trace. An entry is open from its post to its put, its failure, or the purge of its
+//! queue.
+//!
+//! `pass_X` changes the open entries by an event or a call. After `NoMemory` what they are is not said. The next entry number
+//! of a rank has to be small enough that no sum is too large for its type, as it is in every legal journal.
 
 ghost use Rattle.std.specs.Prelude.{◌≡◌, ◌^◌, ◌<◌, ℕ, [], find, replicate, length, slice_get, IfOk, OnOk, Some};
 ghost use Rattle.gaspi_model.specs.Step.{owner_of};
@@ -8,7 +12,7 @@ use crate::deliveries::{Delivery, append_deliveries};
 use gaspi_types::{Call, Event, NoMemory, Outcome, QueueId, RankId, Reply, Sequence};
 use std::alloc::Global;
 
-/// An entry that is posted and has not ended: its queue, target and number, and what it brings.
+/// An open entry: its queue, its target, its number, and what its put will bring.
 #[derive(Clone, Copy, Debug, PartialEq, Eq)]
 pub struct OpenEntry {
     pub queue: QueueId,
@@ -17,17 +21,17 @@ pub struct OpenEntry {
     pub delivery: Delivery,
 }
 
-/// The entries of a rank: the number that its next one has, and those that are open.
+/// The open entries of a rank, in the order of their posts, and the number of its next entry.
 #[derive(Debug, Drop)]
 pub struct RankEntries {
     pub next: u64,
     pub entries: Sequence<OpenEntry>,
 }
 
-/// The entries of all ranks.
+/// The open entries of each of 16 ranks.
 pub type EntryTable = Sequence<RankEntries>;
 
-/// No entry of any rank.
+/// No open entry of any rank, and next numbers of 0.
 pub fn no_entries(alloc: Global) -> Result<EntryTable, NoMemory>
     ensures { IfOk result (λ ranks. ranks ≡ replicate 16 (record { next = 0; entries = [] })) }
 {
@@ -41,7 +45,7 @@ pub fn no_entries(alloc: Global) -> Result<EntryTable, NoMemory>
     Ok(ranks)
 }
 
-/// The entries of a queue that go to a target and bring this, with numbers one after another.
+/// Entries of a queue and a target with these deliveries, with numbers one after another from `next` on.
 fn numbered(
     alloc: Global,
     queue: QueueId,
@@ -64,7 +68,7 @@ fn numbered(
     Ok(list)
 }
 
-/// The entries that a call posts, where the rank's next number is that. A queue's number is below 8.
+/// The entries that a call posts, from the rank's next number on; none of a call that is no post, or with a queue over 7.
 pub fn new_entries(alloc: Global, next: u64, call: &Call) -> Result<Sequence<OpenEntry>, NoMemory>
     requires { next < 2 ^ 63 }
     ensures { IfOk result (λ list. list ≡ new_entries next call.now) }
@@ -80,7 +84,7 @@ pub fn new_entries(alloc: Global, next: u64, call: &Call) -> Result<Sequence<Ope
     }
 }
 
-/// The entries of a queue.
+/// The entries of that queue, among `entries`.
 pub fn in_queue(
     alloc: Global,
     queue: u64,
@@ -96,7 +100,7 @@ pub fn in_queue(
     Ok(Sequence::from_vec(kept))
 }
 
-/// The entries that stay where a queue is purged.
+/// The entries of all other queues, among `entries`.
 fn not_in_queue(
     alloc: Global,
     queue: u64,
@@ -128,7 +132,8 @@ fn without_number(
     Ok(Sequence::from_vec(kept))
 }
 
-/// Passes a call that is done.
+/// Changes the open entries of a rank by a call of its own that is done: a purge ends those of its queue, and a post adds its
+/// own.
 fn pass_call(own: &mut RankEntries, call: &Call) -> Result<(), NoMemory>
     requires { own.old.next < 2 ^ 62 }
     ensures { OnOk result (own.new ≡ after_call call.now own.old) }
@@ -147,7 +152,7 @@ fn pass_call(own: &mut RankEntries, call: &Call) -> Result<(), NoMemory>
     Ok(())
 }
 
-/// Ends the entry of that number.
+/// Removes the entry of that number.
 fn end_entry(own: &mut RankEntries, number: u32) -> Result<(), NoMemory>
     ensures { OnOk result (own.new ≡ record own.old { entries = without_number number own.old.entries }) }
 {
@@ -156,7 +161,7 @@ fn end_entry(own: &mut RankEntries, number: u32) -> Result<(), NoMemory>
     Ok(())
 }
 
-/// Passes an event of the rank.
+/// Changes the open entries of a rank by an event of its own.
 fn pass_own(own: &mut RankEntries, event: &Event) -> Result<(), NoMemory>
     requires { own.old.next < 2 ^ 62 }
     ensures { OnOk result (own.new ≡ rank_after event.now own.old) }
@@ -170,7 +175,7 @@ fn pass_own(own: &mut RankEntries, event: &Event) -> Result<(), NoMemory>
     }
 }
 
-/// The rank of an event.
+/// The owner of an event.
 pub fn owner(event: &Event) -> RankId
     ensures { result ≡ owner_of event.now }
 {
@@ -180,7 +185,8 @@ pub fn owner(event: &Event) -> RankId
     }
 }
 
-/// Passes an event.
+/// Changes the open entries of the owner of an event by that event. The table has to have 16 ranks (`many`) with next numbers
+/// below 2^62 (`small`).
 pub fn pass_event(ranks: &mut EntryTable, event: &Event) -> Result<(), NoMemory>
     requires many { length ranks.old ≡ 16 }
     requires small { (rank : ℕ) (r : RankEntries) → slice_get ranks.old rank ≡ Some r → r.next < 2 ^ 62 }
@@ -189,14 +195,14 @@ pub fn pass_event(ranks: &mut EntryTable, event: &Event) -> Result<(), NoMemory>
     pass_own(ranks.at_mut(owner(event).index()), event)
 }
 
-/// The entry with that number.
+/// The entry with that number among `entries`, or None.
 fn find_entry(entries: &[OpenEntry], number: u64) -> Option<OpenEntry>
     ensures { result ≡ find (is_numbered number) entries.now }
 {
     entries.iter().copied().find(|entry| entry.number == number)
 }
 
-/// The entry of a rank with that number.
+/// The open entry of an origin with that number; None where it is not open.
 fn entry_of(ranks: &EntryTable, origin: RankId, number: u32) -> Option<OpenEntry>
     ensures { result ≡ entry_of (slice_get ranks.now origin) number }
 {
@@ -204,7 +210,7 @@ fn entry_of(ranks: &EntryTable, origin: RankId, number: u32) -> Option<OpenEntry
     find_entry(own.entries.as_slice(), u64::from(number))
 }
 
-/// The entry that a put puts.
+/// The open entry of a put that is applied. None for any other event, and where no such entry is open.
 pub fn put_entry(ranks: &EntryTable, event: &Event) -> Option<OpenEntry>
     ensures { result ≡ put_entry ranks.now event.now }
 {

@@ -1,4 +1,6 @@
-//! The notification slots that a put has set and no reset has read.
+//! The notification slots that a put has set and no reset has read since, each with the last put that has set it, for the
+//! trace. `pass_X` changes this list by an event, by means of `set_slot` and `free_slot`. After `NoMemory` what it has is not
+//! said.
 
 ghost use Rattle.std.specs.Prelude.{◌≡◌, IfOk, OnOk, find};
 ghost use Rattle.journal_pictures.specs.Diagram.{receiver};
@@ -9,7 +11,8 @@ use crate::open_entries::OpenEntry;
 use gaspi_types::{Call, Direction, Event, NoMemory, Outcome, QueueId, RankId, Reply, Sequence};
 use std::alloc::Global;
 
-/// A notification slot of a rank that is set, and the put that has set it: of which rank and queue, and at which place.
+/// A slot that is set: its rank, segment and notification id; and the put that has set it: the origin and queue of its entry,
+/// and its place.
 #[derive(Clone, Copy, Debug, PartialEq, Eq)]
 pub struct SetSlot {
     pub rank: RankId,
@@ -20,14 +23,14 @@ pub struct SetSlot {
     pub place: u64,
 }
 
-/// Whether it is that slot.
+/// Whether `slot` is the slot of that rank, segment and notification id.
 fn is_slot(slot: &SetSlot, rank: RankId, segment: u64, note: u64) -> bool
     ensures { result ≡ is_slot rank segment note slot.now }
 {
     slot.rank.number() == rank.number() && slot.segment == segment && slot.note == note
 }
 
-/// That slot, where it is set.
+/// The slot of that rank, segment and notification id, or None where it is not set.
 pub fn slot_at(slots: &[SetSlot], rank: RankId, segment: u64, note: u64) -> Option<SetSlot>
     ensures { result ≡ find (is_slot rank segment note) slots.now }
 {
@@ -37,7 +40,7 @@ pub fn slot_at(slots: &[SetSlot], rank: RankId, segment: u64, note: u64) -> Opti
         .find(|slot| is_slot(slot, rank, segment, note))
 }
 
-/// The slots without that one.
+/// The set slots without the slot of that rank, segment and notification id.
 fn without_slot(
     alloc: Global,
     slots: &[SetSlot],
@@ -55,7 +58,7 @@ fn without_slot(
     Ok(Sequence::from_vec(kept))
 }
 
-/// Frees a slot.
+/// Removes the slot of that rank, segment and notification id, where it is set.
 fn free_slot(
     slots: &mut Sequence<SetSlot>,
     rank: RankId,
@@ -69,7 +72,7 @@ fn free_slot(
     Ok(())
 }
 
-/// Sets a slot.
+/// Adds a slot, in place of the same slot with an earlier put.
 fn set_slot(slots: &mut Sequence<SetSlot>, slot: SetSlot) -> Result<(), NoMemory>
     ensures { OnOk result (slots.new ≡ with_slot slot slots.old) }
 {
@@ -77,7 +80,7 @@ fn set_slot(slots: &mut Sequence<SetSlot>, slot: SetSlot) -> Result<(), NoMemory
     slots.push(slot)
 }
 
-/// The rank to which an entry brings it.
+/// The rank to which an entry of that direction brings its delivery.
 fn receiver(direction: Direction, origin: RankId, target: RankId) -> RankId
     ensures { result ≡ receiver direction origin target }
 {
@@ -87,7 +90,7 @@ fn receiver(direction: Direction, origin: RankId, target: RankId) -> RankId
     }
 }
 
-/// Passes a put at a place, of an entry that brings that.
+/// Changes the set slots by a put at a place: `entry` is the open entry that is put. Only a notification sets a slot.
 fn pass_put(
     slots: &mut Sequence<SetSlot>,
     place: u64,
@@ -124,7 +127,8 @@ fn pass_put(
     }
 }
 
-/// Passes an event.
+/// Changes the set slots by the event at a place: a put that is applied may set one, and a reset that answers a value removes
+/// its own. `entry` is the open entry of such a put, as `put_entry` answers.
 pub fn pass_slots(
     slots: &mut Sequence<SetSlot>,
     place: u64,

@@ -1,4 +1,12 @@
-//! The lines of a trace.
+//! The lines of a trace, each an object of JSON behind a comma and a line feed: names of tracks, slices, marks of spans, and
+//! ends of arrows. What the text has after `NoMemory` is not said: no caller goes on with it.
+//!
+//! A slice is of a call, a join or the put of a notification, and is one place long. A span is of an entry, from its post to
+//! its end; its marks are its begin (`b`), its take (`n`) and its end (`e`). An arrow starts at the put that has set a slot,
+//! and finishes at the call that gets the notification; its number is the place of that call.
+//!
+//! `write_X` adds whole lines, `append_X` some of a line, and `end_X` ends a line of which the text has the front, up to its
+//! `args`. In the words that they get, JSON escapes nothing (`IsPlain`).
 #![tactic(auto, unfolding(json::specs::Print::escape_byte))]
 
 ghost use Rattle.std.specs.Prelude.{◌≡◌, ◌++◌, ◌∷◌, ◌<◌, ◌^◌, ℕ, List, codes, length, map, slice_get, OnOk, Some};
@@ -20,10 +28,10 @@ use gaspi_types::{
     Reply,
 };
 
-/// The track of a queue: behind those of the threads.
+/// The track of queue 0. The tracks below it are those of threads.
 const FIRST_QUEUE: u64 = 16;
 
-/// Adds the name of a rank.
+/// Adds the object that names a rank, as the first one has no comma before it.
 pub(crate) fn append_rank(text: &mut Bytes, rank: u32) -> Result<(), NoMemory>
     ensures { OnOk result (text.new ≡ text.old ++ compact_text (rank_name rank)) }
 {
@@ -40,7 +48,7 @@ pub(crate) fn append_rank(text: &mut Bytes, rank: u32) -> Result<(), NoMemory>
     )
 }
 
-/// Adds the line of a rank's name.
+/// Adds the line that names a rank.
 pub(crate) fn write_rank(text: &mut Bytes, rank: u32) -> Result<(), NoMemory>
     ensures { OnOk result (text.new ≡ text.old ++ line (rank_name rank)) }
 {
@@ -48,7 +56,7 @@ pub(crate) fn write_rank(text: &mut Bytes, rank: u32) -> Result<(), NoMemory>
     append_rank(text, rank)
 }
 
-/// Adds the line of a track's name: a label with a number behind it.
+/// Adds the line that names a track: a label, in which JSON escapes nothing, and a number behind it.
 fn write_track(
     text: &mut Bytes,
     rank: u32,
@@ -74,7 +82,7 @@ fn write_track(
     )
 }
 
-/// Adds the line of a caller's name.
+/// Adds the line that names the track of a caller.
 pub(crate) fn write_caller(text: &mut Bytes, caller: &CallerId) -> Result<(), NoMemory>
     ensures { OnOk result (text.new ≡ text.old ++ line (caller_name caller.now)) }
 {
@@ -82,7 +90,7 @@ pub(crate) fn write_caller(text: &mut Bytes, caller: &CallerId) -> Result<(), No
     write_track(text, caller.rank.number(), thread, b"thread ", thread)
 }
 
-/// Adds the line of a queue's name.
+/// Adds the line that names the track of a queue.
 pub(crate) fn write_queue(text: &mut Bytes, rank: u32, queue: u32) -> Result<(), NoMemory>
     ensures { OnOk result (text.new ≡ text.old ++ line (queue_name rank queue)) }
 {
@@ -90,7 +98,7 @@ pub(crate) fn write_queue(text: &mut Bytes, rank: u32, queue: u32) -> Result<(),
     write_track(text, rank, FIRST_QUEUE + queue, b"queue ", queue)
 }
 
-/// Ends the line of a slice on a track, one place long, behind its arguments.
+/// Ends the line of a slice with that name, on a track of a rank. JSON has to escape nothing in the name.
 fn end_slice(
     text: &mut Bytes,
     place: u64,
@@ -118,7 +126,7 @@ fn end_slice(
     )
 }
 
-/// The word of a call.
+/// The word of a call, as in its text.
 fn call_word(call: &Call) -> &'static [u8]
     ensures { result.now ≡ call_word call.now }
 {
@@ -158,7 +166,7 @@ fn call_word(call: &Call) -> &'static [u8]
     }
 }
 
-/// Adds the slice of a call.
+/// Adds the slice of a call with its reply, on the track of its caller. After `NoMemory` some of the line may be there.
 fn write_call_slice(
     text: &mut Bytes,
     place: u64,
@@ -180,7 +188,7 @@ fn write_call_slice(
     end_slice(text, place, caller.rank, thread, call_word(call))
 }
 
-/// The word of a collective.
+/// The word of a collective, as in its text. JSON escapes nothing in it.
 fn coll_word(coll: &Coll) -> &'static [u8]
     ensures word { result.now ≡ coll_word coll.now }
     ensures plain { IsPlain result.now }
@@ -193,7 +201,7 @@ fn coll_word(coll: &Coll) -> &'static [u8]
     }
 }
 
-/// Adds the slice of a join.
+/// Adds the slice of a join, on the track of its caller.
 fn write_join(
     text: &mut Bytes,
     place: u64,
@@ -224,7 +232,7 @@ fn queue_track(queue: QueueId) -> u64
     FIRST_QUEUE + u64::from(queue.number())
 }
 
-/// Adds the slice of the put of a notification.
+/// Adds the slice of the put of a notification, on the track of its queue; nothing where the entry brings bytes.
 fn write_put_slice(
     text: &mut Bytes,
     place: u64,
@@ -259,7 +267,7 @@ fn write_put_slice(
     }
 }
 
-/// Ends the line of a mark of an entry's span, behind its arguments. The letter says what the mark is.
+/// Ends the line of a mark of an entry's span. The letter says which mark it is: `b`, `n` or `e`.
 fn end_mark(
     text: &mut Bytes,
     letter: &[u8],
@@ -295,7 +303,7 @@ fn end_mark(
     )
 }
 
-/// What an entry is called.
+/// The name of an entry in a trace, by what it brings. JSON escapes nothing in it.
 fn entry_word(delivery: &Delivery) -> &'static [u8]
     ensures word { result.now ≡ entry_word delivery.now }
     ensures plain { IsPlain result.now }
@@ -312,7 +320,7 @@ fn entry_word(delivery: &Delivery) -> &'static [u8]
     }
 }
 
-/// Adds the front of the line that begins an entry's span: what the entry brings.
+/// Adds the front of the line that begins an entry's span, with what the entry brings.
 fn append_entry(text: &mut Bytes, entry: &OpenEntry) -> Result<(), NoMemory>
     ensures { OnOk result (text.new ≡ text.old ++ line_front (entry_members entry.now)) }
 {
@@ -380,7 +388,7 @@ fn write_begin(
     end_mark(text, b"b", place, origin, entry.queue, entry.number)
 }
 
-/// Adds a mark of an entry's span, with a step.
+/// Adds a mark of an entry's span, with the word of a step: what has come to the entry.
 fn write_step(
     text: &mut Bytes,
     letter: &[u8],
@@ -405,7 +413,7 @@ fn write_step(
     end_mark(text, letter, place, origin, queue, number)
 }
 
-/// Adds the end of an entry's span, and how it ends.
+/// Adds the end of an entry's span, with the word for how it ends.
 fn write_end(
     text: &mut Bytes,
     how: &[u8],
@@ -420,7 +428,7 @@ fn write_end(
     write_step(text, b"e", how, place, origin, queue, number)
 }
 
-/// Adds what a take is to the span of its entry.
+/// Adds the mark of a take: one within the span of its entry where it is applied, and the end of the span where it failed.
 fn write_take(
     text: &mut Bytes,
     place: u64,
@@ -438,7 +446,7 @@ fn write_take(
     }
 }
 
-/// What a put is called.
+/// The word of a put in a trace. JSON escapes nothing in it.
 fn put_step(outcome: Outcome) -> &'static [u8]
     ensures word { result.now ≡ put_step outcome }
     ensures plain { IsPlain result.now }
@@ -449,7 +457,8 @@ fn put_step(outcome: Outcome) -> &'static [u8]
     }
 }
 
-/// Adds what a put is to the span of its entry, and where it puts a notification, a slice.
+/// Adds the end of the span of an entry at its put, and a slice where it puts a notification. `entry` is the open entry, as
+/// `put_entry` answers.
 fn write_put(
     text: &mut Bytes,
     place: u64,
@@ -475,7 +484,7 @@ fn write_put(
     }
 }
 
-/// Adds the begins of the spans of entries.
+/// Adds the begins of the spans of entries, at their post.
 fn write_begins(
     text: &mut Bytes,
     place: u64,
@@ -490,7 +499,7 @@ fn write_begins(
     Ok(())
 }
 
-/// Adds the ends of the spans of entries, which a purge ends.
+/// Adds the ends of the spans of entries, at a purge of their queue.
 fn write_purge(
     text: &mut Bytes,
     place: u64,
@@ -505,7 +514,8 @@ fn write_purge(
     Ok(())
 }
 
-/// Adds the marks of a call that is done.
+/// Adds the marks of a call that is done: the ends of the spans of a purged queue, or the begins of those of posted entries.
+/// `own` has the open entries of its rank before it.
 fn write_call_marks(
     text: &mut Bytes,
     place: u64,
@@ -529,7 +539,7 @@ fn write_call_marks(
     }
 }
 
-/// Adds the start of an arrow, at the put that has set a slot.
+/// Adds the start of an arrow with that number, at the put that has set a slot.
 fn write_arrow_start(text: &mut Bytes, id: u64, slot: &SetSlot) -> Result<(), NoMemory>
     ensures { OnOk result (text.new ≡ text.old ++ line (arrow_start id slot.now)) }
 {
@@ -549,7 +559,7 @@ fn write_arrow_start(text: &mut Bytes, id: u64, slot: &SetSlot) -> Result<(), No
     )
 }
 
-/// Adds the finish of an arrow, at the call at a place, which gives the arrow its number.
+/// Adds the finish of an arrow, at the call at a place, which is the number of the arrow.
 fn write_arrow_finish(text: &mut Bytes, place: u64, caller: &CallerId) -> Result<(), NoMemory>
     ensures { OnOk result (text.new ≡ text.old ++ line (arrow_finish place caller.now)) }
 {
@@ -569,7 +579,7 @@ fn write_arrow_finish(text: &mut Bytes, place: u64, caller: &CallerId) -> Result
     )
 }
 
-/// Adds an arrow, from the put that has set a slot to the call that gets it.
+/// Adds both ends of an arrow, from the put that has set a slot to the call at a place.
 fn write_arrow(
     text: &mut Bytes,
     place: u64,
@@ -582,7 +592,8 @@ fn write_arrow(
     write_arrow_finish(text, place, caller)
 }
 
-/// The slot whose notification a call gets.
+/// The set slot whose notification a call gets: the one that a `waitsome` names, or that a `reset` reads with another value
+/// than 0. None for every other call, and where no put has set the slot.
 fn got_slot(slots: &[SetSlot], caller: &CallerId, call: &Call, reply: &Reply) -> Option<SetSlot>
     ensures { result ≡ got_slot slots.now caller.now call.now reply.now }
 {
@@ -601,7 +612,7 @@ fn got_slot(slots: &[SetSlot], caller: &CallerId, call: &Call, reply: &Reply) ->
     }
 }
 
-/// Adds the arrow to a call, where it gets a notification.
+/// Adds the arrow to the call at a place; nothing where it gets no notification.
 fn write_arrow_to(
     text: &mut Bytes,
     place: u64,
@@ -616,7 +627,7 @@ fn write_arrow_to(
     }
 }
 
-/// Adds the marks of a call, where it is done.
+/// Adds the marks of a call, where its reply is that it is done.
 fn write_done(
     text: &mut Bytes,
     place: u64,
@@ -634,7 +645,7 @@ fn write_done(
     }
 }
 
-/// Adds what a call is in a trace.
+/// Adds all lines of a call: its slice, its marks and its arrow.
 fn write_called(
     text: &mut Bytes,
     own: &RankEntries,
@@ -653,7 +664,8 @@ fn write_called(
     write_arrow_to(text, place, caller, got_slot(slots, caller, call, reply))
 }
 
-/// Adds what an event is in a trace, by what is open before it.
+/// Adds all lines of the event at a place, by the open entries and the set slots before it. The table has to have 16 ranks
+/// (`many`) with next numbers below 2^62 (`small`), and `entry` has to be what `put_entry` answers.
 pub(crate) fn write_objects(
     text: &mut Bytes,
     ranks: &EntryTable,

@@ -1,4 +1,5 @@
-//! The trace of a journal.
+//! The trace of a journal, written after the journal was checked. The functions before `write_legal` add to a block; what it
+//! has after `NoMemory` is not said.
 
 ghost use Rattle.std.specs.Prelude.{◌≡◌, ◌⊎◌, ◌++◌, ◌-◌, ◌<◌, ◌^◌, ℕ, true, codes, length, map, slice_get, IfOk, IsErrOf, OnErr, OnOk, Some};
 ghost use Rattle.std.specs.List.{flat_map, range_with_len};
@@ -22,16 +23,16 @@ use gaspi_texts::Journal;
 use gaspi_types::{Bytes, CallerId, Event, NoMemory, Sequence, Shape};
 use std::alloc::Global;
 
-/// What is answered where the trace of a journal is asked for.
+/// What `write_trace` answers.
 #[derive(Clone, Copy, Debug, PartialEq, Eq)]
 pub enum TraceAnswer {
-    /// The trace was written.
+    /// The whole trace is written.
     Traced,
-    /// The event at that place, from 0, is the first that is no step, for that cause. Nothing was written.
+    /// The event at that place, from 0, is the first that is no step, for that cause. Nothing is written.
     Refuted { place: u64, why: Why },
 }
 
-/// Adds the names of the ranks but the first.
+/// Adds the lines that name the ranks but the first.
 fn write_ranks(text: &mut Bytes, ranks: u32) -> Result<(), NoMemory>
     ensures { OnOk result (text.new ≡ text.old ++ lines (map rank_name (range_with_len 1 (ranks - 1)))) }
 {
@@ -42,7 +43,7 @@ fn write_ranks(text: &mut Bytes, ranks: u32) -> Result<(), NoMemory>
     Ok(())
 }
 
-/// Adds the names of the callers.
+/// Adds the lines that name the tracks of the callers.
 fn write_callers(text: &mut Bytes, callers: &[CallerId]) -> Result<(), NoMemory>
     ensures { OnOk result (text.new ≡ text.old ++ lines (map caller_name callers.now)) }
 {
@@ -52,7 +53,7 @@ fn write_callers(text: &mut Bytes, callers: &[CallerId]) -> Result<(), NoMemory>
     Ok(())
 }
 
-/// Adds the names of the queues of a rank.
+/// Adds the lines that name the tracks of the queues of a rank.
 fn write_rank_queues(text: &mut Bytes, rank: u32, queues: u32) -> Result<(), NoMemory>
     ensures { OnOk result (text.new ≡ text.old ++ lines (queue_names queues rank)) }
 {
@@ -62,7 +63,7 @@ fn write_rank_queues(text: &mut Bytes, rank: u32, queues: u32) -> Result<(), NoM
     Ok(())
 }
 
-/// Adds the names of all queues.
+/// Adds the lines that name the tracks of all queues.
 fn write_queues(text: &mut Bytes, ranks: u32, queues: u32) -> Result<(), NoMemory>
     ensures { OnOk result (text.new ≡ text.old ++ lines (flat_map (queue_names queues) (range_with_len 0 ranks))) }
 {
@@ -72,7 +73,7 @@ fn write_queues(text: &mut Bytes, ranks: u32, queues: u32) -> Result<(), NoMemor
     Ok(())
 }
 
-/// The head of a trace, the names of ranks, threads and queues, in the memory of one block.
+/// The first lines of a trace, with the names of ranks and tracks, in memory for one block.
 fn trace_head(alloc: Global, shape: &Shape) -> Result<Bytes, NoMemory>
     ensures { IfOk result (λ text. text ≡ codes "[\n" ++ compact_text (rank_name 0) ++ lines (names shape.now)) }
 {
@@ -86,7 +87,8 @@ fn trace_head(alloc: Global, shape: &Shape) -> Result<Bytes, NoMemory>
     Ok(text)
 }
 
-/// Adds what an event is in a trace, and passes it.
+/// Adds all lines of the event at a place, and changes the open entries and the set slots by it. The table has to have 16 ranks
+/// (`many`) with next numbers below 2^62 (`small`).
 fn add_event(
     text: &mut Bytes,
     ranks: &mut EntryTable,
@@ -106,7 +108,7 @@ fn add_event(
     pass_event(ranks, event)
 }
 
-/// Writes the trace of a legal journal, block by block.
+/// Writes the trace of a journal, which has to be legal, block by block. Where it stops, a prefix of the trace is written.
 fn write_legal<K: Sink>(
     alloc: Global,
     shape: &Shape,
@@ -134,8 +136,9 @@ fn write_legal<K: Sink>(
     Ok(())
 }
 
-/// Writes the trace of a journal, in the JSON of the Chrome trace event format, block by block. The whole journal is judged first, as by
-/// `check`. (own choice)
+/// Writes the trace of a journal, in the JSON of the Chrome trace event format, block by block. First the whole journal is
+/// checked, as by `check`. Where the sink has a fault or memory runs out, nothing or a prefix of the trace is written. (own
+/// choice)
 pub fn write_trace<K: Sink>(
     alloc: Global,
     shape: &Shape,

@@ -1,5 +1,5 @@
--- What the program answers to its words and its input. An input stands here as what its source had left before and after, and an output
--- as what its sink held, where they tell it. (own choice)
+-- The answers of the program to its words and its input. An input is seen as what its source had left before and after, and an
+-- output as what its sink held, where they tell it. (own choice)
 use Rattle.std.specs.Prelude.{◌≡◌, ◌⊎◌, ◌≤◌, ◌<◌, ℕ, ◌+◌, length, List, [], ◌++◌, Option, Some, Result, Ok, Err, codes}
 use Rattle.std.specs.Option.{ForSome}
 use Rattle.std.specs.Fmt.{decimal}
@@ -42,11 +42,11 @@ module _ (held held' : Option (List ℕ)) (faults faults' status : ℕ) where
   abbrev pub IsSilent : ℕ → Type 0
   IsSilent meant = (status ≡ meant) × (held' ≡ held) × (faults' ≡ faults)
 
-  -- a fault was told, or there was no memory for its text
+  -- a fault was written, or there was no memory for its text
   abbrev pub AnswersFault : TextFault → Type 0
   AnswersFault fault = IsWritten 2 (fault_text fault) ⊎ IsSilent 7
 
-  -- the first event that is no step was told, or there was no memory for its text
+  -- the first event that is no step was written, or there was no memory for its text
   abbrev pub AnswersIllegal : ℕ → Why → Type 0
   AnswersIllegal place why = IsWritten 4 (illegal_text place why) ⊎ IsSilent 7
 
@@ -78,7 +78,7 @@ module _ (held held' : Option (List ℕ)) (faults faults' status : ℕ) where
 
 -- What an answer says. Each case has its statuses.
 
--- the whole input was read, and the text is what is told of it
+-- the whole input was read, and the text is its result
 pub record IsResultOf (asked : Picture) (before after : Option (List ℕ)) (status : ℕ) (text : List ℕ) : Type 0 where
   pub input : List ℕ
   pub all : ForSome before (λ told. input ≡ told)
@@ -100,14 +100,14 @@ pub record IsFaultOf (before after : Option (List ℕ)) (text : List ℕ) : Type
 abbrev pub NothingFailed : ℕ → ℕ → ℕ → ℕ → Type 0
 NothingFailed faults faults' sink_faults sink_faults' = (faults' ≡ faults) × (sink_faults' ≡ sink_faults)
 
--- the input was told: status 0, 4 or 9
+-- the result of the input was written: status 0, 4 or 9
 pub record WroteResult (asked : Picture) (before after held held' : Option (List ℕ)) (faults faults' sink_faults sink_faults' status : ℕ) : Type 0 where
   pub text : List ℕ
   pub still : NothingFailed faults faults' sink_faults sink_faults'
   pub told : IsResultOf asked before after status text
   pub written : held' ≡ with_more held text
 
--- a fault was told: status 2
+-- a fault was written: status 2
 pub record IsFaulty (before after held held' : Option (List ℕ)) (faults faults' sink_faults sink_faults' status : ℕ) : Type 0 where
   pub text : List ℕ
   pub still : NothingFailed faults faults' sink_faults sink_faults'
@@ -156,7 +156,7 @@ Answers asked before after faults faults' held held' sink_faults sink_faults' st
     ⊎ (WriteFailed asked before after held held' faults faults' sink_faults sink_faults' status
     ⊎ RanOutOfMemory asked before after held held' faults faults' sink_faults sink_faults' status)))
 
--- the answer to words that are refused: status 1, or 6 where that could not be written, or 7 where memory is wanting
+-- the answer to words that are refused: status 1, or 6 where that could not be written, or 7 where memory ran out
 abbrev pub Refuses : Option (List ℕ) → Option (List ℕ) → ℕ → ℕ → ℕ → Type 0
 Refuses held held' faults faults' status =
     IsWritten held held' faults faults' status 1 refused_text ⊎ IsSilent held held' faults faults' status 7

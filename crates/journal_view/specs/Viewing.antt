@@ -1,4 +1,4 @@
--- What is told of an input: the picture of its journal that is asked for, or why it has none. (own choice)
+-- The result of an input: the picture of its journal for which the words ask, or why it has none. (own choice)
 use Rattle.std.specs.Prelude.{◌≡◌, ◌⊎◌, true, ℕ, ◌+◌, ◌-◌, length, drop, List, ◌++◌, Option, Some, None, Ok, codes}
 use Rattle.std.specs.Fmt.{decimal}
 use Rattle.gaspi_types.specs.World.{ShapeValue}
@@ -22,6 +22,7 @@ use Rattle.journal_view.specs.declared.words.Picture.TheVariants.{Sequence, Trac
 
 -- The texts.
 
+-- the word of a cause
 abbrev pub why_word : Why → List ℕ
 why_word whys.Caller = codes "caller"
 why_word whys.Limit = codes "limit"
@@ -30,26 +31,31 @@ why_word whys.Reply = codes "reply"
 why_word whys.Take = codes "take"
 why_word whys.Put = codes "put"
 
+-- the line that says that there is no journal
 abbrev pub no_journal_text : ℕ → List ℕ
 no_journal_text line = codes "not a journal " ++ decimal line ++ codes "\n"
 
+-- the line that names the first event that is no step
 abbrev pub illegal_text : ℕ → Why → List ℕ
 illegal_text place why = codes "illegal " ++ decimal place ++ codes " " ++ why_word why ++ codes "\n"
 
+-- the line that says that a journal has too many events
 abbrev pub long_text : ℕ → List ℕ
 long_text events = codes "too long " ++ decimal events ++ codes "\n"
 
+-- the text of an answer of `sequence`
 abbrev pub answer_text : SequenceAnswer → List ℕ
 answer_text (Drawn text) = text
 answer_text (Long events) = long_text events
 answer_text (Illegal place why) = illegal_text place why
 
+-- its exit status
 abbrev pub answer_status : SequenceAnswer → ℕ
 answer_status (Drawn text) = 0
 answer_status (Long events) = 9
 answer_status (Illegal place why) = 4
 
--- What is told: of a text that is no journal its first line that cannot stand there, of a journal its picture.
+-- The result: of a text that is no journal its first line that cannot be there, of a journal its picture.
 
 -- no journal, which shows at that line of the input
 pub record IsNoJournal (line status : ℕ) (text : List ℕ) : Type 0 where
@@ -99,11 +105,11 @@ pub record IsPictured (asked : Picture) (world : ShapeValue) (text : List ℕ) (
   pub ranges : AreInRange journal
   pub picture : HasPicture asked world journal status told
 
--- what is told of the text of a journal, the first line of which has that number
+-- the result of the text of a journal, the first line of which has that number
 abbrev pub IsRead : Picture → ShapeValue → List ℕ → ℕ → ℕ → List ℕ → Type 0
 IsRead asked world text number status told = IsUnread text number status told ⊎ IsPictured asked world text status told
 
--- What is told of an input with a world: where no line begins with `journal`, the line after the last is named.
+-- The result of an input with a world: where no line begins with `journal`, the line after the last is named.
 abbrev pub IsViewedIn : Picture → ShapeValue → List ℕ → Option (ℕ × ℕ) → ℕ → List ℕ → Type 0
 IsViewedIn asked world input None status text = IsNoJournal (length (fed_lines input) + 1) status text
 IsViewedIn asked world input (Some place) status text = IsRead asked world (drop place.0 input) place.1 status text
@@ -115,7 +121,7 @@ pub record IsViewed (asked : Picture) (input : List ℕ) (status : ℕ) (text : 
   pub read : checked_world input ≡ Ok (record { world = Some world; scripts = scripts })
   pub result : IsViewedIn asked world input (journal_offset input) status text
 
--- What is told has a status and a text of that kind: those that are held, or those of the trace of a journal, where a trace is asked for.
+-- The result has a status and a text of that kind: its own, or those of the trace of a journal, where a trace is asked for.
 abbrev pub Tells : Picture → (ℕ → List ℕ → Type 0) → ViewResult → Type 0
 Tells asked kind (results.Text told) = kind told.status told.text
 Tells asked kind (results.Trace world journal) = (asked ≡ Trace) × ((status : ℕ) (text : List ℕ) → HasTrace world journal status text → kind status text)

@@ -31,9 +31,11 @@ with_settings shape = record shape {
   disable_version_flag = true;
 }
 
+-- the program without its flags
 abbrev pub program_app : App
 program_app = on_top with_settings (new_app (codes "journal_view"))
 
+-- the program
 abbrev pub the_app : App
 the_app = with_rule (with_rule program_app sequence_rule) trace_rule
 
@@ -47,6 +49,7 @@ picture_by true false = Some Sequence
 picture_by false true = Some Trace
 picture_by both neither = None
 
+-- the picture for which the flags ask
 abbrev pub picture_in : List Row → Option Picture
 picture_in rows = picture_by (flag_at (codes "sequence") rows) (flag_at (codes "trace") rows)
 

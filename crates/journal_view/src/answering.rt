@@ -1,4 +1,8 @@
-//! What the program answers to its words and its input.
+//! The answers of the program: what it writes to its sink, and its exit status. Each function writes one kind of answer;
+//! `fault_line` makes the text of one, and `status_of` writes it.
+//!
+//! An answer for which there is no memory is status 7, and then nothing is written but a prefix of a trace. `told` is what
+//! `view_result` gave.
 
 ghost use Rattle.std.specs.Prelude.{◌≡◌, ◌⊎◌, map, None, Some, IfOk};
 ghost use Rattle.gaspi_io.specs.Faults.{HasCause};
@@ -17,7 +21,7 @@ use journal_pictures::{TraceAnswer, write_trace};
 use rank_script::{MOST_INPUT_BYTES, ScriptFault};
 use std::alloc::Global;
 
-/// The line that names a fault.
+/// The line that names a fault of the input: its number and its line.
 fn fault_line(alloc: Global, number: u32, line: u64) -> Result<Bytes, NoMemory>
     ensures { IfOk result (λ text. text ≡ fault_text (record { number = number; line = line })) }
 {
@@ -30,7 +34,7 @@ fn fault_line(alloc: Global, number: u32, line: u64) -> Result<Bytes, NoMemory>
     Ok(text)
 }
 
-/// Writes a text, and gives the status: 6 where it could not be written whole.
+/// Writes a text. The answer is `status`, or 6 where the sink failed; then it has a prefix of the text.
 fn status_of<K: Sink>(sink: &mut K, text: &[u8], status: u8) -> u8
     ensures { ((result ≡ status) × (K.held sink.new ≡ with_more (K.held sink.old) text.now) × (K.faults sink.new ≡ K.faults sink.old))
         ⊎ ((result ≡ 6) × AddsPrefix text.now (K.held sink.old) (K.held sink.new) × HasCause (K.faults sink.old) (K.faults sink.new)) }
@@ -41,7 +45,7 @@ fn status_of<K: Sink>(sink: &mut K, text: &[u8], status: u8) -> u8
     }
 }
 
-/// Answers a fault of the input.
+/// Writes the line of a fault of the input, with status 2.
 fn answer_fault<K: Sink>(alloc: Global, sink: &mut K, number: u32, line: u64) -> u8
     ensures { AnswersFault (K.held sink.old) (K.held sink.new) (K.faults sink.old) (K.faults sink.new) result (record { number = number; line = line }) }
 {
@@ -51,7 +55,7 @@ fn answer_fault<K: Sink>(alloc: Global, sink: &mut K, number: u32, line: u64) ->
     }
 }
 
-/// Answers a journal that is not legal.
+/// Writes the first event that is no step, with status 4.
 fn answer_illegal<K: Sink>(alloc: Global, sink: &mut K, place: u64, why: Why) -> u8
     ensures { AnswersIllegal (K.held sink.old) (K.held sink.new) (K.faults sink.old) (K.faults sink.new) result place why }
 {
@@ -61,7 +65,7 @@ fn answer_illegal<K: Sink>(alloc: Global, sink: &mut K, place: u64, why: Why) ->
     }
 }
 
-/// Writes the trace of a journal, block by block, or tells why it has none.
+/// Writes the trace of a journal, with status 0, or the first event that is no step.
 fn answer_trace<K: Sink>(alloc: Global, sink: &mut K, shape: &Shape, journal: &Journal) -> u8
     ensures { AnswersTrace (K.held sink.old) (K.held sink.new) (K.faults sink.old) (K.faults sink.new) result shape.now journal.now }
 {
@@ -73,7 +77,7 @@ fn answer_trace<K: Sink>(alloc: Global, sink: &mut K, shape: &Shape, journal: &J
     }
 }
 
-/// Answers what was told of an input, or its fault.
+/// Writes the result of an input: its picture, why it has none, or its fault.
 fn answer_result<K: Sink>(alloc: Global, sink: &mut K, told: Result<ViewResult, ScriptFault>) -> u8
     ensures { AnswersView (K.held sink.old) (K.held sink.new) (K.faults sink.old) (K.faults sink.new) result told }
 {
@@ -85,7 +89,8 @@ fn answer_result<K: Sink>(alloc: Global, sink: &mut K, told: Result<ViewResult, 
     }
 }
 
-/// Answers an input that could not be read.
+/// The answer where the input was not read whole: status 5 after a fault of the source, 7 where memory ran out; an input that
+/// is too long has the fault S1 at line 0.
 fn answer_stop<K: Sink>(alloc: Global, sink: &mut K, stop: ReadStop) -> u8
     ensures { AnswersStop (K.held sink.old) (K.held sink.new) (K.faults sink.old) (K.faults sink.new) result stop }
 {
@@ -96,7 +101,7 @@ fn answer_stop<K: Sink>(alloc: Global, sink: &mut K, stop: ReadStop) -> u8
     }
 }
 
-/// Reads the input that the source has left, and writes the picture of its journal.
+/// Reads all that the source has, and writes the picture of its journal, or why there is none.
 fn view_picture<S: Source, K: Sink>(
     alloc: Global,
     picture: Picture,
@@ -112,18 +117,18 @@ fn view_picture<S: Source, K: Sink>(
     }
 }
 
-/// The program: writes the picture that the words after its name ask for, of the journal in its input, and gives the exit status. Words
-/// that ask for none are refused, and then nothing is read.
+/// The program: writes the picture for which the words after its name ask, of the journal in its input, and gives the exit
+/// status. Words that ask for none are refused, and then nothing is read.
 ///
 /// | Status | Where |
 /// |---|---|
-/// | 0 | the picture was written |
+/// | 0 | the picture is written |
 /// | 1 | the words are refused |
 /// | 2 | the world text has a fault |
 /// | 4 | there is no journal, or it is not legal |
 /// | 5 | a read failed |
 /// | 6 | a write failed |
-/// | 7 | out of memory; a prefix of a trace may have been written, and of no other text |
+/// | 7 | out of memory; a prefix of a trace may be written, and of no other text |
 /// | 9 | the journal has too many events for that picture |
 pub fn view<S: Source, K: Sink>(alloc: Global, words: &[&str], source: &mut S, sink: &mut K) -> u8
     ensures refused { picture_of (map (λ word. word.now) words.now) ≡ None

@@ -1,11 +1,11 @@
-//! Laws of the words. Each is a function without a body: what it ensures is the law.
+//! Laws of the words of the program, by example. A law is the contract of a function that does nothing.
 
 ghost use Rattle.std.specs.Prelude.{◌≡◌, [], ◌∷◌, Some, None, codes};
 ghost use Rattle.journal_view.specs.Words.{picture_of};
 
 use crate::words::Picture;
 
-/// These words are taken.
+/// These words are accepted.
 #[tactic(auto, unfolding(crate::specs::Words::picture_of, clap::proofs::OnLiterals::clap_on_literals))]
 pub fn words_that_are_accepted()
     ensures sequence { picture_of (codes "--sequence" ∷ []) ≡ Some Picture.Sequence }
@@ -13,8 +13,8 @@ pub fn words_that_are_accepted()
     ensures dashes { picture_of (codes "--sequence" ∷ codes "--" ∷ []) ≡ Some Picture.Sequence }
 {}
 
-/// These words are refused: no flag, both of them, one that there is not, a flag given twice or with a value, a word, and help and
-/// version.
+/// These words are refused: no flag, both of them, an unknown one, a flag given twice or with a value, a word that is no flag,
+/// and help and version.
 #[tactic(auto, unfolding(crate::specs::Words::picture_of, clap::proofs::OnLiterals::clap_on_literals))]
 pub fn words_that_are_refused()
     ensures nothing { picture_of [] ≡ None }

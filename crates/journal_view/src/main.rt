@@ -1,4 +1,5 @@
-//! The program: the words are those after its name, and it reads standard input and writes standard output.
+//! The program: it hands `view` the words after its name, standard input and standard output, and gives the process the exit
+//! status.
 #![tactic(auto)]
 
 ghost use Rattle.std.specs.Prelude.{◌≡◌, map, drop, IfOk, None, Some, string_bytes};
@@ -20,10 +21,11 @@ use std::io::{self, ErrorKind};
 use std::process::ExitCode;
 use std::rt::Env;
 
-/// The status where there is no memory.
+/// The exit status where memory runs out.
 const NO_MEMORY: u8 = 7;
 
-/// All words that the program was given, its name first. Where one of them is no text there are none, which are refused.
+/// All words that the program was given, its name first, or an error where memory runs out. Where one of them is no text the
+/// list is empty, and so refused.
 fn given_words<R: Env + Alloc<A = Global>>(rt: &R) -> Result<Vec<String>, AllocError> {
     let alloc = rt.alloc();
     match env::args(rt) {
@@ -38,7 +40,7 @@ fn given_words<R: Env + Alloc<A = Global>>(rt: &R) -> Result<Vec<String>, AllocE
     }
 }
 
-/// The words as they are read: all of them, in order, each as it was given.
+/// The words as they are read: all of them, in order, each as it was given. Takes memory for the list alone.
 fn spelled(alloc: Global, words: &[String]) -> Result<Vec<&str>, AllocError>
     ensures { IfOk result (λ spelled. map (λ word. word.now) spelled.items ≡ map string_bytes words.now) }
 {
@@ -59,14 +61,14 @@ fn after_name(alloc: Global, words: &[String]) -> Result<Vec<&str>, AllocError>
     }
 }
 
-/// A status as the process gives it.
+/// An exit status in the type of the system.
 fn exit_code(status: u8) -> ExitCode
     ensures { exit_status result ≡ status }
 {
     ExitCode::from(status)
 }
 
-/// The program on the words that it was given, its name first: what it answers to the others, and its status.
+/// The program on all words that it was given: the status of `view`, or 7 where memory runs out before.
 fn run<S: Source, K: Sink>(
     alloc: Global,
     given: &[String],
@@ -85,6 +87,7 @@ fn run<S: Source, K: Sink>(
     exit_code(view(alloc, words.as_slice(), source, sink))
 }
 
+/// The program over the words, the streams and the memory of the system.
 fn main(rt: HostRuntime) -> ExitCode {
     let Ok(given) = given_words(&rt) else {
         return exit_code(NO_MEMORY);

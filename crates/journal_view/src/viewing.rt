@@ -1,4 +1,5 @@
-//! What is told of an input: its picture, or why it has none.
+//! The result of an input: the picture of its journal, or why it has none. Nothing is written here. `told` is the result of
+//! another function.
 
 ghost use Rattle.std.specs.Prelude.{◌≡◌, ◌<◌, ◌≤◌, ◌+◌, ◌^◌, ℕ, length, IfOk, IsErrOf, Err};
 ghost use Rattle.rank_script.specs.WorldText.{checked_world};
@@ -17,22 +18,22 @@ use journal_pictures::{SequenceAnswer, sequence};
 use rank_script::{ScriptFault, read_input};
 use std::alloc::Global;
 
-/// A text that is told of an input, with its status.
+/// A text that is to be written, and the exit status with it.
 #[derive(Debug, Drop)]
 pub struct TextResult {
     pub status: u8,
     pub text: Bytes,
 }
 
-/// What is told of an input: a text, or the journal of which the trace is to be written. The text of a trace is not held: it is made as
-/// it is written.
+/// The result of an input: a text, or the journal of which the trace is to be written. The text of a trace is never in memory
+/// as a whole: it is made as it is written.
 #[derive(Drop)]
 pub enum ViewResult {
     Text(TextResult),
     Trace { shape: Shape, journal: Journal },
 }
 
-/// The word of why an event is no step.
+/// The word of a cause.
 fn why_word(why: Why) -> &'static [u8]
     ensures { result.now ≡ why_word why }
 {
@@ -46,7 +47,7 @@ fn why_word(why: Why) -> &'static [u8]
     }
 }
 
-/// The text that names the first event that is no step.
+/// The line that names the first event that is no step, and its cause.
 pub fn illegal_text(alloc: Global, place: u64, why: Why) -> Result<Bytes, NoMemory>
     ensures { IfOk result (λ text. text ≡ illegal_text place why) }
 {
@@ -59,7 +60,7 @@ pub fn illegal_text(alloc: Global, place: u64, why: Why) -> Result<Bytes, NoMemo
     Ok(text)
 }
 
-/// The text that tells that a journal has too many events, and how many.
+/// The line that says that a journal has too many events for a diagram, and how many.
 fn long_text(alloc: Global, events: u64) -> Result<Bytes, NoMemory>
     ensures { IfOk result (λ text. text ≡ long_text events) }
 {
@@ -70,7 +71,7 @@ fn long_text(alloc: Global, events: u64) -> Result<Bytes, NoMemory>
     Ok(text)
 }
 
-/// Tells that an input has no journal, and at which of its lines.
+/// The result of an input without a journal, with the first of its lines where none can be.
 fn no_journal_result(alloc: Global, line: u64) -> Result<TextResult, NoMemory>
     ensures { IfOk result (λ told. IsNoJournal line told.status told.text) }
 {
@@ -81,7 +82,7 @@ fn no_journal_result(alloc: Global, line: u64) -> Result<TextResult, NoMemory>
     Ok(TextResult { status: 4, text })
 }
 
-/// Tells the sequence diagram of a journal.
+/// The sequence diagram of a journal, or why it has none.
 fn sequence_result(alloc: Global, shape: &Shape, journal: &Journal) -> Result<TextResult, NoMemory>
     ensures { IfOk result (λ told. HasSequence shape.now journal.now told.status told.text) }
 {
@@ -98,7 +99,7 @@ fn sequence_result(alloc: Global, shape: &Shape, journal: &Journal) -> Result<Te
     }
 }
 
-/// Tells the picture of a journal.
+/// The picture of a journal. A trace is left to be written.
 fn picture_result(
     alloc: Global,
     picture: Picture,
@@ -131,7 +132,8 @@ fn line_count(text: &[u8]) -> u64
     count
 }
 
-/// Tells why a text, the first line of which has that number, was not read as a journal.
+/// The result of a text that `read` refused as a journal: the line of its fault in the whole input. The text begins at the line
+/// `number` of the input, which is so small that no line of it is too large a number.
 fn fault_result(
     alloc: Global,
     fault: JournalFault,
@@ -148,7 +150,8 @@ fn fault_result(
     }
 }
 
-/// Reads the journal of an input, which begins at a line of that number, and tells its picture.
+/// The picture of the journal of an input, or why it has none. The text of the journal begins at the line `number` of the
+/// input, which is so small that no line of it is too large a number.
 fn journal_result(
     alloc: Global,
     picture: Picture,
@@ -168,7 +171,8 @@ fn journal_result(
     }
 }
 
-/// Tells the picture that is asked for, of the journal of an input, in the world of the text before it.
+/// The picture for which the words ask, of the journal of an input, in the world of the text before it; or why there is none.
+/// An error is the first fault of the world text.
 pub fn view_result(alloc: Global, picture: Picture, input: &[u8]) -> Result<ViewResult, ScriptFault>
     ensures told { IfOk result (λ told. Tells picture (IsViewed picture input.now) told) }
     ensures fault { (number line : ℕ) → IsErrOf result (script_faults.At number line)

@@ -1,4 +1,5 @@
-//! The words of the command line, read.
+//! The words of the command line: the flags as clap has them, and the picture for which words ask. A contract says what a flag
+//! or the program is as data (`rule`, `app`; `specs/Words`), and that no flag is of another command (`local`).
 
 ghost use Rattle.std.specs.Prelude.{◌≡◌, ◌≢◌, IfOk, false, map, None};
 ghost use Rattle.clap.specs.Words.{app_of, found_of, kind_of, rows_of, rule_of};
@@ -10,7 +11,7 @@ use clap::{Arg, ArgAction, ArgMatches, Command, Error};
 use gaspi_types::NoMemory;
 use std::alloc::{AllocError, Global};
 
-/// Which picture of a journal is asked for.
+/// A picture of a journal.
 #[derive(Clone, Copy, Debug, PartialEq, Eq)]
 pub enum Picture {
     /// `--sequence`: a sequence diagram, in the text of Mermaid.
@@ -19,7 +20,7 @@ pub enum Picture {
     Trace,
 }
 
-/// `--sequence`: the sequence diagram.
+/// The flag `--sequence`.
 fn sequence<'a>(alloc: Global) -> Arg<'a>
     ensures rule { rule_of result ≡ sequence_rule }
     ensures local { result.global ≡ false }
@@ -29,7 +30,7 @@ fn sequence<'a>(alloc: Global) -> Arg<'a>
         .action(ArgAction::SetTrue)
 }
 
-/// `--trace`: the trace.
+/// The flag `--trace`.
 fn trace<'a>(alloc: Global) -> Arg<'a>
     ensures rule { rule_of result ≡ trace_rule }
     ensures local { result.global ≡ false }
@@ -39,7 +40,7 @@ fn trace<'a>(alloc: Global) -> Arg<'a>
         .action(ArgAction::SetTrue)
 }
 
-/// The program without its flags.
+/// The program without its flags. It has no help and no version.
 fn bare_program<'a>(alloc: Global) -> Command<'a>
     ensures app { app_of result ≡ program_app }
     ensures local { (fields_of result).has_globals ≡ false }
@@ -50,14 +51,14 @@ fn bare_program<'a>(alloc: Global) -> Command<'a>
         .disable_version_flag(true)
 }
 
-/// The program.
+/// The program with its flags.
 fn program<'a>(alloc: Global) -> Result<Command<'a>, AllocError>
     ensures { IfOk result (λ command. app_of command ≡ the_app) }
 {
     bare_program(alloc).arg(sequence(alloc))?.arg(trace(alloc))
 }
 
-/// Whether a flag was given.
+/// Whether the flag with the name `id` was given.
 fn flag(matches: &ArgMatches<'_>, id: &str) -> bool
     ensures { result ≡ flag_at id.now (rows_of (found_of matches.now)) }
 {
@@ -67,7 +68,7 @@ fn flag(matches: &ArgMatches<'_>, id: &str) -> bool
     }
 }
 
-/// Which picture the flags ask for: exactly one of them.
+/// The picture for which the flags ask, or None unless exactly one of them was given.
 fn asked(matches: &ArgMatches<'_>) -> Option<Picture>
     ensures { result ≡ picture_in (rows_of (found_of matches.now)) }
 {
@@ -78,7 +79,7 @@ fn asked(matches: &ArgMatches<'_>) -> Option<Picture>
     }
 }
 
-/// The answer to words that clap refuses: none, or `NoMemory`.
+/// None for words that clap refuses, or `NoMemory` where it had no memory.
 fn refused(error: &Error) -> Result<Option<Picture>, NoMemory>
     ensures { IfOk result (λ picture. (picture ≡ None) × (kind_of error.now ≢ ErrorKind.OutOfMemory)) }
 {
@@ -88,7 +89,7 @@ fn refused(error: &Error) -> Result<Option<Picture>, NoMemory>
     }
 }
 
-/// Which picture the words after the program's name ask for: `--sequence` or `--trace`. None where the words are refused.
+/// The picture for which the words after the program's name ask: `--sequence` or `--trace`. None where the words are refused.
 pub fn read_words(alloc: Global, words: &[&str]) -> Result<Option<Picture>, NoMemory>
     ensures { IfOk result (λ picture. picture ≡ picture_of (map (λ word. word.now) words.now)) }
 {

@@ -1,3 +1,5 @@
+//! Drafts of entries, and lists of them.
+
 use gaspi_types::{ByteRange, Kind, NoMemory, NoteSlot};
 use post_queue::{Draft, Entries, carried_size};
 use std::alloc::Global;
@@ -29,12 +31,12 @@ fn notify() -> Kind {
     }
 }
 
-/// Whether a kind carries that many bytes.
+/// Whether an entry of that kind carries that many bytes.
 fn carries(kind: &Kind, size: u32) -> bool {
     carried_size(kind) == size
 }
 
-/// Whether a draft has its kind, before and after it is taken apart, and room for that many bytes.
+/// Whether a draft has its kind, before and after it is taken apart, and capacity for that many bytes.
 fn has_room(alloc: Global, kind: Kind, size: usize) -> Result<bool, NoMemory> {
     let draft = Draft::new(alloc, kind)?;
     let has_kind = *draft.kind() == kind;
@@ -42,7 +44,7 @@ fn has_room(alloc: Global, kind: Kind, size: usize) -> Result<bool, NoMemory> {
     Ok(has_kind && same == kind && room.len() == size)
 }
 
-/// Whether the first entry is of that kind, which is taken out.
+/// Removes the first entry. Whether it was of that kind.
 fn takes(entries: &mut Entries, kind: &Kind) -> bool {
     match entries.take_first() {
         Some(draft) => draft.kind() == kind,
@@ -50,7 +52,7 @@ fn takes(entries: &mut Entries, kind: &Kind) -> bool {
     }
 }
 
-/// Whether two entries are of these kinds, in order, and no more are there.
+/// Whether a list of two kinds gives two entries of these kinds, in order, and no more.
 fn are_two(alloc: Global, first: Kind, second: Kind) -> Result<bool, NoMemory> {
     let mut entries = Entries::new(alloc, &[first, second])?;
     let are_two = entries.len() == 2;

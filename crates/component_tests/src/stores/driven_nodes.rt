@@ -1,4 +1,4 @@
-//! A world of two ranks whose nodes one thread drives: the first world, and calls that reach the other rank or meet it.
+//! Two nodes that one thread drives: a world of two ranks, with calls that reach the other rank or that both ranks make.
 
 ghost use Rattle.std.specs.Prelude.{◌≡◌, ◌<◌, true};
 ghost use Rattle.two_nodes.specs.Worlds.{HasTwoCallers, has_two_callers, is_driven};
@@ -15,8 +15,8 @@ use std::alloc::Global;
 use std::test::Fail;
 use two_nodes::{TwoNodes, has_two_callers, is_driven};
 
-/// Calls of thread 0 of either rank with their replies, in order; with another word than a reply, where the call is not ready. Such a
-/// call looks twice, and all that is permitted is transferred in between.
+/// Calls of thread 0 of either rank with their replies, in order; a call that is not ready has another word. A call that is not
+/// ready at its first look has a second one, and between the two all enabled transfers are made.
 const CALLS: &str =
     "0 store 0 0 0102 -> done\n0 write_notify 0 0 1 0 4 2 3 7 0 -> done\n0 wait 0 -> done\n\
 1 waitsome 0 0 8 -> id 3\n1 reset 0 3 -> value 7\n1 load 0 4 2 -> bytes 0102\n\
@@ -25,15 +25,15 @@ const CALLS: &str =
 0 alloc 1 8 -> done\n0 register 1 1 -> done\n1 write 0 4 0 1 0 2 0 -> done\n1 wait 0 -> done\n\
 0 load 1 0 2 -> bytes 0102\n0 end -> done\n1 end -> done\n";
 
-/// How many there are.
+/// How many of these calls there are.
 const COUNT: u32 = 19;
 
-/// Those calls. Nothing is claimed of them, so that what the test proves does not hold the text.
+/// The calls as a text. No clause says anything of them, so that the proof of the test does not carry the text.
 fn calls() -> &'static str {
     CALLS
 }
 
-/// Two ranks with a segment and a caller each, as the first world declares them.
+/// Two ranks with a segment and a caller each.
 fn two_ranks(alloc: Global) -> Result<Shape, Fail> {
     let mut shape = Shape::new(alloc, 2, 1, 4, 8, 4, 1_000)?;
     shape.add_segment(0, 0, 16)?;
@@ -43,7 +43,7 @@ fn two_ranks(alloc: Global) -> Result<Shape, Fail> {
     Ok(shape)
 }
 
-/// The call and the reply of a line, where it has both.
+/// The call of a line, and its reply where the line has one; None where the line has no call.
 fn parts_of(alloc: Global, line: &str) -> Result<Option<(Call, Option<Reply>)>, NoMemory> {
     let Some((call, reply)) = line.split_once(" -> ") else {
         return Ok(None);
@@ -55,7 +55,7 @@ fn parts_of(alloc: Global, line: &str) -> Result<Option<(Call, Option<Reply>)>, 
     }
 }
 
-/// Makes as many transfers of a rank as are permitted, up to eight.
+/// Makes the enabled transfers of a rank, up to eight.
 fn transfer_all(nodes: &mut TwoNodes, rank: RankId)
     requires rank { rank < 2 }
     requires callers { HasTwoCallers nodes.old }
@@ -66,7 +66,7 @@ fn transfer_all(nodes: &mut TwoNodes, rank: RankId)
     }
 }
 
-/// What a look at a call of a rank tells.
+/// One look at a call of a rank: its reply, or None where it is not ready.
 fn look(alloc: Global, nodes: &mut TwoNodes, rank: RankId, call: &Call) -> Option<Reply>
     requires rank { rank < 2 }
     requires callers { HasTwoCallers nodes.old }
@@ -83,7 +83,7 @@ fn look(alloc: Global, nodes: &mut TwoNodes, rank: RankId, call: &Call) -> Optio
     }
 }
 
-/// What it tells at the second look, where it is not ready at the first.
+/// The reply of the second look at a call, where it is not ready at the first, or else of the first.
 fn look_twice(alloc: Global, nodes: &mut TwoNodes, rank: RankId, call: &Call) -> Option<Reply>
     requires rank { rank < 2 }
     requires callers { HasTwoCallers nodes.old }
@@ -99,7 +99,7 @@ fn look_twice(alloc: Global, nodes: &mut TwoNodes, rank: RankId, call: &Call) ->
     look(alloc, nodes, rank, call)
 }
 
-/// Whether what was told is the reply.
+/// Whether `told` is the reply.
 fn is_same(told: Option<Reply>, reply: Option<Reply>) -> bool {
     match (told, reply) {
         (Some(told), Some(reply)) => told == reply,
@@ -151,7 +151,7 @@ fn count_told(alloc: Global, nodes: &mut TwoNodes) -> Result<u32, NoMemory>
     Ok(told)
 }
 
-/// Adds the event with a place, where a rank has it.
+/// Adds the event at a place, where these events have one there.
 fn add_at(
     alloc: Global,
     journal: &mut Sequence<Event>,
@@ -166,7 +166,7 @@ fn add_at(
     Ok(())
 }
 
-/// So many events of two ranks, by their places.
+/// The first `count` events of two ranks, by their places.
 fn merged(
     alloc: Global,
     first: &[PlacedEvent],
@@ -201,7 +201,7 @@ fn is_well_driven(alloc: Global, shape: &Shape) -> Result<bool, NoMemory> {
     Ok(told == COUNT && have_ended && is_legal(alloc, shape, nodes)?)
 }
 
-/// Whether the next transfer of a lane is applied.
+/// Whether the front transfer of a lane would be applied. It is not made.
 fn is_applied<'a>(own: &'a mut Node, peer: &'a mut Node) -> bool {
     let Some(transfer) = own.front(QueueId::of(0), RankId::of(1)) else {
         return false;
@@ -214,7 +214,7 @@ fn is_applied<'a>(own: &'a mut Node, peer: &'a mut Node) -> bool {
     lent.outcome(&transfer) == Outcome::Applied
 }
 
-/// Whether a rank may post, and the first transfer of what it posts is applied.
+/// Whether a rank may post, and the first transfer of the post would be applied.
 fn is_post_applied(alloc: Global, shape: &Shape) -> Result<bool, NoMemory> {
     if !has_two_callers(shape) {
         return Ok(false);

@@ -1,9 +1,11 @@
+//! The groups of one rank, and the member list of a group id.
+
 use gaspi_types::{NoMemory, RankId, Refusal, Stage};
 use group_registry::{Groups, Meeting};
 use std::alloc::Global;
 use std::test::Fail;
 
-/// The groups of rank 2 at the start, in a world of four ranks.
+/// The groups of rank 2 at its start, in a world of four ranks.
 fn opening(alloc: Global) -> Result<Groups, NoMemory> {
     Groups::new(alloc, RankId::of(2), 4)
 }
@@ -13,40 +15,40 @@ fn stage(groups: &Groups, group: u64) -> Result<Stage, Refusal> {
     groups.stage(group)
 }
 
-/// Whether a group is made, with the number that was told before.
+/// Makes a group. Whether it has that number, and `next` answered it before.
 fn is_made(groups: &mut Groups, id: u32) -> bool {
     let told = matches!(groups.next(), Ok(group) if group.number() == id);
     told && matches!(groups.create(), Ok(group) if group.number() == id)
 }
 
-/// How many groups were made, as the table of handles has it.
+/// How many groups the rank has made, by its handles.
 fn made(groups: &Groups) -> u32 {
     groups.handles().last_id
 }
 
-/// What one more group than there may be is answered.
+/// The refusal of one more group, or None where it is made.
 fn create(groups: &mut Groups) -> Option<Refusal> {
     groups.create().err()
 }
 
-/// What a rank that is added to a group is answered.
+/// The answer where a rank is added to a group.
 fn add(groups: &mut Groups, group: u64, rank: RankId) -> Result<(), Refusal> {
     groups.add(group, rank)
 }
 
-/// Commits a group alone, and gives its ranks.
+/// Commits a group, and gives its ranks.
 fn commit(groups: &mut Groups, group: u64) -> Result<u32, Refusal> {
     let members = groups.commit_list(group)?;
     groups.committed(group);
     Ok(members)
 }
 
-/// What a delete of a group is answered.
+/// The answer where a group is deleted.
 fn delete(groups: &mut Groups, group: u64) -> Result<(), Refusal> {
     groups.delete(group)
 }
 
-/// Whether a call is refused, since its group is committed.
+/// Whether an answer is that the group is committed.
 fn is_late(answer: Result<(), Refusal>) -> bool {
     matches!(
         answer,
@@ -63,7 +65,7 @@ fn is_start(groups: &mut Groups) -> bool {
         && matches!(stage(groups, 1), Err(Refusal::NoGroup))
 }
 
-/// Whether group 1 is built, of ranks 0 and 2.
+/// Makes group 1 of ranks 0 and 2. Whether that went well.
 fn is_built(groups: &mut Groups) -> bool {
     is_made(groups, 1)
         && add(groups, 1, RankId::of(0)).is_ok()
@@ -72,19 +74,19 @@ fn is_built(groups: &mut Groups) -> bool {
         && add(groups, 1, RankId::of(0)).is_ok()
 }
 
-/// Whether group 1 is committed, and no rank is added then.
+/// Commits group 1. Whether it has its ranks, and takes no more.
 fn is_committed(groups: &mut Groups) -> bool {
     matches!(commit(groups, 1), Ok(5))
         && matches!(stage(groups, 1), Ok(Stage::Committed))
         && is_late(add(groups, 1, RankId::of(3)))
 }
 
-/// Whether group 1 is deleted.
+/// Deletes group 1. Whether it is gone.
 fn is_deleted(groups: &mut Groups) -> bool {
     delete(groups, 1).is_ok() && matches!(stage(groups, 1), Err(Refusal::NoGroup))
 }
 
-/// Whether the other groups are made, and no more.
+/// Makes the other groups. Whether there are as many as there may be, and no more.
 fn are_made(groups: &mut Groups) -> bool {
     for id in 2..8u32 {
         if !is_made(groups, id) {
@@ -105,12 +107,12 @@ fn groups_are_built_and_committed(rt: HostRuntime) -> Result<(), Fail> {
     Ok(())
 }
 
-/// Whether a list of ranks is fixed.
+/// Whether a member list is fixed.
 fn is_fixed(meeting: &mut Meeting, mask: u32) -> bool {
     meeting.fix(mask).is_ok() && meeting.members() == Some(mask)
 }
 
-/// Whether a list of ranks is refused, since another is kept.
+/// Whether a member list is refused, since `kept` is fixed.
 fn is_refused(meeting: &mut Meeting, mask: u32, kept: u32) -> bool {
     meeting.fix(mask) == Err(Refusal::GroupMismatch { kept })
 }

@@ -1,3 +1,5 @@
+//! The entries that each call of a post asks for, on a table of segments.
+
 use gaspi_types::{
     ByteRange, Call, CallerId, Extent, Extents, Item, Kind, NoMemory, NoteSlot, Notify, RankId,
     Read, ReadList, ReadListNotify, ReadNotify, SegmentTable, Sequence, Shape, ThreadId, Write,
@@ -7,18 +9,18 @@ use post_queue::{Entries, build};
 use std::alloc::Global;
 use std::test::Fail;
 
-/// Segments of a rank, by their numbers.
+/// Extents by segment id.
 fn extents(alloc: Global, extents: &[Option<Extent>]) -> Result<Extents, NoMemory> {
     Sequence::copied_from(alloc, extents)
 }
 
-/// What is known of the segments of two ranks.
+/// The known segments of two ranks.
 fn known_of(alloc: Global, first: Extents, second: Extents) -> Result<Sequence<Extents>, NoMemory> {
     let ranks = vec![in alloc; first, second]?;
     Ok(Sequence::from_vec(ranks))
 }
 
-/// A segment in a generation and a size.
+/// The extent of a segment that is there.
 fn extent(generation: u32, size: u32) -> Option<Extent> {
     Some(Extent { generation, size })
 }
@@ -36,7 +38,7 @@ fn table(alloc: Global) -> Result<SegmentTable, NoMemory> {
     })
 }
 
-/// The range of the caller's own segment.
+/// The range in the caller's own segment.
 fn own() -> ByteRange {
     ByteRange {
         segment: 0,
@@ -46,7 +48,7 @@ fn own() -> ByteRange {
     }
 }
 
-/// The range of the target's segment.
+/// The range in the target's segment.
 fn target() -> ByteRange {
     ByteRange {
         segment: 1,
@@ -84,7 +86,7 @@ fn notify() -> Kind {
     }
 }
 
-/// The kind of a notification of the caller, after its reads.
+/// The kind of the notification of a read.
 fn read_note() -> Kind {
     Kind::ReadNote {
         own: NoteSlot {
@@ -161,7 +163,7 @@ fn read_notify_call() -> Call {
     })
 }
 
-/// The items of a list, which are two of these ranges.
+/// The items of a list: twice the same two ranges.
 fn items(alloc: Global) -> Result<Sequence<Item>, NoMemory> {
     let item = Item {
         seg: 0,
@@ -214,7 +216,7 @@ fn read_list_notify_call(alloc: Global) -> Result<Call, NoMemory> {
     }))
 }
 
-/// Whether the entries are of these kinds, in order.
+/// Whether the entries have these kinds, in order.
 fn are_of(entries: Entries, kinds: &[Kind]) -> bool {
     let mut entries = entries;
     for kind in kinds {
@@ -226,7 +228,7 @@ fn are_of(entries: Entries, kinds: &[Kind]) -> bool {
     entries.len() == 0
 }
 
-/// Whether the entries of a call are built, and are of these kinds.
+/// Whether a call asks for entries of these kinds.
 fn brings(alloc: Global, table: &SegmentTable, shape: &Shape, call: Call, kinds: &[Kind]) -> bool {
     if call.row().posting.is_none() {
         return false;
@@ -241,7 +243,7 @@ fn brings(alloc: Global, table: &SegmentTable, shape: &Shape, call: Call, kinds:
     }
 }
 
-/// Whether each call without a list brings its entries.
+/// Whether each call without a list asks for its entries.
 fn calls_bring(alloc: Global, table: &SegmentTable, shape: &Shape) -> bool {
     brings(alloc, table, shape, write_call(), &[write()])
         && brings(alloc, table, shape, read_call(), &[read()])
@@ -262,7 +264,7 @@ fn calls_bring(alloc: Global, table: &SegmentTable, shape: &Shape) -> bool {
         )
 }
 
-/// The same of a call with a list, which memory was wanted for.
+/// The same of a call with a list, where there was memory for the call.
 fn list_brings(
     alloc: Global,
     table: &SegmentTable,
@@ -276,7 +278,7 @@ fn list_brings(
     }
 }
 
-/// Whether each call with a list of two items brings its entries.
+/// Whether each call with a list of two items asks for its entries.
 fn lists_bring(alloc: Global, table: &SegmentTable, shape: &Shape) -> bool {
     list_brings(
         alloc,
@@ -293,7 +295,7 @@ fn lists_bring(alloc: Global, table: &SegmentTable, shape: &Shape) -> bool {
     )
 }
 
-/// Whether each of those with a notification does.
+/// Whether each list with a notification does.
 fn notifying_lists_bring(alloc: Global, table: &SegmentTable, shape: &Shape) -> bool {
     let written = &[write(), write(), notify()];
     let read = &[read(), read(), read_note()];
@@ -301,7 +303,7 @@ fn notifying_lists_bring(alloc: Global, table: &SegmentTable, shape: &Shape) -> 
         && list_brings(alloc, table, shape, read_list_notify_call(alloc), read)
 }
 
-/// Whether all calls bring their entries, in a world of two ranks.
+/// Whether all calls ask for their entries, in a world of two ranks.
 fn all_bring(alloc: Global, shape: &Shape) -> Result<bool, NoMemory> {
     let table = table(alloc)?;
     Ok(

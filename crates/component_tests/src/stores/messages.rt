@@ -1,9 +1,11 @@
+//! The inbox of one rank.
+
 use gaspi_types::{Message, NoMemory, RankId, Refusal, Sequence};
 use segment_store::Inbox;
 use std::alloc::Global;
 use std::test::Fail;
 
-/// The empty inbox of two messages at most.
+/// The empty inbox, of two messages at most.
 fn empty(alloc: Global) -> Result<Inbox, NoMemory> {
     Inbox::new(alloc, 2)
 }
@@ -16,7 +18,7 @@ fn is_that(message: Option<Message>, sender: u32, bytes: &[u8]) -> bool {
     }
 }
 
-/// The message that comes back of one that is put into an inbox, where it has no room or the message no size of messages.
+/// Puts a message into an inbox. It comes back where the inbox has no room, or the message is too long.
 fn put(
     alloc: Global,
     inbox: &mut Inbox,
@@ -35,12 +37,12 @@ fn front(inbox: &Inbox) -> Option<(u32, u32)> {
     inbox.front()
 }
 
-/// What a receive of that size at most answers.
+/// The answer of a receive of at most `size` bytes.
 fn receive(inbox: &mut Inbox, size: u64) -> Result<Option<Message>, Refusal> {
     inbox.receive(size)
 }
 
-/// Whether a receive of that size at most gives that message.
+/// Whether a receive of at most `size` bytes gives that message.
 fn gives(inbox: &mut Inbox, size: u64, sender: u32, bytes: &[u8]) -> bool {
     match inbox.receive(size) {
         Ok(message) => is_that(message, sender, bytes),
@@ -58,7 +60,7 @@ fn is_empty(inbox: &mut Inbox) -> bool {
     front(inbox).is_none() && matches!(receive(inbox, 4_096), Ok(None)) && has(inbox, true, 0)
 }
 
-/// Whether two messages find room, and a third comes back.
+/// Whether two messages fill the inbox, and a third comes back.
 fn fills(alloc: Global, inbox: &mut Inbox) -> Result<bool, NoMemory> {
     let first = put(alloc, inbox, RankId::of(3), &[7, 8, 9])?.is_none() && has(inbox, true, 1);
     let second = put(alloc, inbox, RankId::of(1), &[5])?.is_none() && has(inbox, false, 2);
@@ -66,7 +68,7 @@ fn fills(alloc: Global, inbox: &mut Inbox) -> Result<bool, NoMemory> {
     Ok(first && second && is_that(returned, 2, &[6, 6]) && has(inbox, false, 2))
 }
 
-/// Whether both are received, each where it is not too long.
+/// Whether both messages are received, each only where it is not too long.
 fn empties(inbox: &mut Inbox) -> bool {
     let is_first = matches!(front(inbox), Some((3, 3)));
     let refused = matches!(receive(inbox, 2), Err(Refusal::PassiveSize { waiting: 3 }));

@@ -1,3 +1,5 @@
+//! The nodes of ranks and of groups at their start.
+
 use gaspi_types::{GroupId, NoMemory, QueueId, RankId, Shape};
 use rank_node::{GroupNode, Node};
 use std::alloc::Global;
@@ -11,7 +13,7 @@ fn two_ranks(alloc: Global) -> Result<Shape, Fail> {
     Ok(shape)
 }
 
-/// Whether a node has so much room, its threads have ended or not, and no lane of it is movable.
+/// Whether a node has that room, all its callers have ended or not, and no lane of it is movable.
 fn is_idle(node: &Node, room: u64, ended: bool) -> bool {
     node.room() == room
         && node.all_ended() == ended
@@ -19,7 +21,7 @@ fn is_idle(node: &Node, room: u64, ended: bool) -> bool {
         && node.front(QueueId::of(0), RankId::of(1)).is_none()
 }
 
-/// Whether the node of a rank is so at the start.
+/// Whether the node of a rank is so at its start.
 fn starts(
     alloc: Global,
     shape: &Shape,
@@ -34,7 +36,7 @@ fn starts(
     Ok(is_idle(&node, room, ended))
 }
 
-/// Whether these are the members of a group of two ranks at the start.
+/// Whether a group of a world of two ranks has that member list at its start.
 fn has_members(alloc: Global, id: GroupId, members: Option<u32>) -> Result<bool, NoMemory> {
     let group = GroupNode::new(alloc, id, 2)?;
     Ok(group.meeting.members() == members)

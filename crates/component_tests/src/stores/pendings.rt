@@ -1,3 +1,5 @@
+//! The pending collectives of one rank.
+
 use gaspi_types::{
     Args, Coll, GroupId, NoMemory, NumType, Numbers, Op, Refusal, Resume, Sequence, ThreadId,
 };
@@ -5,7 +7,7 @@ use std::alloc::Global;
 use std::test::Fail;
 use timeout_state::Pending;
 
-/// A sum of one number.
+/// The arguments of a sum of one number.
 fn sum_of(alloc: Global, number: i32) -> Result<Args, NoMemory> {
     let items = Sequence::copied_from(alloc, &[i128::from(number)])?;
     Ok(Args {
@@ -14,7 +16,7 @@ fn sum_of(alloc: Global, number: i32) -> Result<Args, NoMemory> {
     })
 }
 
-/// What a collective of a thread meets on a group.
+/// What a collective of a thread finds pending on a group.
 fn state(
     pending: &Pending,
     group: GroupId,
@@ -24,7 +26,7 @@ fn state(
     pending.state(group, thread, args)
 }
 
-/// Whether a copy of a collective is made pending, where none is.
+/// Makes a copy of a collective pending, where none is pending on the group. Whether that was so.
 fn is_put_in(
     alloc: Global,
     pending: &mut Pending,
@@ -47,18 +49,18 @@ fn is_on(pending: &Pending, group: GroupId, thread: ThreadId, args: &Args) -> bo
     }
 }
 
-/// Whether nothing is pending on a group.
+/// Whether no collective is pending on a group.
 fn is_idle(pending: &Pending, group: GroupId) -> bool {
     pending.on(group).is_none()
 }
 
-/// Whether a collective is taken out, where it is the one that is pending.
+/// Removes the pending collective of a group, where it is this one. Whether that was so.
 fn is_taken_out(pending: &mut Pending, group: GroupId, thread: ThreadId, args: &Args) -> bool {
     let same = matches!(pending.state(group, thread, args), Ok(Resume::Same));
     same && pending.take_out(group, thread) == *args
 }
 
-/// Whether another collective is refused to the thread and to others on a group, and not on the group beside.
+/// Whether another collective is refused to this thread and to another on a group, and not on the next group.
 fn is_refused(pending: &Pending, group: GroupId, thread: ThreadId, args: &Args) -> bool {
     let other = state(pending, group, thread, args);
     let active = state(pending, group, ThreadId::of(0), args);
@@ -67,12 +69,12 @@ fn is_refused(pending: &Pending, group: GroupId, thread: ThreadId, args: &Args) 
         && is_fresh(pending, GroupId::of(6), thread, args)
 }
 
-/// Whether none is pending on a group.
+/// Whether a collective of a thread finds none pending on a group.
 fn is_fresh(pending: &Pending, group: GroupId, thread: ThreadId, args: &Args) -> bool {
     matches!(state(pending, group, thread, args), Ok(Resume::Fresh))
 }
 
-/// Whether a collective is made pending, another refused in its place, and the first taken out.
+/// Whether a collective is made pending, another refused, and the first removed.
 fn is_resumed(alloc: Global, pending: &mut Pending, three: &Args, four: &Args) -> bool {
     let (group, thread) = (GroupId::of(7), ThreadId::of(2));
     is_idle(pending, group)

@@ -1,3 +1,5 @@
+//! The queues of one origin: posts, takes, puts, failures, waits and purges, without the bytes of segments.
+
 use gaspi_types::{ByteRange, Kind, NoMemory, NoteSlot, Phase, QueueId, RankId, Refusal};
 use post_queue::{Entries, Lanes, carried_size};
 use std::alloc::Global;
@@ -29,12 +31,12 @@ fn notify() -> Kind {
     }
 }
 
-/// The empty queues of a rank: two, each of four entries at most, in a world of two ranks.
+/// The empty queues of a rank: two, with an open count of four at most, in a world of two ranks.
 fn empty(alloc: Global) -> Result<Lanes, NoMemory> {
     Lanes::new(alloc, 2, 2, 4)
 }
 
-/// What a post of the tests answers.
+/// The answer of `post`: None where the lane or the numbers for it are not there.
 type Posted = Result<Option<Result<(), Refusal>>, NoMemory>;
 
 /// Posts a write and its notification, where the world has the target and few were posted.
@@ -46,7 +48,7 @@ fn post(alloc: Global, lanes: &mut Lanes, queue: u64, target: RankId, segment: u
     Ok(Some(lanes.post(queue, target, entries)))
 }
 
-/// The entry that may take its bytes next takes these, where it has room for so many.
+/// The first posted entry of a lane takes these bytes. False where there is none, or its capacity is another.
 fn carry(lanes: &mut Lanes, queue: u64, target: RankId, bytes: &[u8]) -> bool {
     let Some(entry) = lanes.front_posted(queue, target) else {
         return false;
@@ -58,7 +60,7 @@ fn carry(lanes: &mut Lanes, queue: u64, target: RankId, bytes: &[u8]) -> bool {
     true
 }
 
-/// The entry that may be put next goes, where there is one.
+/// The first carried entry of a lane goes. False where there is none.
 fn put(lanes: &mut Lanes, queue: u64, target: RankId) -> bool {
     let there = lanes.front_carried(queue, target).is_some();
     if there {
@@ -67,7 +69,7 @@ fn put(lanes: &mut Lanes, queue: u64, target: RankId) -> bool {
     there
 }
 
-/// The entry that may be put next fails, where there is one.
+/// The first carried entry of a lane fails. False where there is none.
 fn fail_put(lanes: &mut Lanes, queue: u64, target: RankId) -> bool {
     let there = lanes.front_carried(queue, target).is_some();
     if there {
@@ -76,7 +78,7 @@ fn fail_put(lanes: &mut Lanes, queue: u64, target: RankId) -> bool {
     there
 }
 
-/// The entry that may take its bytes next fails, where there is one.
+/// The first posted entry of a lane fails. False where there is none.
 fn fail_take(lanes: &mut Lanes, queue: u64, target: RankId) -> bool {
     let there = lanes.front_posted(queue, target).is_some();
     if there {
@@ -85,7 +87,7 @@ fn fail_take(lanes: &mut Lanes, queue: u64, target: RankId) -> bool {
     there
 }
 
-/// A wait that is ready is done.
+/// A wait for a queue is done. False where it is not ready.
 fn wait(lanes: &mut Lanes, queue: u64) -> bool {
     let ready = matches!(lanes.wait_ready(queue), Ok(true));
     if ready {
@@ -94,7 +96,7 @@ fn wait(lanes: &mut Lanes, queue: u64) -> bool {
     ready
 }
 
-/// Whether the entry that may be put next is that write, with these bytes.
+/// Whether the first carried entry of a lane is that write, with these bytes.
 fn is_write(lanes: &Lanes, queue: u64, target: RankId, segment: u32, bytes: &[u8]) -> bool {
     match lanes.front_carried(queue, target) {
         Some(entry) => match &entry.phase {
@@ -107,7 +109,7 @@ fn is_write(lanes: &Lanes, queue: u64, target: RankId, segment: u32, bytes: &[u8
     }
 }
 
-/// Whether that many entries were posted, and events of that many are owed.
+/// Whether that many entries were posted in all, and that many events are owed.
 fn counts(lanes: &Lanes, posted: u32, owed: u64) -> bool {
     lanes.next_number() == posted && lanes.owed() == owed
 }
@@ -122,24 +124,24 @@ fn is_used(lanes: &Lanes, segment: u64, queue: Option<u32>) -> bool {
     lanes.uses(segment) == queue
 }
 
-/// What a wait for a queue finds.
+/// Whether a wait for a queue is ready, or its refusal.
 fn waiting(lanes: &Lanes, queue: u64) -> Result<bool, Refusal> {
     lanes.wait_ready(queue)
 }
 
-/// The number of the entry that may take its bytes next.
+/// The number of the first posted entry of a lane.
 fn posted(lanes: &Lanes, queue: u64, target: RankId) -> Option<u32> {
     lanes
         .front_posted(queue, target)
         .map(|entry| entry.number())
 }
 
-/// Whether that is the least target to which a queue has a lane with an entry.
+/// Whether that is the least target of a queue with a nonempty lane.
 fn is_nonempty(lanes: &Lanes, queue: u64, target: Option<RankId>) -> bool {
     lanes.nonempty_lane(queue) == target
 }
 
-/// Whether that is the next lane that may be moved after a lane, by the numbers of its queue and its target.
+/// Whether that is the next movable lane after a lane, by the numbers of its queue and its target.
 fn is_next(lanes: &Lanes, queue: QueueId, target: RankId, next: Option<(u32, u32)>) -> bool {
     match lanes.next_lane((queue, target)) {
         Some((queue, target)) => next == Some((queue.number(), target.number())),
@@ -147,12 +149,12 @@ fn is_next(lanes: &Lanes, queue: QueueId, target: RankId, next: Option<(u32, u32
     }
 }
 
-/// What a post of so many entries to a queue would answer.
+/// The answer to a post of `entries` entries to a queue, which is not made.
 fn checked(lanes: &Lanes, queue: u64, entries: u32) -> Result<(), Refusal> {
     lanes.check_post(queue, entries)
 }
 
-/// What a purge of a queue answers.
+/// The answer of a purge of a queue.
 fn purge(lanes: &mut Lanes, queue: u64) -> Result<(), Refusal> {
     lanes.purge(queue)
 }
@@ -168,7 +170,7 @@ fn are_posted(lanes: &Lanes, target: RankId) -> bool {
         && is_nonempty(lanes, 1, Some(target))
 }
 
-/// Whether no entry of the other lanes may take its bytes.
+/// Whether no other lane has a posted entry.
 fn are_alone(lanes: &Lanes, target: RankId) -> bool {
     posted(lanes, 0, target).is_none()
         && posted(lanes, 1, RankId::of(0)).is_none()
@@ -176,7 +178,7 @@ fn are_alone(lanes: &Lanes, target: RankId) -> bool {
         && is_nonempty(lanes, 2, None)
 }
 
-/// Whether both take their bytes, and need not be waited for then.
+/// Makes both takes. Whether they are applied, and no wait waits for these entries then.
 fn are_carried(lanes: &mut Lanes, target: RankId) -> bool {
     carry(lanes, 1, target, &[1, 2, 3])
         && is_used(lanes, 5, None)
@@ -186,7 +188,7 @@ fn are_carried(lanes: &mut Lanes, target: RankId) -> bool {
         && is_open(lanes, 1, 0)
 }
 
-/// Whether both are put, the write first, and no more.
+/// Makes both puts. Whether the write is first, and no entry is left.
 fn are_put(lanes: &mut Lanes, target: RankId) -> bool {
     is_write(lanes, 1, target, 5, &[1, 2, 3])
         && put(lanes, 1, target)
@@ -210,7 +212,7 @@ fn a_write_and_its_notification_are_carried_and_put(rt: HostRuntime) -> Result<(
     Ok(())
 }
 
-/// Whether two posts fill queue 0, and one is posted to queue 1.
+/// Whether two posts fill queue 0, and one goes to queue 1.
 fn are_filled(
     alloc: Global,
     lanes: &mut Lanes,
@@ -225,7 +227,7 @@ fn are_filled(
     Ok(first && second && other && is_full)
 }
 
-/// Whether a post of one entry finds queue 0 full, and queue 1 not; the least lane with an entry is known of each.
+/// Whether queue 0 is full for one entry more, and queue 1 is not; and which lanes are nonempty.
 fn are_checked(lanes: &Lanes, near: RankId, far: RankId) -> bool {
     matches!(
         checked(lanes, 0, 1),
@@ -236,7 +238,7 @@ fn are_checked(lanes: &Lanes, near: RankId, far: RankId) -> bool {
         && is_nonempty(lanes, 1, Some(far))
 }
 
-/// Whether the lanes come one after another: both of queue 0, then the one of queue 1, and then the first again.
+/// Whether the movable lanes come one after another: both of queue 0, then the one of queue 1, then the first again.
 fn are_in_order(lanes: &Lanes, near: RankId, far: RankId) -> bool {
     is_next(lanes, QueueId::of(0), near, Some((0, 1)))
         && is_next(lanes, QueueId::of(0), far, Some((1, 1)))
@@ -250,7 +252,7 @@ fn is_broken(lanes: &Lanes, queue: u64) -> bool {
     matches!(waiting(lanes, queue), Err(Refusal::QueueBroken { rank: 1 }))
 }
 
-/// Whether a put that fails breaks queue 0, to which nothing is posted then.
+/// Lets a put of queue 0 fail. Whether the queue is then broken, and takes no post.
 fn is_failed(
     alloc: Global,
     lanes: &mut Lanes,

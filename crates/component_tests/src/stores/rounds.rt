@@ -1,3 +1,5 @@
+//! The rounds of one group: a sum over two members, and a group commit with a segment made.
+
 use collective_engine::{Rounds, check_count, check_type};
 use gaspi_types::{Args, Coll, MemberSegment, NoMemory, NumType, Numbers, Op, RankId, Sequence};
 use std::alloc::Global;
@@ -53,7 +55,7 @@ fn leaves(rounds: &mut Rounds, rank: RankId) -> bool {
     may
 }
 
-/// Whether the round of a rank comes to one number, which is that.
+/// Whether the reduction of the round of a rank is that one number.
 fn comes_to(alloc: Global, rounds: &Rounds, rank: RankId, number: i128) -> Result<bool, NoMemory> {
     let room = Sequence::copied_from(alloc, &[0])?;
     let is_full = rounds.is_member(rank) && rounds.full(rank);
@@ -64,7 +66,7 @@ fn comes_to(alloc: Global, rounds: &Rounds, rank: RankId, number: i128) -> Resul
     Ok(total.num_type() == NumType::Int && total.items() == [number].as_slice())
 }
 
-/// Whether a rank alone has made its segment, in that generation.
+/// Whether the round of a rank has one member's segment, of that rank and generation.
 fn has_made(rounds: &Rounds, rank: RankId, generation: u32) -> bool {
     let made = [MemberSegment { rank, generation }];
     rounds.is_member(rank) && rounds.generations(rank).as_slice() == made.as_slice()

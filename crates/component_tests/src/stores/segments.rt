@@ -1,19 +1,21 @@
+//! The own segments of a rank with their bytes, and its table of segments.
+
 use gaspi_types::{NoMemory, RankId, Sequence};
 use segment_store::Segments;
 use std::alloc::Global;
 use std::test::Fail;
 
-/// No segments, in a world of two ranks.
+/// No segment, in a world of two ranks.
 fn empty(alloc: Global) -> Result<Segments, NoMemory> {
     Segments::new(alloc, 2)
 }
 
-/// Whether a segment is made, of a number that has a generation left.
+/// Whether a segment is made, of an id with a generation left.
 fn makes(alloc: Global, segments: &mut Segments, seg: u64, size: u64) -> bool {
     segments.has_next_generation(seg) && segments.alloc(alloc, seg, size).is_ok()
 }
 
-/// The same in a room that is handed in, full of ones.
+/// The same in memory that is handed in, full of ones.
 fn makes_in(
     alloc: Global,
     segments: &mut Segments,
@@ -58,7 +60,7 @@ fn stores(segments: &mut Segments, seg: u64, offset: u64, bytes: &[u8]) -> bool 
     segments.store(seg, offset, bytes).is_ok()
 }
 
-/// Whether bytes that lie within a segment of four are written, and none where one lies past its end or no segment is there.
+/// Whether bytes within a segment of four are written, and nothing where one of them is past its end, or no segment is there.
 fn puts(segments: &mut Segments, seg: u64) -> bool {
     segments.put(seg, 1, &[4, 5]);
     segments.put(seg, 3, &[6, 7]);
@@ -66,12 +68,12 @@ fn puts(segments: &mut Segments, seg: u64) -> bool {
     lends(segments, seg, 0, &[0, 4, 5, 0])
 }
 
-/// Whether a value is added to a word that is `old`.
+/// Whether a value is added to a memory word that is `old`.
 fn adds(segments: &mut Segments, seg: u64, offset: u64, value: u64, old: u64) -> bool {
     segments.fetch_add(seg, offset, value) == Ok(old)
 }
 
-/// Whether a word that is `old` is swapped for a new one.
+/// Whether a memory word that is `old` is replaced by a new one.
 fn swaps(segments: &mut Segments, seg: u64, offset: u64, old: u64, new: u64) -> bool {
     segments.compare_swap(seg, offset, old, new) == Ok(old)
 }
@@ -81,7 +83,7 @@ fn deletes(segments: &mut Segments, seg: u64) -> bool {
     segments.delete(seg).is_ok()
 }
 
-/// Whether a segment of a rank is known in a generation and a size, once it is made known.
+/// Whether a segment of a rank is known in a generation and a size, once it is registered.
 fn registers(segments: &mut Segments, owner: RankId, seg: u64, generation: u32, size: u32) -> bool {
     if seg >= 32 || !segments.has_rank(owner) {
         return false;
@@ -90,7 +92,7 @@ fn registers(segments: &mut Segments, owner: RankId, seg: u64, generation: u32, 
     segments.known(owner, seg) == Some((generation, size))
 }
 
-/// Of how many ranks segments may be known.
+/// For how many ranks the table has known segments.
 fn ranks(segments: &Segments) -> usize {
     segments.table().known.len()
 }
@@ -106,7 +108,7 @@ fn is_written(alloc: Global, segments: &mut Segments) -> bool {
         && has(segments, 31, 0, 16)
 }
 
-/// Whether a segment is made in its place, and has zeros.
+/// Whether a deleted segment is gone, is made again, and is all zero.
 fn is_made_again(alloc: Global, segments: &mut Segments) -> Result<bool, NoMemory> {
     let gone = deletes(segments, 31) && lacks(segments, 31);
     let made = makes_in(alloc, segments, 31, 4)?;

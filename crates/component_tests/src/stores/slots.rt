@@ -1,9 +1,11 @@
+//! The notification slots of one segment.
+
 use gaspi_types::{NoMemory, Refusal, Shape};
 use segment_store::Slots;
 use std::alloc::Global;
 use std::test::Fail;
 
-/// The slots of a segment of a world of one rank with four of them.
+/// The slots of a segment, in a world of four slots.
 fn slots_of(alloc: Global) -> Result<Slots, Fail> {
     let shape = Shape::new(alloc, 1, 1, 1, 4, 1, 1)?;
     Ok(Slots::new(alloc, shape.limits().notes)?)
@@ -18,12 +20,12 @@ fn set(slots: &mut Slots, note: u64, value: u32) -> bool {
     there
 }
 
-/// The first slot of a range in which a notification stands.
+/// The first slot of a range with a notification.
 fn first(slots: &Slots, begin: u64, num: u64) -> Result<Option<u32>, Refusal> {
     slots.waitsome(begin, num)
 }
 
-/// Whether a notification of that value stands in a slot, and is taken out of it.
+/// Whether a slot has that value, and a reset answers it.
 fn takes(slots: &mut Slots, note: u64, value: u32) -> bool {
     slots.value(note) == Ok(value) && slots.reset(note) == Ok(value)
 }
@@ -33,7 +35,7 @@ fn are_set(slots: &mut Slots) -> bool {
     set(slots, 3, 6) && set(slots, 2, 5) && set(slots, 2, 8)
 }
 
-/// Whether the notification of slot 2 is taken, and then that of slot 3 is the first.
+/// Whether slot 2 is found and reset, and then slot 3 is the first.
 fn are_found(slots: &mut Slots) -> bool {
     matches!(first(slots, 1, 3), Ok(Some(2)))
         && takes(slots, 2, 8)

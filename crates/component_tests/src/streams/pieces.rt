@@ -1,4 +1,4 @@
-//! Sources and sinks in memory, which give and take little at once, and fail.
+//! Sources and sinks in memory, with small pieces and with faults.
 
 ghost use Rattle.std.specs.Prelude.{◌≡◌, IfOk, IsErrOf, IsOk};
 
@@ -7,6 +7,7 @@ use gaspi_types::{Bytes, NoMemory, Sequence};
 use std::alloc::Global;
 use std::test::Fail;
 
+/// The text that is read and written.
 const TEXT: &[u8; 5] = b"gaspi";
 
 /// The number of a call that is never made.
@@ -20,7 +21,7 @@ struct Reading {
     faults: u64,
 }
 
-/// Reads the text by pieces of a size, of which there is none of 0, where the call with a number fails.
+/// Reads the text by pieces of a size, or as it comes where the size is 0; the call with the number `failing` fails.
 fn read(alloc: Global, piece: usize, failing: u64, most: u64) -> Result<Reading, NoMemory> {
     let mut source = MemSource::new(Bytes::copied_from(alloc, TEXT)?);
     if piece > 0 {
@@ -43,8 +44,8 @@ fn read(alloc: Global, piece: usize, failing: u64, most: u64) -> Result<Reading,
     })
 }
 
-/// How many bytes of the text are written by pieces of a size, where the call with a number fails, and how many faults there
-/// were. Nothing else is written.
+/// Writes the text by pieces of a size, or as it comes where the size is 0; the call with the number `failing` fails. How many
+/// of its bytes are written, or `usize::MAX` where anything else is, and how many faults there were.
 fn written(alloc: Global, piece: usize, failing: u64) -> Result<(usize, u64), NoMemory> {
     let mut sink = MemSink::with_capacity(alloc, 5)?;
     if piece > 0 {
@@ -96,7 +97,7 @@ fn each_call_fails_in_turn(rt: HostRuntime) -> Result<(), Fail> {
     Ok(())
 }
 
-/// What stops the reading of so many zeros, where so many bytes may come.
+/// Why the reading of `length` zeros stops, where `most` bytes are allowed; None where it does not stop.
 fn stop_of(alloc: Global, length: usize, most: u64) -> Result<Option<ReadStop>, NoMemory> {
     let zeros = vec![in alloc; 0; length]?;
     let mut source = MemSource::new(Sequence::from_vec(zeros));

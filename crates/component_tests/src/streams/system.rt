@@ -1,13 +1,14 @@
-//! Streams of the system, and such that behave as those may.
+//! Streams of the system, and streams of a test that behave as those may: interrupted, torn by a fault, or slow.
 
 use gaspi_io::{Failed, Sink, Source, StdSink, StdSource, read_all, write_all};
 use std::alloc::Global;
 use std::io::{self, ErrorKind, Read, Write};
 use std::test::Fail;
 
+/// The text that is read and written.
 const TEXT: &[u8; 5] = b"gaspi";
 
-/// A stream that signals interrupt so often before a byte passes, and that fails after so many bytes.
+/// A stream that signals interrupt `interruptions` times at first, and that fails after `bytes` bytes.
 #[derive(Drop)]
 struct Flaky {
     interruptions: u8,
@@ -134,6 +135,7 @@ impl Write for Torn {
     }
 }
 
+/// A torn stream that nothing has passed.
 const TORN: Torn = Torn {
     passed: 0,
     failed: false,

@@ -1,4 +1,4 @@
-//! Passes that raise two counters over one table.
+//! Passes that raise two counters over one commit table, on one thread: shards taken and missed, looks, and notes.
 
 use commit_table::{
     CommitTable, CounterAnswer, CounterTable, carry, close_counters, raise, raise_both_held,

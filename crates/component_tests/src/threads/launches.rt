@@ -1,4 +1,5 @@
-//! Worlds that start, are launched and end.
+//! A world of two ranks that starts, is launched and is closed; the body of each pass learns a note of its own pass. The
+//! private functions of the test hand the tasks to the launch.
 
 ghost use Rattle.std.specs.Prelude.{◌≡◌, ℕ, true, map, IfOk, Some, slice_get};
 ghost use Rattle.std.specs.List.{All};
@@ -20,14 +21,14 @@ fn two_ranks(alloc: Global) -> Result<Shape, Fail> {
     Ok(shape)
 }
 
-/// Whether a world has all its passes, one for each caller and its worker, and its shape.
+/// Whether a world has all its passes, one for each of two callers and one for its worker, and its shape.
 fn is_whole(started: &Started) -> bool {
     started.world.whole(&started.passes)
         && started.passes.len() == 3
         && started.world.shape().ranks() == 2
 }
 
-/// Whether such a world starts.
+/// Whether a world with a worker starts with all its passes.
 fn starts(alloc: Global, shape: &Shape) -> bool {
     match with_worker(alloc, shape) {
         Ok(started) => is_whole(&started),
@@ -42,12 +43,13 @@ fn a_world_starts_with_its_passes(rt: HostRuntime) -> Result<(), Fail> {
     Ok(())
 }
 
-/// Learns the note of its own pass.
+/// A body that learns a note of its own pass.
 #[derive(Drop)]
 struct OwnNote {
     learned: bool,
 }
 
+/// A note of what the pass has seen.
 fn own_note(world: &World, pass: &mut Pass) -> Note
     requires { IsOf world.now pass.old }
     ensures same { pass.new ≡ pass.old }
@@ -56,6 +58,7 @@ fn own_note(world: &World, pass: &mut Pass) -> Note
     Rank { world, pass }.note()
 }
 
+/// Lets the pass learn a note.
 fn learn(world: &World, pass: &mut Pass, note: Note)
     requires pass { IsOf world.now pass.old }
     requires note { note.table ≡ world.now.table }
@@ -79,6 +82,7 @@ impl Body for OwnNote {
     }
 }
 
+/// A task for each pass.
 fn tasks_of(alloc: Global, passes: Passes) -> Result<Vec<Task<OwnNote>>, AllocError>
     ensures { IfOk result (λ tasks. map (λ t. t.pass) tasks.items ≡ passes.items) }
 {
@@ -90,6 +94,7 @@ fn tasks_of(alloc: Global, passes: Passes) -> Result<Vec<Task<OwnNote>>, AllocEr
     Ok(tasks)
 }
 
+/// The passes of the tasks.
 fn passes_of(alloc: Global, tasks: Vec<Task<OwnNote>>) -> Result<Passes, AllocError>
     ensures { IfOk result (λ passes. passes.items ≡ map (λ t. t.pass) tasks.items) }
 {
@@ -100,6 +105,7 @@ fn passes_of(alloc: Global, tasks: Vec<Task<OwnNote>>) -> Result<Passes, AllocEr
     Ok(passes)
 }
 
+/// Launches tasks.
 fn run_slice<R: Threads + Wait + Sync>(
     rt: &R,
     alloc: Global,
@@ -113,6 +119,7 @@ fn run_slice<R: Threads + Wait + Sync>(
     launch(rt, alloc, world, tasks);
 }
 
+/// Launches tasks in a vector.
 fn run_all<R: Threads + Wait + Sync>(
     rt: &R,
     alloc: Global,
@@ -126,6 +133,7 @@ fn run_all<R: Threads + Wait + Sync>(
     run_slice(rt, alloc, world, tasks.as_mut_slice());
 }
 
+/// Launches a body on each pass, and gives the passes.
 fn each_learns<R: Threads + Wait + Sync>(
     rt: &R,
     alloc: Global,
@@ -141,7 +149,7 @@ fn each_learns<R: Threads + Wait + Sync>(
     Ok(passes)
 }
 
-/// How many events there are where each pass of a world learns its own note.
+/// How many events the journal and the tally have where each pass learns its own note.
 fn events<R: Threads + Wait + Sync>(
     rt: &R,
     alloc: Global,

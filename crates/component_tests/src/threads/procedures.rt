@@ -1,4 +1,4 @@
-//! Each procedure of a rank once, in a world of one rank whose posts nobody transfers.
+//! Each procedure of a rank once, in a world of one rank without workers, so that its entries are not transferred.
 
 ghost use Rattle.std.specs.Prelude.{◌≡◌, ℕ, Some, length, slice_get};
 ghost use Rattle.std.specs.List.{All};
@@ -15,7 +15,7 @@ use std::test::Fail;
 use std::thread::Threads;
 use timeout_state::Look;
 
-/// Calls with their replies, in order. Each looks once.
+/// Calls with their replies, in order, each with one look.
 const CALLS: &str =
     "alloc 1 8 -> done\nregister 1 0 -> done\ncreate 2 8 0 -> done\ndelete 2 -> done\n\
 store 0 0 0102 -> done\nload 0 0 2 -> bytes 0102\n\
@@ -30,12 +30,12 @@ fetch_add 0 8 0 5 -> value 0\ncompare_swap 0 8 0 5 9 -> value 5\n\
 group_create -> id 1\ngroup_add 1 0 -> done\ncommit 1 -> done\nbarrier 1 -> done\n\
 allreduce 0 SUM INT 1 3 -> list INT 3\ngroup_delete 1 -> done\nstate -> mask 0\nend -> done\n";
 
-/// Those calls. Nothing is claimed of them, so that what the test proves does not hold the text.
+/// The calls as a text. No clause says anything of them, so that the proof of the test does not carry the text.
 fn calls() -> &'static str {
     CALLS
 }
 
-/// Makes a call by its procedure, with one look.
+/// Makes a call by its procedure, with one look. The pass may call as before.
 fn by_procedure<R: Wait>(
     rt: &R,
     alloc: Global,
@@ -83,7 +83,7 @@ fn by_procedure<R: Wait>(
     }
 }
 
-/// Whether an attempt to ask for the state, at its last look, is told that no rank is corrupt.
+/// Whether an attempt of the call `state`, at its last look, answers that no rank is corrupt.
 fn is_attempted(alloc: Global, world: &World, pass: &mut Pass) -> bool
     requires { MayCall world.now pass.old }
     ensures { MayCall world.now pass.new }
@@ -95,7 +95,7 @@ fn is_attempted(alloc: Global, world: &World, pass: &mut Pass) -> bool
     )
 }
 
-/// The call of a line and its reply, where the line has both.
+/// The call of a line and its reply; None where the line has not both.
 fn parts_of(alloc: Global, line: &str) -> Result<Option<(Call, Reply)>, NoMemory> {
     let Some((call, reply)) = line.split_once(" -> ") else {
         return Ok(None);
@@ -112,7 +112,7 @@ fn parts_of(alloc: Global, line: &str) -> Result<Option<(Call, Reply)>, NoMemory
     Ok(Some((call, reply)))
 }
 
-/// Whether the call gets its reply.
+/// Makes a call by its procedure. Whether it gets its reply.
 fn is_answered<R: Wait>(
     rt: &R,
     alloc: Global,
@@ -131,7 +131,7 @@ fn is_answered<R: Wait>(
     }
 }
 
-/// Makes an attempt and the calls, and counts those that got their replies.
+/// A body that makes an attempt and the calls, and counts how many of them got their replies.
 #[derive(Drop)]
 struct Caller {
     answered: u32,
@@ -166,6 +166,7 @@ fn one_rank(alloc: Global) -> Result<Shape, Fail> {
     Ok(shape)
 }
 
+/// Launches tasks.
 fn run_slice<R: Threads + Wait + Sync>(
     rt: &R,
     alloc: Global,
@@ -178,7 +179,7 @@ fn run_slice<R: Threads + Wait + Sync>(
     launch(rt, alloc, world, tasks);
 }
 
-/// How many calls got their replies, of those that a caller makes on a thread of its own.
+/// How many calls got their replies, on a thread that has this pass.
 fn run_one<R: Threads + Wait + Sync>(
     rt: &R,
     alloc: Global,
@@ -196,7 +197,7 @@ fn run_one<R: Threads + Wait + Sync>(
     }
 }
 
-/// The same of the last of a world's callers.
+/// How many calls got their replies, of the last caller of a world.
 fn answered<R: Threads + Wait + Sync>(
     rt: &R,
     alloc: Global,

@@ -1,4 +1,4 @@
-//! Two threads that race for the counters of one table.
+//! Two threads that raise counters of one commit table, each its own or both the same.
 
 use commit_table::raised_by_two;
 use std::test::Fail;

@@ -1,4 +1,5 @@
-//! Two ranks on threads that send each other a message and receive one: neither may wait for the other to be done.
+//! Two ranks on threads that send each other a message and receive one: neither may wait until the other is done. The private
+//! functions after the body hand the tasks to the launch.
 
 ghost use Rattle.std.specs.Prelude.{◌≡◌, ℕ, map, IfOk, Some, slice_get};
 ghost use Rattle.std.specs.List.{All};
@@ -13,10 +14,10 @@ use std::sync::Wait;
 use std::test::Fail;
 use std::thread::Threads;
 
-/// How often a call looks.
+/// How many looks a call has.
 const LOOKS: Timeout = Timeout::Looks(100_000_000);
 
-/// Sends a message to the other rank, and receives one of it.
+/// A body that sends a message to the other rank, and receives one from it.
 #[derive(Drop)]
 struct Sender {
     other: u32,
@@ -24,7 +25,7 @@ struct Sender {
     received: bool,
 }
 
-/// Whether a message was sent to a rank.
+/// Sends a message to a rank. Whether that was done.
 fn send<R: Wait>(rt: &R, alloc: Global, world: &World, pass: &mut Pass, to: u32) -> bool
     requires { MayCall world.now pass.old }
     ensures { MayCall world.now pass.new }
@@ -39,7 +40,7 @@ fn send<R: Wait>(rt: &R, alloc: Global, world: &World, pass: &mut Pass, to: u32)
     matches!(sent, Ok(Reply::Done))
 }
 
-/// Whether a message of a rank was received.
+/// Receives a message. Whether it is of that rank.
 fn receive<R: Wait>(rt: &R, alloc: Global, world: &World, pass: &mut Pass, from: u32) -> bool
     requires { MayCall world.now pass.old }
     ensures { MayCall world.now pass.new }
@@ -68,6 +69,7 @@ impl Body for Sender {
     }
 }
 
+/// A task for each of two passes: the first sends to rank 1, the second to rank 0.
 fn tasks_of(alloc: Global, passes: Passes) -> Result<Vec<Task<Sender>>, AllocError>
     ensures { IfOk result (λ tasks. map (λ t. t.pass) tasks.items ≡ passes.items) }
 {
@@ -85,6 +87,7 @@ fn tasks_of(alloc: Global, passes: Passes) -> Result<Vec<Task<Sender>>, AllocErr
     Ok(tasks)
 }
 
+/// The passes of the tasks.
 fn passes_of(alloc: Global, tasks: Vec<Task<Sender>>) -> Result<Passes, AllocError>
     ensures { IfOk result (λ passes. passes.items ≡ map (λ t. t.pass) tasks.items) }
 {
@@ -95,6 +98,7 @@ fn passes_of(alloc: Global, tasks: Vec<Task<Sender>>) -> Result<Passes, AllocErr
     Ok(passes)
 }
 
+/// Launches tasks.
 fn run_slice<R: Threads + Wait + Sync>(
     rt: &R,
     alloc: Global,
@@ -107,6 +111,7 @@ fn run_slice<R: Threads + Wait + Sync>(
     launch(rt, alloc, world, tasks);
 }
 
+/// Launches tasks in a vector.
 fn run_all<R: Threads + Wait + Sync>(
     rt: &R,
     alloc: Global,
@@ -119,7 +124,7 @@ fn run_all<R: Threads + Wait + Sync>(
     run_slice(rt, alloc, world, tasks.as_mut_slice());
 }
 
-/// Whether each rank sent its message and received the other's, and the passes.
+/// Launches a sender on each pass. Whether each sent its message and received the other's, and the passes.
 fn each_sends<R: Threads + Wait + Sync>(
     rt: &R,
     alloc: Global,
@@ -149,7 +154,7 @@ fn two_ranks(alloc: Global) -> Result<Shape, Fail> {
     Ok(shape)
 }
 
-/// Whether each sent and received, and how many events there were.
+/// Whether each sent and received; and how many events the journal and the tally have.
 fn meetings<R: Threads + Wait + Sync>(
     rt: &R,
     alloc: Global,

@@ -1,4 +1,4 @@
-//! Worlds at their start and at their end.
+//! Worlds that are started, with and without a worker, and closed; for the other files of tests.
 
 ghost use Rattle.std.specs.Prelude.{◌≡◌, ℕ, IfOk, Some, slice_get};
 ghost use Rattle.commit_table.specs.Calls.{IsOf, HoldsNone};
@@ -8,7 +8,7 @@ use gaspi_types::{NoMemory, Shape};
 use gaspi_world::{Passes, Started, World};
 use std::alloc::Global;
 
-/// A world without workers: each pass may make calls.
+/// A world without workers; each of its passes may make calls.
 pub fn of_callers(alloc: Global, shape: &Shape) -> Result<Started, NoMemory>
     ensures { IfOk result (λ started. (k : ℕ) (p : _) → slice_get started.passes.items k ≡ Some p → MayCall started.world p) }
 {
@@ -16,7 +16,7 @@ pub fn of_callers(alloc: Global, shape: &Shape) -> Result<Started, NoMemory>
     Ok(started)
 }
 
-/// A world with one worker: no pass holds a shard.
+/// A world with one worker; none of its passes holds a shard.
 pub fn with_worker(alloc: Global, shape: &Shape) -> Result<Started, NoMemory>
     ensures { IfOk result (λ started. (k : ℕ) (p : _) → slice_get started.passes.items k ≡ Some p → IsOf started.world p × HoldsNone p.known) }
 {
@@ -24,7 +24,8 @@ pub fn with_worker(alloc: Global, shape: &Shape) -> Result<Started, NoMemory>
     Ok(started)
 }
 
-/// Ends a world that these are all passes of: how many events its journal has, and its tally.
+/// Closes a world with all its passes: how many events its journal has, and its tally. None where these are not all its passes,
+/// or memory runs out.
 pub fn closed(alloc: Global, world: World, passes: Passes) -> Option<(usize, u64)>
     requires { (k : ℕ) (p : _) → slice_get passes.items k ≡ Some p → IsOf world p × HoldsNone p.known }
 {

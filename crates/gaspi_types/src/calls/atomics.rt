@@ -1,7 +1,6 @@
-//! The calls on a word of a segment of a rank. (GASPI: atomics)
+//! The calls on a memory word of a segment of any rank, `seg` at `rank`. (GASPI: atomics)
 
-/// Adds a value to the word at an offset of a segment of a rank, and answers what stood there.
-/// (GASPI: atomic_fetch_add)
+/// Adds a value to the memory word at an offset of a segment of a rank, and answers its old value. (GASPI: atomic_fetch_add)
 #[derive(Clone, Copy, Debug, PartialEq, Eq)]
 pub struct FetchAdd {
     pub seg: u64,
@@ -10,8 +9,8 @@ pub struct FetchAdd {
     pub value: u64,
 }
 
-/// Writes a new value over the word at an offset of a segment of a rank, where that is the comparator, and answers
-/// what stood there. (GASPI: atomic_compare_swap)
+/// Sets the memory word at an offset of a segment of a rank to `new` where it is the comparator, and answers its old value.
+/// (GASPI: atomic_compare_swap)
 #[derive(Clone, Copy, Debug, PartialEq, Eq)]
 pub struct CompareSwap {
     pub seg: u64,

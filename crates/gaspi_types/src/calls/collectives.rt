@@ -6,19 +6,20 @@ use crate::collectives::{Numbers, Op};
 use crate::memory::NoMemory;
 use std::alloc::Global;
 
-/// Commits a group that is being built: its ranks are fixed. (GASPI: group_commit)
+/// The group commit: once every member has joined, a group of the caller's rank whose stage is building is committed. The first
+/// one of an id fixes the member list. (GASPI: group_commit)
 #[derive(Clone, Copy, Debug, PartialEq, Eq)]
 pub struct Commit {
     pub group: u64,
 }
 
-/// Waits until every member of a group has come to it. (GASPI: barrier)
+/// Is done once every member of a group has joined its round. (GASPI: barrier)
 #[derive(Clone, Copy, Debug, PartialEq, Eq)]
 pub struct Barrier {
     pub group: u64,
 }
 
-/// Makes one list of the numbers of all members, item by item. (GASPI: allreduce)
+/// Answers the reduction of the numbers of all members, position by position, once every member has joined. (GASPI: allreduce)
 #[derive(Debug, PartialEq, Eq, Drop)]
 pub struct Allreduce {
     pub group: u64,
@@ -28,7 +29,7 @@ pub struct Allreduce {
 }
 
 impl Allreduce {
-    /// An equal call. It takes no memory where there are no numbers.
+    /// An equal call. No memory is taken where there are no numbers.
     pub fn copy(&self, alloc: Global) -> Result<Allreduce, NoMemory>
         ensures ok { IfOk result (λ call. call ≡ self.now) }
         ensures empty { length self.now.values.items ≡ 0 → IsOk result }
@@ -41,8 +42,8 @@ impl Allreduce {
     }
 }
 
-/// Makes a segment of the same number and size, in bytes, at each member, and makes each known to all of them.
-/// (GASPI: segment_create)
+/// Makes an own segment of this id and size, in bytes, at its join; once every member has joined, the segments of all members
+/// are known to the caller's rank. (GASPI: segment_create)
 #[derive(Clone, Copy, Debug, PartialEq, Eq)]
 pub struct Create {
     pub seg: u64,

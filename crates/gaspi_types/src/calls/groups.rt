@@ -1,13 +1,13 @@
-//! The calls on the groups of a rank. (GASPI: groups)
+//! The calls with fields on the groups of the caller's rank, collectives aside. (GASPI: groups)
 
-/// Adds a rank to a group that is being built. (GASPI: group_add)
+/// Adds a rank to a group of the caller's rank whose stage is building. (GASPI: group_add)
 #[derive(Clone, Copy, Debug, PartialEq, Eq)]
 pub struct GroupAdd {
     pub group: u64,
     pub rank: u64,
 }
 
-/// Drops a group. (GASPI: group_delete)
+/// Deletes a group of the caller's rank. (GASPI: group_delete)
 #[derive(Clone, Copy, Debug, PartialEq, Eq)]
 pub struct GroupDelete {
     pub group: u64,

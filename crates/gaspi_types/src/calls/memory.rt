@@ -6,7 +6,7 @@ use crate::lists::{Bytes, Sequence};
 use crate::memory::NoMemory;
 use std::alloc::Global;
 
-/// Writes bytes into an own segment. (own choice)
+/// Writes bytes into an own segment, from `offset` on. (own choice)
 #[derive(Debug, PartialEq, Eq, Drop)]
 pub struct Store {
     pub seg: u64,
@@ -14,7 +14,7 @@ pub struct Store {
     pub bytes: Bytes,
 }
 
-/// Reads bytes of an own segment. (own choice)
+/// Answers `size` bytes of an own segment, from `offset` on. (own choice)
 #[derive(Clone, Copy, Debug, PartialEq, Eq)]
 pub struct Load {
     pub seg: u64,
@@ -23,7 +23,7 @@ pub struct Load {
 }
 
 impl Store {
-    /// An equal store. It takes no memory where it has no bytes.
+    /// An equal store. No memory is taken where the store has no bytes.
     pub fn copy(&self, alloc: Global) -> Result<Store, NoMemory>
         ensures ok { IfOk result (λ store. store ≡ self.now) }
         ensures listless { length self.now.bytes ≡ 0 → IsOk result }

@@ -1,6 +1,6 @@
-//! The calls on notification slots. (GASPI: notifications)
+//! The calls on notification slots of an own segment. (GASPI: notifications)
 
-/// Waits for a notification in a range of slots. (GASPI: notify_waitsome)
+/// Waits until one of `num` slots from `begin` on is not 0, and answers the least such slot. (GASPI: notify_waitsome)
 #[derive(Clone, Copy, Debug, PartialEq, Eq)]
 pub struct Waitsome {
     pub seg: u64,
@@ -8,7 +8,7 @@ pub struct Waitsome {
     pub num: u64,
 }
 
-/// Reads a notification slot and clears it. (GASPI: notify_reset)
+/// Answers the value of a slot, and sets the slot to 0. (GASPI: notify_reset)
 #[derive(Clone, Copy, Debug, PartialEq, Eq)]
 pub struct Reset {
     pub seg: u64,

@@ -9,7 +9,8 @@ pub struct PassiveSend {
     pub size: u64,
 }
 
-/// Receives the first message, of at most so many bytes, into an own segment. (GASPI: passive_receive)
+/// Receives the first message, which may have at most `size` bytes, into an own segment from `offset` on, and answers who sent
+/// it. (GASPI: passive_receive)
 #[derive(Clone, Copy, Debug, PartialEq, Eq)]
 pub struct PassiveReceive {
     pub seg: u64,

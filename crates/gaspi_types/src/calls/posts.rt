@@ -1,4 +1,8 @@
-//! The calls that post entries to a lane. (GASPI: one-sided communication)
+//! The calls that post entries to the lane of a rank and a queue. (GASPI: one-sided communication)
+//!
+//! `seg` and `offset` are of an own segment, `rseg` and `roffset` of a segment of `rank`. `note` is the notification id; its
+//! segment is `nseg` for a list, and for a single post `rseg`, or `seg` after a read. `Item` has what each write and read of
+//! them has in common.
 
 ghost use Rattle.std.specs.Prelude.{◌≡◌, IfOk, IsOk, length};
 ghost use Rattle.gaspi_types.specs.Posts.{is_list_length, write_item, read_item, write_notify_item, read_notify_item};
@@ -7,14 +11,14 @@ use crate::lists::Sequence;
 use crate::memory::NoMemory;
 use std::alloc::Global;
 
-/// Whether a list of so many items may be posted: 1 to 256.
+/// Whether a list post may have that many items: 1 to 256.
 pub fn is_list_length(length: usize) -> bool
     ensures { result ≡ is_list_length length }
 {
     1 <= length && length <= 256
 }
 
-/// What a post transfers: so many bytes, between an own segment and one of the rank that it names.
+/// The ranges of one write or read: `size` bytes of an own segment, and as many of a segment of the call's rank.
 #[derive(Clone, Copy, Debug, PartialEq, Eq)]
 pub struct Item {
     pub seg: u64,
@@ -48,7 +52,7 @@ pub struct Read {
     pub queue: u64,
 }
 
-/// Posts a notification of a rank. (GASPI: notify)
+/// Posts a notification: a slot of a segment of a rank gets a value. (GASPI: notify)
 #[derive(Clone, Copy, Debug, PartialEq, Eq)]
 pub struct Notify {
     pub rseg: u64,
@@ -58,7 +62,7 @@ pub struct Notify {
     pub queue: u64,
 }
 
-/// Posts a write into a segment of a rank, and a notification behind it. (GASPI: write_notify)
+/// Posts a write into a segment of a rank, and behind it a notification of a slot of that segment. (GASPI: write_notify)
 #[derive(Clone, Copy, Debug, PartialEq, Eq)]
 pub struct WriteNotify {
     pub seg: u64,
@@ -72,7 +76,7 @@ pub struct WriteNotify {
     pub queue: u64,
 }
 
-/// Posts a read from a segment of a rank, and behind it a notification of a slot of the own segment. (GASPI: read_notify)
+/// Posts a read from a segment of a rank, and behind it its notification, of a slot of the own segment. (GASPI: read_notify)
 #[derive(Clone, Copy, Debug, PartialEq, Eq)]
 pub struct ReadNotify {
     pub seg: u64,
@@ -112,7 +116,7 @@ pub struct ReadList {
     pub items: Sequence<Item>,
 }
 
-/// Posts reads from segments of a rank, one for each item, and behind them a notification of a slot of an own segment.
+/// Posts reads from segments of a rank, one for each item, and behind them their notification, of a slot of an own segment.
 /// (GASPI: read_list_notify)
 #[derive(Debug, PartialEq, Eq, Drop)]
 pub struct ReadListNotify {
@@ -124,7 +128,7 @@ pub struct ReadListNotify {
 }
 
 impl WriteList {
-    /// An equal call. It takes no memory where it has no items.
+    /// An equal call. No memory is taken where the call has no items.
     pub fn copy(&self, alloc: Global) -> Result<WriteList, NoMemory>
         ensures ok { IfOk result (λ call. call ≡ self.now) }
         ensures listless { length self.now.items ≡ 0 → IsOk result }
@@ -138,7 +142,7 @@ impl WriteList {
 }
 
 impl WriteListNotify {
-    /// An equal call. It takes no memory where it has no items.
+    /// An equal call. No memory is taken where the call has no items.
     pub fn copy(&self, alloc: Global) -> Result<WriteListNotify, NoMemory>
         ensures ok { IfOk result (λ call. call ≡ self.now) }
         ensures listless { length self.now.items ≡ 0 → IsOk result }
@@ -155,7 +159,7 @@ impl WriteListNotify {
 }
 
 impl ReadList {
-    /// An equal call. It takes no memory where it has no items.
+    /// An equal call. No memory is taken where the call has no items.
     pub fn copy(&self, alloc: Global) -> Result<ReadList, NoMemory>
         ensures ok { IfOk result (λ call. call ≡ self.now) }
         ensures listless { length self.now.items ≡ 0 → IsOk result }
@@ -169,7 +173,7 @@ impl ReadList {
 }
 
 impl ReadListNotify {
-    /// An equal call. It takes no memory where it has no items.
+    /// An equal call. No memory is taken where the call has no items.
     pub fn copy(&self, alloc: Global) -> Result<ReadListNotify, NoMemory>
         ensures ok { IfOk result (λ call. call ≡ self.now) }
         ensures listless { length self.now.items ≡ 0 → IsOk result }
@@ -185,7 +189,7 @@ impl ReadListNotify {
 }
 
 impl Write {
-    /// What it transfers.
+    /// The ranges of the one write or read of this call.
     pub fn item(&self) -> Item
         ensures { result ≡ write_item self.now }
     {
@@ -200,7 +204,7 @@ impl Write {
 }
 
 impl Read {
-    /// What it transfers.
+    /// The ranges of the one write or read of this call.
     pub fn item(&self) -> Item
         ensures { result ≡ read_item self.now }
     {
@@ -215,7 +219,7 @@ impl Read {
 }
 
 impl WriteNotify {
-    /// What it transfers.
+    /// The ranges of the one write or read of this call.
     pub fn item(&self) -> Item
         ensures { result ≡ write_notify_item self.now }
     {
@@ -230,7 +234,7 @@ impl WriteNotify {
 }
 
 impl ReadNotify {
-    /// What it transfers.
+    /// The ranges of the one write or read of this call.
     pub fn item(&self) -> Item
         ensures { result ≡ read_notify_item self.now }
     {

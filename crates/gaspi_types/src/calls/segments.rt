@@ -1,6 +1,6 @@
-//! The calls of segments. (GASPI: segments)
+//! The calls that make an own segment, make it known, and delete it. (GASPI: segments)
 
-/// Makes an own segment of that size, zeros with all slots zero. (GASPI: segment_alloc)
+/// Makes an own segment of that size, in bytes, with all bytes and slots 0. (GASPI: segment_alloc)
 #[derive(Clone, Copy, Debug, PartialEq, Eq)]
 pub struct Alloc {
     pub seg: u64,
@@ -14,7 +14,7 @@ pub struct Register {
     pub rank: u64,
 }
 
-/// Drops an own segment. (GASPI: segment_delete)
+/// Deletes an own segment with its slots. (GASPI: segment_delete)
 #[derive(Clone, Copy, Debug, PartialEq, Eq)]
 pub struct Delete {
     pub seg: u64,
