@@ -41,7 +41,7 @@ fn empty_table<'a>(alloc: Global) -> Result<RecordedCalls<'a>, NoMemory>
     Ok(table)
 }
 
-/// Adds a call behind the others of its caller. The table has to have a list for each caller.
+/// Adds the call `own` behind the others of its caller. The table has to have a list for each caller.
 fn add_call<'a>(
     table: &mut RecordedCalls<'a>,
     caller: CallerId,

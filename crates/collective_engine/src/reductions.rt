@@ -20,8 +20,8 @@ fn values(buffers: &Buffers, round: u32, rank: RankId) -> &[i128]
     given(buffers, round, rank).unwrap().values()
 }
 
-/// Reduces the contributions of these members to a round onto `total`, in their order. Each has contributed as many values, of the
-/// same type.
+/// Reduces the contributions of these members to a round onto `total`, in their order. Each has contributed as many values as
+/// `total` has, of the same type.
 fn reduce_onto(
     buffers: &Buffers,
     round: u32,

@@ -2,8 +2,8 @@
 //! entries, queues and events; segments with their tables, messages, groups; and two kinds of lists. Functions here make, copy
 //! and read such values. None knows a state of the machine.
 //!
-//! Here and in all crates `alloc` is where memory is taken from, and a contract sees of a value its model: what `impl Model`
-//! says.
+//! Here and in all crates `alloc` is where memory is taken from, `rt` is the runtime handle by which a thread waits and starts
+//! others, and a contract sees of a value its model: what `impl Model` says.
 #![tactic(auto)]
 
 mod buffers;

@@ -23,7 +23,7 @@ pub trait Body {
     /// What `run` did: body and pass before it, body and pass after it.
     ghost did: { Self → PassValue Start Event → Self → PassValue Start Event → Type 0 };
 
-    /// Does it, once. No failure is answered: what came of the run is in the body.
+    /// Does it, once. It may wait by `rt`; `did` holds if it returns. No failure is answered: what came of it is in the body.
     fn run<R: Wait>(&mut self, rt: &R, alloc: Global, world: &World, pass: &mut Pass)
         requires { needs self.old world.now pass.old }
         ensures { did self.old pass.old self.new pass.new };

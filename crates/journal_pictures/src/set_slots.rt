@@ -90,7 +90,7 @@ fn receiver(direction: Direction, origin: RankId, target: RankId) -> RankId
     }
 }
 
-/// Changes the set slots by a put at a place: `entry` is the open entry that is put. Only a notification sets a slot.
+/// Changes the set slots by a put at a place that is applied: `entry` is the open entry that is put. Only a notification sets a slot.
 fn pass_put(
     slots: &mut Sequence<SetSlot>,
     place: u64,

@@ -2,8 +2,8 @@
 //! posts of a peer, a group. `plain_machine` is put together from them. `rank_node`, which has stores in place of these values, uses
 //! the functions that take single tables.
 //!
-//! The files are named after the kinds of calls, but for `calls` and `collective_calls`, which choose, `recording` and
-//! `collective_steps`, which make steps, and `lanes`, `memories`, `threads`, `looks`, `replies` and `openings`, which serve the
+//! The files are named after the kinds of calls, but for `calls`, which chooses, `recording` and `collective_steps`, which make
+//! steps, and `lanes`, `memories`, `threads`, `looks`, `replies`, `posting`, `contributions` and `openings`, which serve the
 //! others. A clause with `IsBounded` or 2^32 requires that the numbers which a function raises still fit their types; in a sound
 //! state they do.
 #![tactic(auto)]
