@@ -9,11 +9,9 @@ from dataclasses import dataclass, field
 from difflib import SequenceMatcher
 from pathlib import Path
 
-from sources import Function, functions_in
+from sources import Function, blanked, functions_in
 
 PARTS = ("src", "specs", "proofs")
-# Lines outside functions that change the meaning of none.
-PLAIN = re.compile(r"\s*(?://.*|(?:pub )?(?:ghost )?use .*|)\Z")
 
 
 class NotApplied(Exception):
@@ -35,6 +33,15 @@ class Hunk:
         return self.path == other.path and not apart
 
 
+@dataclass(frozen=True)
+class Twin:
+    """A wrong body in a function of its own, behind the right one, with a copy of the proof that it has in files."""
+
+    function: Function
+    hunk: Hunk
+    proof: dict[str, str]
+
+
 @dataclass
 class WrongBody:
     """A wrong body of a crate, as its file has it."""
@@ -47,13 +54,26 @@ class WrongBody:
     functions: list[Function] = field(default_factory=list)
     is_whole: bool = False  # whether only a check of the whole crate can tell
     is_alone: bool = False  # whether it changes more than bodies
+    twin: Twin | None = None  # where it is tried beside the right body, which others call
 
     @property
     def label(self) -> str:
         return f"{self.crate}/{self.name}"
 
+    @property
+    def judged(self) -> list[Function]:
+        """The functions that tell of it."""
+        return [self.twin.function] if self.twin else self.functions
+
+    @property
+    def placed(self) -> list[Hunk]:
+        """The lines that it puts into a copy."""
+        return [self.twin.hunk] if self.twin else self.hunks
+
     def fits_beside(self, other: WrongBody) -> bool:
         """Whether both can stand in one copy, each judged by its own functions."""
+        if self.twin or other.twin:
+            return bool(self.twin and other.twin)
         names = {it.name for it in self.functions}
         if self.is_alone or other.is_alone or names & {it.name for it in other.functions}:
             return False
@@ -130,18 +150,43 @@ def read(crate: str, file: Path, texts: dict[str, str]) -> WrongBody:
         raise NotApplied("it changes nothing")
     body.is_whole |= not body.functions
     body.is_alone |= body.is_whole
+    body.twin = None if body.is_alone else twin_of(body, texts)
     return body
 
 
+def twin_of(body: WrongBody, texts: dict[str, str]) -> Twin | None:
+    """The wrong body as a function beside the right one. None where it changes several, one of a trait, or one that calls itself."""
+    path, right = body.hunks[0].path, body.functions[0]
+    *owner, name = right.name.removeprefix(f"{right.module}::").split("::")
+    wrong = [it for it in functions_in(path, body.texts[path]) if it.name == right.name]
+    if len(body.functions) > 1 or right.is_of_trait or len(wrong) != 1:
+        return None
+    text = "\n".join(body.texts[path].split("\n")[wrong[0].first : wrong[0].behind])
+    quiet = blanked(text)
+    if re.search(rf"\b(?:self\.|Self::|{owner[-1]}::){name}\b" if owner else rf"(?<![.\w]){name}(?:::<|\()", quiet.replace(f"fn {name}", "")):
+        return None
+    new = f"{name}_{re.sub(r'[^a-z0-9]', '_', body.name)}"
+    at = re.search(rf"\bfn\s+{name}\b", quiet).end()
+    lines = tuple((text[: at - len(name)] + new + text[at:]).split("\n"))
+    # A proof's folder is named by the module of the type, wherever the method stands.
+    ending = "/".join([*(owner or right.module.split("::")), name])
+    proof = {}
+    for file, said in texts.items():
+        if found := re.match(rf"proofs/((?:.*/)?{ending})/(.*)", file):
+            was = found[1].replace("/", ".")
+            here = file.removeprefix(f"proofs/{found[1]}")
+            proof[f"proofs/{found[1].removesuffix(name)}{new}{here}"] = said.replace(f".proofs.{was}.", f".proofs.{was.removesuffix(name)}{new}.")
+    function = Function(f"{right.name.removesuffix(name)}{new}", right.module, right.first, right.behind)
+    return Twin(function, Hunk(path, right.behind, right.behind, lines), proof)
+
+
 def note(body: WrongBody, known: list[Function], left: list[Function], lines: list[str], changed: range) -> None:
-    """Adds the functions of the changed lines, and says whether lines outside functions have a meaning."""
+    """Adds the functions of the changed lines, and says whether other lines are changed."""
     names = {it.name for it in left}
     for number in changed:
         owner = next((it for it in known if it.first <= number < it.behind), None)
         if owner is None or owner.name not in names:
-            # A function that goes is missed by whoever called it, and a line between functions by any of them.
-            is_plain = PLAIN.match(lines[number])
-            body.is_whole |= not is_plain
+            # Such a line is there for the functions that are changed with it: where these are proved, the crate is tried whole.
             body.is_alone = True
         elif owner.name not in {it.name for it in body.functions}:
             body.functions.append(owner)
@@ -149,11 +194,14 @@ def note(body: WrongBody, known: list[Function], left: list[Function], lines: li
 
 def merged(texts: dict[str, str], bodies: list[WrongBody]) -> tuple[dict[str, str], dict[str, list[tuple[int, int, WrongBody]]]]:
     """The texts with all these wrong bodies, and by path which lines, from 1, are whose."""
-    texts, owners = dict(bodies[0].texts if len(bodies) == 1 else texts), {}
-    for path in {hunk.path for body in bodies for hunk in body.hunks}:
-        is_there, shift = len(bodies) == 1, 0
+    is_there = len(bodies) == 1 and not bodies[0].twin
+    texts, owners = dict(bodies[0].texts if is_there else texts), {}
+    for body in bodies:
+        texts |= body.twin.proof if body.twin else {}
+    for path in {hunk.path for body in bodies for hunk in body.placed}:
+        shift = 0
         lines = texts.get(path, "").split("\n")
-        placed = sorted(((hunk.first, hunk.behind, hunk, body) for body in bodies for hunk in body.hunks if hunk.path == path), key=lambda it: it[:2])
+        placed = sorted(((hunk.first, hunk.behind, hunk, body) for body in bodies for hunk in body.placed if hunk.path == path), key=lambda it: it[:2])
         for first, behind, hunk, body in placed:
             if not is_there:
                 lines[first + shift : behind + shift] = hunk.lines

@@ -23,6 +23,7 @@ class Function:
     module: str  # the path of its file or module
     first: int  # its first line, from 0
     behind: int  # the line behind its last
+    is_of_trait: bool = False  # whether it stands in a trait or in an impl of one
 
 
 def blanked(text: str) -> str:
@@ -80,7 +81,7 @@ def functions_in(path: str, text: str) -> list[Function]:
                     return place
         return len(quiet)
 
-    def items(start: int, end: int, module: str, prefix: str) -> None:
+    def items(start: int, end: int, module: str, prefix: str, is_of_trait: bool = False) -> None:
         above = place = start
         while token := TOKEN.search(quiet, place, end):
             place = token.end()
@@ -95,7 +96,8 @@ def functions_in(path: str, text: str) -> list[Function]:
                 place = body_end(name.end())
                 # The lines above it begin behind the last item.
                 first = line(above) + (1 if "\n" in quiet[above : token.start()] else 0)
-                found.append(Function("::".join(it for it in (prefix, name[1]) if it), module, first, line(place - 1) + 1))
+                path_of = "::".join(it for it in (prefix, name[1]) if it)
+                found.append(Function(path_of, module, first, line(place - 1) + 1, is_of_trait))
                 above = place
             elif token[0] in ("impl", "trait", "mod"):
                 opens = re.compile(r"[{;]").search(quiet, place, end)
@@ -104,7 +106,8 @@ def functions_in(path: str, text: str) -> list[Function]:
                 header, stop = quiet[place : opens.start()], closed(quiet, opens.start())
                 word = impl_name(header) if token[0] == "impl" else re.search(r"\w+", header)[0]
                 inner = "::".join(it for it in (module, word) if it)
-                items(opens.end(), stop - 1, *((inner, inner) if token[0] == "mod" else (module, word)))
+                of_trait = token[0] == "trait" or " for " in header
+                items(opens.end(), stop - 1, *((inner, inner, is_of_trait) if token[0] == "mod" else (module, word, of_trait)))
                 above = place = stop
 
     items(0, len(quiet), module_of(path), module_of(path))
