@@ -12,7 +12,7 @@ ghost use Rattle.call_texts.specs.declared.fields.Field.TheVariants.{Number, Val
 use crate::elements::{read_elements, read_op, read_type};
 use crate::hexes::read_bytes;
 use crate::numbers::{read_number, read_value};
-use gaspi_types::{Bytes, Item, NoMemory, NumType, Numbers, Op, Sequence};
+use gaspi_types::{BoxedSequence, Bytes, Item, NoMemory, NumType, Numbers, Op, Sequence};
 use std::alloc::Global;
 
 /// The words of fields that were not read yet.
@@ -152,6 +152,7 @@ impl<'b, 'a> FieldWords<'b, 'a> {
         let Some(items) = read_elements(alloc, num_type, front)? else {
             return Ok(None);
         };
+        let items = BoxedSequence::from_sequence(alloc, items)?;
         Ok(Some(Numbers::new(num_type, items)))
     }
 }

@@ -9,7 +9,7 @@ ghost use Rattle.collective_engine.specs.RoundBuffers.{contribution_by};
 
 use crate::buffers::{Buffers, given};
 use gaspi_model::reduce;
-use gaspi_types::{NumType, Numbers, Op, RankId, Sequence};
+use gaspi_types::{BoxedSequence, NumType, Numbers, Op, RankId};
 
 /// The values of a rank's contribution to a round. The rank has contributed.
 fn values(buffers: &Buffers, round: u32, rank: RankId) -> &[i128]
@@ -27,13 +27,14 @@ fn reduce_onto(
     round: u32,
     op: Op,
     num_type: NumType,
-    total: &mut [i128],
+    total: &mut BoxedSequence<i128>,
     members: &[RankId],
 )
     requires range { AreInType num_type total.old }
     requires given { AllByRecursion (λ m. GivesNumbers num_type (length total.old) (contribution_by buffers.now round m)) members.now }
     ensures reduced { total.new ≡ reduced_onto (contribution_by buffers.now round) op num_type total.old members.now }
     ensures range { AreInType num_type total.new }
+    ensures lengths { length total.new ≡ length total.old }
 {
     match members {
         [] => {}
@@ -44,6 +45,16 @@ fn reduce_onto(
     }
 }
 
+/// The list `reserved` with these items in place of its own. It is long enough. It takes no memory.
+fn filled(mut reserved: BoxedSequence<i128>, items: &[i128]) -> BoxedSequence<i128>
+    requires { length items.now ≤ length reserved }
+    ensures { result ≡ items.now }
+{
+    reserved.truncate(items.len());
+    reserved.overwrite(0, items);
+    reserved
+}
+
 /// The reduction of the contributions of these members to a round, in their order, in the list `reserved`, which is long enough.
 /// Each has contributed `count` values of the same type. It takes no memory.
 pub(crate) fn reduction_of(
@@ -52,7 +63,7 @@ pub(crate) fn reduction_of(
     op: Op,
     num_type: NumType,
     count: u32,
-    mut reserved: Sequence<i128>,
+    reserved: BoxedSequence<i128>,
     members: &[RankId],
 ) -> Numbers
     requires reserved { count ≤ length reserved }
@@ -61,16 +72,11 @@ pub(crate) fn reduction_of(
     ensures numbers { result ≡ reduction_of (contribution_by buffers.now round) op num_type members.now }
 {
     match members {
-        [] => {
-            reserved.truncate(0);
-            Numbers::new(num_type, reserved)
-        }
+        [] => Numbers::new(num_type, BoxedSequence::new()),
         [first, others @ ..] => {
-            reserved.truncate(count as usize);
-            reserved.overwrite(0, values(buffers, round, *first));
-            let mut items = reserved.into_vec();
-            reduce_onto(buffers, round, op, num_type, items.as_mut_slice(), others);
-            Numbers::new(num_type, Sequence::from_vec(items))
+            let mut total = filled(reserved, values(buffers, round, *first));
+            reduce_onto(buffers, round, op, num_type, &mut total, others);
+            Numbers::new(num_type, total)
         }
     }
 }

@@ -15,7 +15,7 @@ use crate::generations::Generations;
 use crate::reading::{check, generations, is_full, own_coll};
 use crate::reductions::reduction_of;
 use gaspi_model::{Members, members_of};
-use gaspi_types::{Args, Coll, NoMemory, Numbers, RankId, Refusal, Sequence, is_member};
+use gaspi_types::{Args, BoxedSequence, Coll, NoMemory, Numbers, RankId, Refusal, is_member};
 use std::alloc::Global;
 use std::marker::Model;
 
@@ -152,7 +152,7 @@ impl Rounds {
     /// The reduction of the values of all members in the round of a rank, in the order of the ranks. The rank is a member, the round
     /// is full, and it is an allreduce. The values are put into `reserved`, which is long enough, as `elements` tells. It takes no
     /// memory. (GASPI: allreduce)
-    pub fn result(&self, rank: RankId, reserved: Sequence<i128>) -> Numbers
+    pub fn result(&self, rank: RankId, reserved: BoxedSequence<i128>) -> Numbers
         requires member { is_in self.now.members rank ≡ true }
         requires full { is_full_for self.now rank ≡ true }
         requires reserved { TakesFold (elements_of (coll_in (own_contribution self.now rank))) (length reserved) }

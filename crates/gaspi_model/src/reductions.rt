@@ -4,7 +4,7 @@ ghost use Rattle.std.specs.Prelude.{◌≡◌, ◌+ℤ◌, true, length};
 ghost use Rattle.gaspi_types.specs.Collectives.{wrapped, reduced, combined};
 ghost use Rattle.gaspi_types.specs.NumberTypes.{is_in_type, AreInType};
 
-use gaspi_types::{NumType, Op};
+use gaspi_types::{BoxedSequence, NumType, Op};
 
 /// The sum of two numbers, wrapped in the bits of their type.
 fn sum(num_type: NumType, a: i128, b: i128) -> i128
@@ -40,14 +40,16 @@ fn reduced(op: Op, num_type: NumType, a: i128, b: i128) -> i128
 /// Reduces the values of one more member onto `total`: each item becomes the lesser, the greater or the sum of itself and the
 /// value at its index; a sum wraps in the bits of the type. Both lists are as long, with all numbers in the range of the type,
 /// and so are the new ones. (GASPI: allreduce)
-pub fn reduce(op: Op, num_type: NumType, total: &mut [i128], values: &[i128])
+pub fn reduce(op: Op, num_type: NumType, total: &mut BoxedSequence<i128>, values: &[i128])
     requires lengths { length total.old ≡ length values.now }
     requires total { AreInType num_type total.old }
     requires values { AreInType num_type values.now }
     ensures reduced { total.new ≡ combined op num_type total.old values.now }
     ensures range { AreInType num_type total.new }
+    ensures lengths { length total.new ≡ length total.old }
 {
     for (index, value) in values.iter().enumerate() {
-        total[index] = reduced(op, num_type, total[index], *value);
+        let next = reduced(op, num_type, total.as_slice()[index], *value);
+        total.set(index, next);
     }
 }

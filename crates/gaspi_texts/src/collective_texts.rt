@@ -9,7 +9,7 @@ use call_texts::{
     append_elements, append_numbers, append_word, op_word, read_elements, read_op, read_type,
     read_value, type_word,
 };
-use gaspi_types::{Args, Bytes, Coll, NoMemory, NumType, Numbers, Sequence};
+use gaspi_types::{Args, BoxedSequence, Bytes, Coll, NoMemory, NumType, Numbers};
 use std::alloc::Global;
 
 /// The number that the only word spells.
@@ -104,7 +104,7 @@ fn read_values(alloc: Global, coll: Coll, words: &[&[u8]]) -> Result<Option<Numb
     ensures { IfOk result (λ values. values ≡ values_of coll (map (λ word. word.now) words.now)) }
 {
     let Coll::Allreduce(_, num_type, count) = coll else {
-        return Ok(Some(Numbers::new(NumType::Int, Sequence::new(alloc))));
+        return Ok(Some(Numbers::new(NumType::Int, BoxedSequence::new())));
     };
     if words.len() != count as usize {
         return Ok(None);
@@ -112,6 +112,7 @@ fn read_values(alloc: Global, coll: Coll, words: &[&[u8]]) -> Result<Option<Numb
     let Some(items) = read_elements(alloc, num_type, words)? else {
         return Ok(None);
     };
+    let items = BoxedSequence::from_sequence(alloc, items)?;
     Ok(Some(Numbers::new(num_type, items)))
 }
 

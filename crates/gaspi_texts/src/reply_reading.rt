@@ -12,7 +12,7 @@ ghost use Rattle.gaspi_texts.specs.ReplyText.{plain_reply, value_reply, bytes_re
 use crate::collective_texts::{read_coll, read_field};
 use crate::reply_words::{ReplyWord, read_stage};
 use call_texts::{read_bytes, read_elements, read_number, read_type, read_value};
-use gaspi_types::{NoMemory, Numbers, Refusal, Reply, Stage};
+use gaspi_types::{BoxedSequence, NoMemory, Numbers, Refusal, Reply, Stage};
 use std::alloc::Global;
 
 /// This refusal, which has no field; None where there is a word.
@@ -127,6 +127,7 @@ fn read_list_reply(alloc: Global, words: &[&[u8]]) -> Result<Option<Reply>, NoMe
     let Some(items) = read_elements(alloc, num_type, elements)? else {
         return Ok(None);
     };
+    let items = BoxedSequence::from_sequence(alloc, items)?;
     Ok(Some(Reply::List(Numbers::new(num_type, items))))
 }
 

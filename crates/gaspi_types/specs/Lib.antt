@@ -1,3 +1,4 @@
+pub mod BoxedLists
 pub mod Buffered
 pub mod CallRows
 pub mod Checks

@@ -5,7 +5,7 @@ ghost use Rattle.std.specs.Prelude.{◌≡◌, ◌↔◌, IsTrue, IfOk, IsOk, le
 ghost use Rattle.std.specs.List.{list_all};
 ghost use Rattle.gaspi_types.specs.NumberTypes.{lowest, highest, is_in_type, AreInType};
 
-use crate::lists::Sequence;
+use crate::lists::BoxedSequence;
 use crate::memory::NoMemory;
 use std::alloc::Global;
 use std::marker::Model;
@@ -106,7 +106,7 @@ pub fn are_in_type(num_type: NumType, numbers: &[i128]) -> bool
 #[derive(Debug, PartialEq, Eq, Drop)]
 pub struct Numbers {
     num_type: NumType,
-    items: Sequence<i128>,
+    items: BoxedSequence<i128>,
 }
 
 impl Model for Numbers {
@@ -123,7 +123,7 @@ impl Model for Numbers {
 
 impl Numbers {
     /// Numbers of a type, which have to be in its range, as `are_in_type` answers. No memory is taken.
-    pub fn new(num_type: NumType, items: Sequence<i128>) -> Numbers
+    pub fn new(num_type: NumType, items: BoxedSequence<i128>) -> Numbers
         requires { AreInType num_type items }
         ensures { result ≡ record { num_type = num_type; items = items } }
     {
@@ -152,7 +152,7 @@ impl Numbers {
     {
         Ok(Numbers {
             num_type: self.num_type,
-            items: Sequence::copied_from(alloc, self.items.as_slice())?,
+            items: BoxedSequence::copied_from(alloc, self.items.as_slice())?,
         })
     }
 }

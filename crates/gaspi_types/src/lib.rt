@@ -45,7 +45,7 @@ pub use groups::{
 pub use ids::{GroupId, NoteId, QueueId, RankId, SegId, ThreadId};
 pub use inboxes::{Message, Messages, is_passive_size};
 pub use invocations::Invocation;
-pub use lists::{Bytes, Sequence};
+pub use lists::{BoxedSequence, Bytes, Sequence};
 pub use masks::{all_below, is_member, mask_of, with_member};
 pub use memory::NoMemory;
 pub use replies::{Ready, Refusal, Reply};

@@ -1,4 +1,5 @@
-//! Lists (`Sequence`) that contracts see as their items alone: no capacity and no pointer is in an equation about them.
+//! Lists (`Sequence`, `BoxedSequence`) that contracts see as their items alone: no capacity and no pointer is in an equation about
+//! them.
 //!
 //! A function that may take memory answers `NoMemory` where memory runs out, and then its list is as before. The others take
 //! none. A parameter `place` is an index in the list.
@@ -181,6 +182,14 @@ impl<T: Copy> Sequence<T> {
         Ok(())
     }
 
+    /// Writes `item` over the item at the index `place`, which has to be below the length. Every other item stays.
+    pub fn set(&mut self, place: usize, item: T)
+        requires { place < length self.old }
+        ensures { self.new ≡ slice_set self.old place item }
+    {
+        self.items[place] = item;
+    }
+
     /// Writes copies of the items over the items from the index `place` on. There have to be as many; all other items and the
     /// length stay.
     pub fn overwrite(&mut self, place: usize, items: &[T])
@@ -206,5 +215,113 @@ impl<T: PartialEq> PartialEq for Sequence<T> {
 }
 
 impl<T: Eq> Eq for Sequence<T> {
+    ghost laws = { lists_equiv T.Eq.laws };
+}
+
+/// A list of items behind a box, for lists that are rare: where it stands it takes 16 bytes, the items elsewhere. It does not grow.
+/// The empty list takes no memory.
+#[derive(Debug, Drop)]
+pub struct BoxedSequence<T> {
+    boxed: Option<Box<Sequence<T>>>,
+}
+
+impl<T> Model for BoxedSequence<T> {
+    ghost use Rattle.std.specs.Prelude.{List};
+    ghost use Rattle.gaspi_types.specs.BoxedLists.{boxed_items};
+
+    ghost Value = { List T };
+
+    ghost view = { λ list. boxed_items list.boxed };
+}
+
+impl<T> BoxedSequence<T> {
+    /// The empty list. It takes no memory.
+    pub fn new() -> BoxedSequence<T>
+        ensures { result ≡ [] }
+    {
+        BoxedSequence { boxed: None }
+    }
+
+    /// The items of a list, put behind a box. After `NoMemory` they are dropped.
+    pub fn from_sequence(alloc: Global, items: Sequence<T>) -> Result<BoxedSequence<T>, NoMemory>
+    where
+        T: Drop,
+        ensures { IfOk result (λ list. list ≡ items) }
+    {
+        Ok(BoxedSequence {
+            boxed: Some(Box::new(alloc, items)?),
+        })
+    }
+
+    /// The items, lent.
+    pub fn as_slice(&self) -> &[T]
+        ensures { result.now ≡ self.now }
+    {
+        match &self.boxed {
+            Some(items) => items.as_slice(),
+            None => &[],
+        }
+    }
+
+    /// Keeps the first `count` items, or all where there are fewer. The others are dropped.
+    pub fn truncate(&mut self, count: usize)
+    where
+        T: Drop,
+        ensures { self.new ≡ take count self.old }
+    {
+        if let Some(items) = &mut self.boxed {
+            items.truncate(count);
+        }
+    }
+}
+
+impl<T: Copy> BoxedSequence<T> {
+    /// A list of copies of the items. It takes no memory where there are none.
+    pub fn copied_from(alloc: Global, items: &[T]) -> Result<BoxedSequence<T>, NoMemory>
+    where
+        T: Drop,
+        ensures ok { IfOk result (λ list. list ≡ items.now) }
+        ensures empty { length items.now ≡ 0 → IsOk result }
+    {
+        if items.is_empty() {
+            return Ok(BoxedSequence::new());
+        }
+        BoxedSequence::from_sequence(alloc, Sequence::copied_from(alloc, items)?)
+    }
+
+    /// Writes `item` over the item at the index `place`, which has to be below the length. Every other item stays.
+    pub fn set(&mut self, place: usize, item: T)
+        requires { place < length self.old }
+        ensures { self.new ≡ slice_set self.old place item }
+    {
+        if let Some(items) = &mut self.boxed {
+            items.set(place, item);
+        }
+    }
+
+    /// Writes copies of the items over the items from the index `place` on. There have to be as many; all other items and the
+    /// length stay.
+    pub fn overwrite(&mut self, place: usize, items: &[T])
+        requires { place + length items.now ≤ length self.old }
+        ensures { self.new ≡ take place self.old ++ items.now ++ drop (place + length items.now) self.old }
+    {
+        if let Some(list) = &mut self.boxed {
+            list.overwrite(place, items);
+        }
+    }
+}
+
+impl<T: PartialEq> PartialEq for BoxedSequence<T> {
+    ghost eq = { λ a b. pointwise T.eq a b };
+
+    ghost laws = { lists_per T.laws };
+
+    /// Whether the items are equal, one by one.
+    fn eq(&self, other: &Self) -> bool {
+        self.as_slice() == other.as_slice()
+    }
+}
+
+impl<T: Eq> Eq for BoxedSequence<T> {
     ghost laws = { lists_equiv T.Eq.laws };
 }

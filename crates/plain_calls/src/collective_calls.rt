@@ -18,8 +18,8 @@ use crate::group_calls::pending_on;
 use crate::threads::{is_running, thread_at};
 use gaspi_model::{Posts, check_count, check_type, resume, same_args};
 use gaspi_types::{
-    Allreduce, Args, Barrier, Call, CallerId, Coll, Commit, Create, Group, GroupId, Handle,
-    Handles, NoMemory, NumType, Numbers, RankId, Ready, Refusal, Reply, Resume, Sequence, Stage,
+    Allreduce, Args, Barrier, BoxedSequence, Call, CallerId, Coll, Commit, Create, Group, GroupId,
+    Handle, Handles, NoMemory, NumType, Numbers, RankId, Ready, Refusal, Reply, Resume, Stage,
     ThreadId, is_member,
 };
 use segment_store::check_alloc;
@@ -86,10 +86,10 @@ pub fn called_on(groups: &Handles, me: RankId, id: u64, call: &Call) -> Result<H
 }
 
 /// No values. Their type is of no account.
-fn no_values(alloc: Global) -> Numbers
+fn no_values() -> Numbers
     ensures { result ≡ no_values }
 {
-    Numbers::new(NumType::Int, Sequence::new(alloc))
+    Numbers::new(NumType::Int, BoxedSequence::new())
 }
 
 /// What a create asks for; None where its id or its size is over 32 bits.
@@ -131,7 +131,7 @@ pub fn args_of(alloc: Global, members: u32, call: &Call) -> Result<Option<Args>,
     match plain_coll(members, call) {
         Some(coll) => Ok(Some(Args {
             coll,
-            values: no_values(alloc),
+            values: no_values(),
         })),
         None => Ok(None),
     }

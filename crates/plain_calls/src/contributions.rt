@@ -13,8 +13,8 @@ ghost use Rattle.plain_calls.specs.Rounds.{AreAlike};
 
 use gaspi_model::{Members, Posts, check_fits, members_of, reduce};
 use gaspi_types::{
-    Coll, Contribution, Extent, Group, NoMemory, NumType, Numbers, Op, RankContributions, RankId,
-    Refusal, Sequence,
+    BoxedSequence, Coll, Contribution, Extent, Group, NoMemory, NumType, Numbers, Op,
+    RankContributions, RankId, Refusal,
 };
 use segment_store::set_known;
 use std::alloc::Global;
@@ -99,7 +99,7 @@ fn values_in(group: &Group, round: u32, rank: RankId) -> &[i128]
 /// Reduces the values of a rank's contribution onto `total`, item by item. The rank has contributed, and its values are as many and
 /// of the same type.
 fn reduce_contribution(
-    total: &mut [i128],
+    total: &mut BoxedSequence<i128>,
     op: Op,
     num_type: NumType,
     group: &Group,
@@ -111,6 +111,7 @@ fn reduce_contribution(
     requires range { AreInType num_type total.old }
     ensures reduced { total.new ≡ combined op num_type total.old (values_in (contribution_in group.now round rank)) }
     ensures range { AreInType num_type total.new }
+    ensures lengths { length total.new ≡ length total.old }
 {
     reduce(op, num_type, total, values_in(group, round, rank));
 }
@@ -118,7 +119,7 @@ fn reduce_contribution(
 /// Reduces the contributions of these ranks onto `total`, one after another, in their order. Each of them has contributed as many
 /// values, of the same type.
 fn reduce_onto(
-    total: &mut [i128],
+    total: &mut BoxedSequence<i128>,
     op: Op,
     num_type: NumType,
     group: &Group,
@@ -130,6 +131,7 @@ fn reduce_onto(
     requires range { AreInType num_type total.old }
     ensures reduced { total.new ≡ reduced_onto (contribution_in group.now round) op num_type total.old members.now }
     ensures range { AreInType num_type total.new }
+    ensures lengths { length total.new ≡ length total.old }
 {
     match members {
         [] => {}
@@ -155,12 +157,11 @@ fn reduction_of(
     ensures { IfOk result (λ numbers. numbers ≡ reduction_of (contribution_in group.now round) op num_type members.now) }
 {
     match members {
-        [] => Ok(Numbers::new(num_type, Sequence::new(alloc))),
+        [] => Ok(Numbers::new(num_type, BoxedSequence::new())),
         [first, others @ ..] => {
-            let mut total = Vec::from_slice(alloc, values_in(group, round, *first))?;
-            let items = total.as_mut_slice();
-            reduce_onto(items, op, num_type, group, round, others);
-            Ok(Numbers::new(num_type, Sequence::from_vec(total)))
+            let mut total = BoxedSequence::copied_from(alloc, values_in(group, round, *first))?;
+            reduce_onto(&mut total, op, num_type, group, round, others);
+            Ok(Numbers::new(num_type, total))
         }
     }
 }

@@ -21,8 +21,8 @@ use crate::nodes::GroupNode;
 use crate::reserved_numbers::{ReservedNumbers, blank, take_numbers};
 use crate::resuming::resumes;
 use gaspi_types::{
-    Args, Call, Coll, NoMemory, PendingCollective, RankId, Ready, Refusal, Reply, Resume, Sequence,
-    ThreadId,
+    Args, BoxedSequence, Call, Coll, NoMemory, PendingCollective, RankId, Ready, Refusal, Reply,
+    Resume, ThreadId,
 };
 use plain_calls::{args_of, called_on, check_fixed, collective_ready};
 use segment_store::check_alloc;
@@ -71,7 +71,7 @@ fn fresh_result(
 
 /// The reply of a collective whose round is full: for an allreduce the reduction, in `list`, which is long enough. It takes no
 /// memory. (GASPI: allreduce)
-fn full_reply(group: &GroupNode, me: RankId, call: &Call, list: Sequence<i128>) -> Reply
+fn full_reply(group: &GroupNode, me: RankId, call: &Call, list: BoxedSequence<i128>) -> Reply
     requires member { is_in group.now.rounds.members me ≡ true }
     requires full { is_full_for group.now.rounds me ≡ true }
     requires capacity { TakesOwn call.now group.now.rounds me (length list) }
@@ -85,13 +85,13 @@ fn full_reply(group: &GroupNode, me: RankId, call: &Call, list: Sequence<i128>) 
 }
 
 /// As many zeros as a call has elements. Only an allreduce takes memory.
-fn blank_for(alloc: Global, call: &Call) -> Result<Sequence<i128>, NoMemory>
+fn blank_for(alloc: Global, call: &Call) -> Result<BoxedSequence<i128>, NoMemory>
     ensures capacity { IfOk result (λ numbers. length numbers ≡ elements_in call.now) }
     ensures ample { (row_of call.now).takes_memory ≡ false → IsOk result }
 {
     match call {
         Call::Allreduce(call) => blank(alloc, call.values.items().len()),
-        _ => Ok(Sequence::new(alloc)),
+        _ => Ok(BoxedSequence::new()),
     }
 }
 

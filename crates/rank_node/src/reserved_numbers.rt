@@ -5,7 +5,7 @@ ghost use Rattle.std.specs.Prelude.{◌≡◌, ◌≤◌, length, false, IfOk, I
 ghost use Rattle.gaspi_types.specs.CallRows.{row_of};
 ghost use Rattle.rank_node.specs.Numbers.{capacities_for, ReplyFits};
 
-use gaspi_types::{Args, Call, NoMemory, Numbers, Reply, Sequence};
+use gaspi_types::{Args, BoxedSequence, Call, NoMemory, Numbers, Reply, Sequence};
 use std::alloc::Global;
 use std::marker::Model;
 
@@ -13,11 +13,11 @@ use std::marker::Model;
 #[derive(Debug, Drop)]
 pub struct ReservedNumbers {
     /// For the values of the collective as it becomes pending.
-    pub(crate) values: Sequence<i128>,
+    pub(crate) values: BoxedSequence<i128>,
     /// For the numbers of the reply in its event.
-    pub(crate) event: Sequence<i128>,
+    pub(crate) event: BoxedSequence<i128>,
     /// For the numbers of the reply to the caller.
-    pub(crate) caller: Sequence<i128>,
+    pub(crate) caller: BoxedSequence<i128>,
 }
 
 impl Model for ReservedNumbers {
@@ -31,22 +31,22 @@ impl Model for ReservedNumbers {
 }
 
 /// A list of `count` zeros.
-pub(crate) fn blank(alloc: Global, count: usize) -> Result<Sequence<i128>, NoMemory>
+pub(crate) fn blank(alloc: Global, count: usize) -> Result<BoxedSequence<i128>, NoMemory>
     ensures { IfOk result (λ numbers. length numbers ≡ count) }
 {
-    Ok(Sequence::from_vec(vec![in alloc; 0; count]?))
+    let zeros = Sequence::from_vec(vec![in alloc; 0; count]?);
+    BoxedSequence::from_sequence(alloc, zeros)
 }
 
 /// Gives a list away and leaves the empty one. It takes no memory.
-pub(crate) fn take_numbers(numbers: &mut Sequence<i128>) -> Sequence<i128>
+pub(crate) fn take_numbers(numbers: &mut BoxedSequence<i128>) -> BoxedSequence<i128>
     ensures { result ≡ numbers.old }
 {
-    let alloc = numbers.allocator();
-    std::mem::replace(numbers, Sequence::new(alloc))
+    std::mem::replace(numbers, BoxedSequence::new())
 }
 
 /// Equal numbers in `list`, which is long enough. It takes no memory.
-fn copied(numbers: &Numbers, mut list: Sequence<i128>) -> Numbers
+fn copied(numbers: &Numbers, mut list: BoxedSequence<i128>) -> Numbers
     requires { length numbers.now.items ≤ length list }
     ensures { result ≡ numbers.now }
 {
@@ -57,7 +57,7 @@ fn copied(numbers: &Numbers, mut list: Sequence<i128>) -> Numbers
 }
 
 /// Equal arguments, with their values in `list`, which is long enough. It takes no memory.
-pub(crate) fn copied_args(args: &Args, list: Sequence<i128>) -> Args
+pub(crate) fn copied_args(args: &Args, list: BoxedSequence<i128>) -> Args
     requires { length args.now.values.items ≤ length list }
     ensures { result ≡ args.now }
 {
@@ -68,7 +68,7 @@ pub(crate) fn copied_args(args: &Args, list: Sequence<i128>) -> Args
 }
 
 /// An equal reply, its numbers in `list`, which is long enough and is empty after that. The reply has no bytes. It takes no memory.
-fn reply_in(reply: &Reply, list: &mut Sequence<i128>) -> Reply
+fn reply_in(reply: &Reply, list: &mut BoxedSequence<i128>) -> Reply
     requires { ReplyFits reply.now (length list.old) }
     ensures { result ≡ reply.now }
 {
@@ -86,15 +86,15 @@ fn reply_in(reply: &Reply, list: &mut Sequence<i128>) -> Reply
 
 impl ReservedNumbers {
     /// Three empty lists. It takes no memory.
-    pub(crate) fn nothing(alloc: Global) -> ReservedNumbers
+    pub(crate) fn nothing() -> ReservedNumbers
         ensures values { result.values ≡ 0 }
         ensures event { result.event ≡ 0 }
         ensures caller { result.caller ≡ 0 }
     {
         ReservedNumbers {
-            values: Sequence::new(alloc),
-            event: Sequence::new(alloc),
-            caller: Sequence::new(alloc),
+            values: BoxedSequence::new(),
+            event: BoxedSequence::new(),
+            caller: BoxedSequence::new(),
         }
     }
 
@@ -122,7 +122,7 @@ impl ReservedNumbers {
                 alloc,
                 call.values.items().len(),
             ),
-            _ => Ok(ReservedNumbers::nothing(alloc)),
+            _ => Ok(ReservedNumbers::nothing()),
         }
     }
 

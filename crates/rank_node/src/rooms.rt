@@ -137,7 +137,7 @@ fn empty_room(alloc: Global, invocation: &Invocation<'_>) -> Room
         made: None,
         message: None,
         bytes: Sequence::new(alloc),
-        numbers: ReservedNumbers::nothing(alloc),
+        numbers: ReservedNumbers::nothing(),
     }
 }
 
@@ -158,7 +158,7 @@ fn post_room(
         made: None,
         message: None,
         bytes: Sequence::new(alloc),
-        numbers: ReservedNumbers::nothing(alloc),
+        numbers: ReservedNumbers::nothing(),
     })
 }
 

@@ -17,10 +17,11 @@ ghost use Rattle.rank_programs.specs.Callers.{IsCaller, StaysCaller};
 use crate::callers::Caller;
 use crate::replies::{Unexpected, out_of_memory};
 use gaspi_types::{
-    Alloc, Allreduce, Barrier, Bytes, Call, Commit, CompareSwap, Create, Delete, FetchAdd,
-    GroupAdd, GroupDelete, Item, Load, Notify, NumType, Numbers, Op, PassiveReceive, PassiveSend,
-    Purge, Qsize, Read, ReadList, ReadListNotify, ReadNotify, Register, Reset, Sequence, Store,
-    Timeout, Wait as WaitQueue, Waitsome, Write, WriteList, WriteListNotify, WriteNotify,
+    Alloc, Allreduce, Barrier, BoxedSequence, Bytes, Call, Commit, CompareSwap, Create, Delete,
+    FetchAdd, GroupAdd, GroupDelete, Item, Load, Notify, NumType, Numbers, Op, PassiveReceive,
+    PassiveSend, Purge, Qsize, Read, ReadList, ReadListNotify, ReadNotify, Register, Reset,
+    Sequence, Store, Timeout, Wait as WaitQueue, Waitsome, Write, WriteList, WriteListNotify,
+    WriteNotify,
 };
 use std::sync::Wait;
 
@@ -517,7 +518,7 @@ impl<'a, R: Wait> Caller<'a, R> {
         ensures stays { StaysCaller self.old self.new }
         ensures answers { AnswersOrRunsOut replies.List (calls.Allreduce (record { group = group; op = op; values = record { num_type = num_type; items = numbers.now } })) timeout (length numbers.now) self.old result self.new }
     {
-        let Ok(items) = Sequence::copied_from(self.alloc, numbers) else {
+        let Ok(items) = BoxedSequence::copied_from(self.alloc, numbers) else {
             return Err(out_of_memory("gaspi_allreduce"));
         };
         let values = Numbers::new(num_type, items);

@@ -1,7 +1,7 @@
 //! The pending collectives of one rank.
 
 use gaspi_types::{
-    Args, Coll, GroupId, NoMemory, NumType, Numbers, Op, Refusal, Resume, Sequence, ThreadId,
+    Args, BoxedSequence, Coll, GroupId, NoMemory, NumType, Numbers, Op, Refusal, Resume, ThreadId,
 };
 use std::alloc::Global;
 use std::test::Fail;
@@ -9,7 +9,7 @@ use timeout_state::Pending;
 
 /// The arguments of a sum of one number.
 fn sum_of(alloc: Global, number: i32) -> Result<Args, NoMemory> {
-    let items = Sequence::copied_from(alloc, &[i128::from(number)])?;
+    let items = BoxedSequence::copied_from(alloc, &[i128::from(number)])?;
     Ok(Args {
         coll: Coll::Allreduce(Op::Sum, NumType::Int, 1),
         values: Numbers::new(NumType::Int, items),

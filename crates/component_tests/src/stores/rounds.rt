@@ -1,7 +1,9 @@
 //! The rounds of one group: a sum over two members, and a group commit with a segment made.
 
 use collective_engine::{Rounds, check_count, check_type};
-use gaspi_types::{Args, Coll, MemberSegment, NoMemory, NumType, Numbers, Op, RankId, Sequence};
+use gaspi_types::{
+    Args, BoxedSequence, Coll, MemberSegment, NoMemory, NumType, Numbers, Op, RankId,
+};
 use std::alloc::Global;
 use std::test::Fail;
 
@@ -12,7 +14,7 @@ fn opening(alloc: Global, members: Option<u32>) -> Result<Rounds, NoMemory> {
 
 /// Whether a rank joins its round with a sum of one number.
 fn adds(alloc: Global, rounds: &mut Rounds, rank: RankId, number: i32) -> Result<bool, NoMemory> {
-    let items = Sequence::copied_from(alloc, &[i128::from(number)])?;
+    let items = BoxedSequence::copied_from(alloc, &[i128::from(number)])?;
     let args = Args {
         coll: Coll::Allreduce(Op::Sum, NumType::Int, 1),
         values: Numbers::new(NumType::Int, items),
@@ -23,20 +25,20 @@ fn adds(alloc: Global, rounds: &mut Rounds, rank: RankId, number: i32) -> Result
 }
 
 /// Whether a rank joins its round with the commit of a list, which fits.
-fn commits(alloc: Global, rounds: &mut Rounds, rank: RankId, mask: u32) -> bool {
+fn commits(rounds: &mut Rounds, rank: RankId, mask: u32) -> bool {
     let args = Args {
         coll: Coll::Commit(mask),
-        values: Numbers::new(NumType::Int, Sequence::new(alloc)),
+        values: Numbers::new(NumType::Int, BoxedSequence::new()),
     };
     let fits = rounds.may_join(rank, args.coll) && rounds.fits(rank, &args).is_ok();
     fits && rounds.join(rank, &args, 0).is_ok()
 }
 
 /// Whether a rank joins its round with a segment that it made in a generation.
-fn creates(alloc: Global, rounds: &mut Rounds, rank: RankId, generation: u32) -> bool {
+fn creates(rounds: &mut Rounds, rank: RankId, generation: u32) -> bool {
     let args = Args {
         coll: Coll::Create(0, 8),
-        values: Numbers::new(NumType::Int, Sequence::new(alloc)),
+        values: Numbers::new(NumType::Int, BoxedSequence::new()),
     };
     rounds.may_join(rank, args.coll) && rounds.join(rank, &args, generation).is_ok()
 }
@@ -57,7 +59,7 @@ fn leaves(rounds: &mut Rounds, rank: RankId) -> bool {
 
 /// Whether the reduction of the round of a rank is that one number.
 fn comes_to(alloc: Global, rounds: &Rounds, rank: RankId, number: i128) -> Result<bool, NoMemory> {
-    let room = Sequence::copied_from(alloc, &[0])?;
+    let room = BoxedSequence::copied_from(alloc, &[0])?;
     let is_full = rounds.is_member(rank) && rounds.full(rank);
     if !is_full || rounds.elements(rank) != Some(1) {
         return Ok(false);
@@ -106,9 +108,9 @@ fn first_commit_fixes_the_members(rt: HostRuntime) -> Result<(), Fail> {
     let alloc = rt.alloc();
     let rank = RankId::of(2);
     let mut rounds = opening(alloc, None)?;
-    assert!(rt; commits(alloc, &mut rounds, rank, 0b100));
+    assert!(rt; commits(&mut rounds, rank, 0b100));
     assert!(rt; leaves(&mut rounds, rank));
-    assert!(rt; creates(alloc, &mut rounds, rank, 7));
+    assert!(rt; creates(&mut rounds, rank, 7));
     assert!(rt; has_made(&rounds, rank, 7));
     Ok(())
 }

@@ -9,7 +9,7 @@ reduce_onto-requires t c = (
   (
     full-others (contribution_in c.args.group.now c.args.round) c.args.members.now c.requires.full,
     (
-      λ rank given there. ((c.requires.alike rank given there).0, (let alike = (c.requires.alike rank given there).1 in let same = c.reduce_contribution.auto.total in omega (arith, alike, same))),
+      λ rank given there. ((c.requires.alike rank given there).0, (let alike = (c.requires.alike rank given there).1 in omega (arith, alike))),
       c.reduce_contribution.ensures.range,
     ),
   ),

@@ -5,7 +5,7 @@ use Rattle.plain_calls.proofs.contributions.reduction_of.Goals as goal
 
 pub reduce_onto-requires-clause-alike : goal.reduce_onto-requires-clause-alike
 reduce_onto-requires-clause-alike c =
-    let items = c.as_mut_slice-items.ensures.value ∙ c.in_ok-total-in-len1-up.ensures.items ∙ c.values_in.ensures.values in
+    let items = c.in_ok-total-in-len1-up.ensures.ok ∙ c.values_in.ensures.values in
     let count =
     ap (λ (values : List ℤ). length values) items
     ∙ count-first (contribution_in c.args.group.now c.args.round) c.args.num_type c.requires.alike.0 c.first-item.result c.args.members.now c.in-len1-up.len_at_least c.first-item.is c.requires.full c.requires.alike.1 in
