@@ -20,7 +20,7 @@ fn write_caller(text: &mut Bytes, caller: CallerId) -> Result<(), NoMemory>
     ensures { OnOk result (text.new ≡ text.old ++ caller_word caller) }
 {
     write_number(text, u64::from(caller.rank.number()))?;
-    text.append(b".")?;
+    text.push(b'.')?;
     write_number(text, u64::from(caller.thread.number()))
 }
 
@@ -29,11 +29,11 @@ fn write_call(text: &mut Bytes, caller: CallerId, line: u64, reply: &Reply) -> R
     ensures { OnOk result (text.new ≡ text.old ++ call_line caller line reply.now) }
 {
     write_caller(text, caller)?;
-    text.append(b" ")?;
+    text.push(b' ')?;
     write_number(text, line)?;
-    text.append(b" ")?;
+    text.push(b' ')?;
     write_reply(text, reply)?;
-    text.append(b"\n")
+    text.push(b'\n')
 }
 
 /// Adds the line of a run that ended.
@@ -51,7 +51,7 @@ fn write_at_line(text: &mut Bytes, caller: CallerId, word: &[u8], line: u64) -> 
     write_caller(text, caller)?;
     text.append(word)?;
     write_number(text, line)?;
-    text.append(b"\n")
+    text.push(b'\n')
 }
 
 /// Adds the line of the outcome of a run. A run that is out of memory has the word of one at the event limit.
@@ -81,7 +81,7 @@ fn write_ending(text: &mut Bytes, caller: CallerId, cursor: &Cursor<'_>) -> Resu
 fn is_end(call: &Call) -> bool
     ensures { result ≡ is_end call.now }
 {
-    call.row().ends
+    matches!(call, Call::End)
 }
 
 /// Whether a run makes no more calls: it has ended, or the next call is the end of its caller.

@@ -16,9 +16,9 @@ pub fn write_event_line(text: &mut Bytes, place: u64, event: &Event) -> Result<(
     ensures kept { KeepsPrefix text.old text.new }
 {
     write_number(text, place)?;
-    text.append(b" ")?;
+    text.push(b' ')?;
     write_event(text, event)?;
-    text.append(b"\n")
+    text.push(b'\n')
 }
 
 /// Adds the end line of a journal of `count` events. After `NoMemory` the text still begins with what it had; some of the line
@@ -29,7 +29,7 @@ pub fn write_end_line(text: &mut Bytes, count: u64) -> Result<(), NoMemory>
 {
     text.append(b"end ")?;
     write_number(text, count)?;
-    text.append(b"\n")
+    text.push(b'\n')
 }
 
 /// Adds the text of a journal. After `NoMemory` the text still begins with what it had.

@@ -10,7 +10,6 @@ ghost use Rattle.rank_script.specs.CutLines.{call_in};
 
 use crate::arguments::read_looks;
 use crate::expected::ExpectedReply;
-use crate::line_fields::is_word;
 use call_texts::{read_arguments, words_spell_no_end};
 use gaspi_texts::{CallWord, read_number, read_reply_words};
 use gaspi_types::{Call, NoMemory};
@@ -125,5 +124,12 @@ pub(crate) fn before_and_after_equals<'b, 'a>(
 fn equals_in(words: &[&[u8]]) -> Option<usize>
     ensures { result ≡ position (λ word. is_equals_word word.now) words.now }
 {
-    words.iter().position(|word| is_word(word, b"="))
+    words.iter().position(|word| is_equals(word))
+}
+
+/// Whether a word is `=`.
+fn is_equals(word: &[u8]) -> bool
+    ensures { result ≡ is_equals_word word.now }
+{
+    matches!(word, [b'='])
 }
