@@ -103,6 +103,10 @@ impl Round {
         requires { number < 1000000 }
         ensures { IfOk result (λ round. round ≡ round_with number right (little_bytes 8 sent) (little_bytes 8 received)) }
     {
+        let bytes: Bytes = Sequence::copied_from(alloc, &number_bytes(received))?;
+        let bytes = Some(ExpectedReply::new(alloc, Reply::Bytes(bytes))?);
+        let slot = Some(ExpectedReply::new(alloc, Reply::Id(0))?);
+        let value = Some(ExpectedReply::new(alloc, Reply::Value(1))?);
         let store = Call::Store(Store {
             seg: 0,
             offset: 0,
@@ -132,10 +136,6 @@ impl Round {
             size: 8,
         });
         let barrier = Call::Barrier(Barrier { group: 0 });
-        let slot = Some(ExpectedReply::new(alloc, Reply::Id(0))?);
-        let value = Some(ExpectedReply::new(alloc, Reply::Value(1))?);
-        let bytes: Bytes = Sequence::copied_from(alloc, &number_bytes(received))?;
-        let bytes = Some(ExpectedReply::new(alloc, Reply::Bytes(bytes))?);
         Ok(Round {
             store: once_line(number, store, Timeout::Looks(1), None),
             post: once_line(number + 1, post, Timeout::Looks(1), None),

@@ -166,7 +166,10 @@ fn join(
     ensures looked { (s : State) → IsJoiner s invocation.now.caller invocation.now.call.now args lent.old.own.now (behind lent.old.peer) (behind lent.old.group)
         → HaveLooked s invocation.now.caller invocation.now.call.now result places.old places.new lent.old.own.now lent.new.own.now (behind lent.old.peer) (behind lent.new.peer) (behind lent.new.group) }
 {
-    let (Ok(call), Ok(room)) = (invocation.call.copy(alloc), lent.room(alloc, invocation)) else {
+    let Ok(call) = invocation.call.copy(alloc) else {
+        return Err(CallStop::NoMemory);
+    };
+    let Ok(room) = lent.room(alloc, invocation) else {
         return Err(CallStop::NoMemory);
     };
     Ok(join_with(lent, places, invocation, args, call, room))
