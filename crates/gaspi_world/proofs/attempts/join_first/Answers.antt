@@ -15,6 +15,12 @@ room-requires c =
     let on = c.requires.holder in
     record { lent = lent-call c.args.table.now.start.shape c.requires.world c.args.invocation.now.caller c.args.invocation.now.call.now c.args.held.now c.args.pass.now.known on.held on.own on.other }
 
+pub returns-in_default-copy-clause-worked : goal.returns-in_default-copy-clause-worked
+returns-in_default-copy-clause-worked c =
+    let on = c.requires.holder in
+    let v = c.args.pass.now.known in
+    (refl, c.requires.joins.room v.seen on.held.shards.legal (agrees-self c.args.table.now.start.shape c.requires.world c.args.held.now v on.held))
+
 pub returns-then-waits_for_later_look-clause-worked : goal.returns-then-waits_for_later_look-clause-worked
 returns-then-waits_for_later_look-clause-worked c =
     let w = c.args.table.now.start.shape in
