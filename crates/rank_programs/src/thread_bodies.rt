@@ -38,7 +38,7 @@ fn run_caller<'a, R: Wait, P: Program>(
     let rank = Rank { world, pass };
     let mut caller = Caller { rt, alloc, rank };
     let outcome = program.run(&mut caller);
-    let _ = caller.rank.call(rt, alloc, &Call::End, Timeout::Looks(1));
+    drop(caller.rank.call(rt, alloc, &Call::End, Timeout::Looks(1)));
     outcome
 }
 
