@@ -69,18 +69,7 @@ fn first_spelled(words: &[CallWord], spelling: &[u8]) -> Option<CallWord>
     words
         .iter()
         .copied()
-        .find(|call| is_spelled(*call, spelling))
-}
-
-/// Whether a call's word has this spelling. The first bytes are compared first, since they mostly tell words of one length apart.
-fn is_spelled(call: CallWord, word: &[u8]) -> bool
-    ensures { result ≡ bytes_eq (spelling_of call) word.now }
-{
-    let spelling = call.spelling();
-    match (spelling, word) {
-        ([first, ..], [other, ..]) if *first != *other => false,
-        _ => spelling == word,
-    }
+        .find(|call| call.spelling() == spelling)
 }
 
 impl CallWord {

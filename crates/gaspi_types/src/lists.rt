@@ -219,7 +219,7 @@ impl<T: Eq> Eq for Sequence<T> {
 }
 
 /// A list of items behind a box, for lists that are rare: where it stands it takes 16 bytes, the items elsewhere. It does not grow.
-/// The empty list takes no memory.
+/// A list that is made empty takes no memory.
 #[derive(Debug, Drop)]
 pub struct BoxedSequence<T> {
     boxed: Option<Box<Sequence<T>>>,
@@ -242,12 +242,16 @@ impl<T> BoxedSequence<T> {
         BoxedSequence { boxed: None }
     }
 
-    /// The items of a list, put behind a box. After `NoMemory` they are dropped.
+    /// The items of a list, put behind a box. It takes no memory where there are none. After `NoMemory` the items are dropped.
     pub fn from_sequence(alloc: Global, items: Sequence<T>) -> Result<BoxedSequence<T>, NoMemory>
     where
         T: Drop,
-        ensures { IfOk result (λ list. list ≡ items) }
+        ensures ok { IfOk result (λ list. list ≡ items) }
+        ensures empty { length items ≡ 0 → IsOk result }
     {
+        if items.is_empty() {
+            return Ok(BoxedSequence::new());
+        }
         Ok(BoxedSequence {
             boxed: Some(Box::new(alloc, items)?),
         })
