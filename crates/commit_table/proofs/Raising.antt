@@ -11,7 +11,7 @@ use Rattle.commit_table.specs.declared.counters.Counters.{Counters}
 use Rattle.commit_table.specs.declared.counters.CounterEvent.{CounterEvent}
 use Rattle.commit_table.specs.declared.counters.CounterEvent.TheVariants.{Raise, Carry}
 use Rattle.commit_table.specs.Machine.{Machine, IsOwn}
-use Rattle.commit_table.specs.Views.{held_at, after_take, after_look, after_commit, after_give_back}
+use Rattle.commit_table.specs.Views.{held_at, after_take, after_look, after_give_back}
 use Rattle.commit_table.specs.Projections.{projection_of, peers_of}
 use Rattle.commit_table.specs.ProjectionLaws.{may_follow, new_own, new_peers, parts_there, last_did, part_there}
 use Rattle.commit_table.specs.Counters.{most, counter_projections, counters}

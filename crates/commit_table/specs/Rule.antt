@@ -1,6 +1,6 @@
 -- The rule of a commit table: what holds between any two steps, of its words, its slots and what each seat knows.
 -- Word 0 is the journal word, each shard has a word, and its slot holds the value of the shard while it is free.
-use Rattle.std.specs.Prelude.{◌≡◌, ℕ, suc, ◌<◌, ◌≤◌, ◌⊎◌, true, List, [], length, slice_index, All, Option, None, Some}
+use Rattle.std.specs.Prelude.{◌≡◌, ℕ, ◌<◌, ◌≤◌, ◌⊎◌, true, List, [], length, slice_index, All, Option, None, Some}
 use mathlib.Core.Option.{some}
 use mathlib.Core.List.{IsPrefix}
 use lib.ListN.{get_elem?}

@@ -1,5 +1,5 @@
 -- The front of a lane of the rank whose node is held: its other shard, and the transfer once that is held.
-use Rattle.std.proofs.Common.{◌≡◌, ℕ, Box, Global, Option, Some, refl, sym, ap, ◌∙◌, subst}
+use Rattle.std.proofs.Common.{◌≡◌, ℕ, Box, Global, Option, Some, sym, ap, ◌∙◌, subst}
 use Rattle.gaspi_types.specs.World.{ShapeValue, IsShape}
 use Rattle.gaspi_types.specs.declared.entries.Entry.{Entry}
 use Rattle.gaspi_types.specs.declared.events.Event.{Event}

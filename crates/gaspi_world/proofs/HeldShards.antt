@@ -14,7 +14,7 @@ use Rattle.commit_table.specs.Calls.{Looked, MayCommit, Committed}
 use Rattle.commit_table.specs.Views.{held_at, after_give_back}
 use Rattle.commit_table.specs.declared.views.PassView.{PassView}
 use Rattle.commit_table.proofs.Lists.{held_among, held_apart, held_here, held_else}
-use Rattle.gaspi_world.specs.ShardProjections.{value_at, AreShardsOf, HaveStepped, HoldsAt, Holds, IsCommitted}
+use Rattle.gaspi_world.specs.ShardProjections.{value_at, AreShardsOf, HaveStepped, Holds, IsCommitted}
 use Rattle.gaspi_world.specs.Numbering.{Numbering}
 use Rattle.gaspi_world.specs.RankJournals.{journal_of, recorded_by, journal-last}
 use Rattle.gaspi_world.specs.ShardLaws.{parts-moved, agree-self, agree-back, arrives, limits-are, last-step}

@@ -1,12 +1,11 @@
 -- Transfers of a lane in one hold of the origin's shard, from the try of the first to the end.
-use Rattle.std.proofs.Common.{◌≡◌, ℕ, true, List, [], ◌∷◌, length, Option, None, Some, refl, sym, ap, ◌∙◌, subst, append-nil}
+use Rattle.std.proofs.Common.{◌≡◌, ℕ, true, [], ◌∷◌, length, Option, None, Some, refl, sym, ◌∙◌, subst, append-nil}
 use Rattle.gaspi_types.specs.World.{ShapeValue}
 use Rattle.gaspi_types.specs.declared.events.Event.{Event}
 use Rattle.gaspi_model.specs.Step.{is_legal}
 use Rattle.commit_table.specs.Attempts.{IsLookedOnly}
 use Rattle.commit_table.specs.Views.{after_give_back}
 use Rattle.commit_table.specs.declared.views.PassView.{PassView}
-use Rattle.commit_table.proofs.Lists.{prefix_self}
 use Rattle.gaspi_world.specs.HeldShards.{Holds, left_by}
 use Rattle.gaspi_world.specs.Transfers.{HasMoved, HasMovedOne, MovesOn}
 use Rattle.gaspi_world.specs.WorldMachine.{world_machine}

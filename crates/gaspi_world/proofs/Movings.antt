@@ -1,5 +1,5 @@
 -- What several transfers that follow one another come to, step by step.
-use Rattle.std.proofs.Common.{◌≡◌, ℕ, zero, suc, ◌+◌, ◌<◌, true, List, [], ◌∷◌, ◌++◌, length, Option, None, Some, ◌⊎◌, inl, inr, refl, sym, ap, ◌∙◌, subst, arith, append_assoc, append-nil, length-append}
+use Rattle.std.proofs.Common.{◌≡◌, ℕ, zero, suc, ◌+◌, true, List, [], ◌∷◌, ◌++◌, length, Option, None, Some, ◌⊎◌, inl, inr, refl, sym, ap, ◌∙◌, subst, arith, append_assoc, append-nil, length-append}
 use Rattle.std.specs.List.{slice_get}
 use mathlib.Core.List.{IsPrefix}
 use Rattle.gaspi_types.specs.World.{ShapeValue}
@@ -7,7 +7,7 @@ use Rattle.gaspi_types.specs.declared.events.Event.{Event}
 use Rattle.gaspi_types.specs.declared.events.Event.TheVariants.{Called, Joined, Take, Put}
 use Rattle.gaspi_model.specs.Parties.{party_of}
 use Rattle.commit_table.specs.Calls.{Looked}
-use Rattle.commit_table.specs.Views.{after_take, after_miss, after_look, after_give_back, mine_after}
+use Rattle.commit_table.specs.Views.{after_take, after_miss, after_give_back, mine_after}
 use Rattle.commit_table.specs.declared.views.PassView.{PassView}
 use Rattle.commit_table.specs.declared.views.LockRecord.{LockRecord}
 use Rattle.commit_table.proofs.Lists.{prefix_self, prefix_trans}

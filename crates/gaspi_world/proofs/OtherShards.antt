@@ -1,5 +1,5 @@
 -- Another shard is taken beside that of a rank, or given back.
-use Rattle.std.proofs.Common.{◌≡◌, ◌≢◌, ◌<◌, ◌+◌, ℕ, List, [], ◌∷◌, Option, None, Some, refl, sym, ap, ◌∙◌, subst}
+use Rattle.std.proofs.Common.{◌≡◌, ◌<◌, ◌+◌, ℕ, List, [], ◌∷◌, Option, None, Some, refl, sym, ap, ◌∙◌, subst}
 use Rattle.gaspi_types.specs.World.{ShapeValue}
 use Rattle.gaspi_types.specs.declared.events.Event.{Event}
 use Rattle.gaspi_model.specs.Parties.{party_of}
@@ -15,7 +15,7 @@ use Rattle.gaspi_world.specs.Numbering.{by_ranks}
 use Rattle.gaspi_world.specs.ShardMachine.{IsValueAfter}
 use Rattle.gaspi_world.proofs.HeldPairs.{here, elsewhere, of-two, not-first, not-second, second-given}
 use Rattle.gaspi_world.proofs.HeldShards.{looked-holds, may-give}
-use Rattle.gaspi_world.specs.HeldShards.{Holds, values_of, other_value, IsOther, IsOtherShard}
+use Rattle.gaspi_world.specs.HeldShards.{Holds, other_value, IsOther, IsOtherShard}
 use Rattle.gaspi_world.specs.Shards.{node_meaning}
 use Rattle.gaspi_world.specs.WorldMachine.{world_machine}
 use Rattle.gaspi_world.specs.declared.holding.HeldShards.{HeldShards}

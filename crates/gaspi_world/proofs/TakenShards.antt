@@ -17,7 +17,7 @@ use Rattle.commit_table.specs.Views.{held_at, after_take, after_look}
 use Rattle.commit_table.specs.declared.views.PassView.{PassView}
 use Rattle.commit_table.proofs.Lists.{held_here, held_else}
 use Rattle.gaspi_world.specs.ShardProjections as held
-use Rattle.gaspi_world.specs.ShardProjections.{value_at, TookBoth}
+use Rattle.gaspi_world.specs.ShardProjections.{value_at}
 use Rattle.gaspi_world.specs.Numbering.{by_ranks}
 use Rattle.gaspi_world.specs.ShardLaws.{arrives, limits-are}
 use Rattle.gaspi_world.specs.ShardMachine.{IsValueAfter, state_after}

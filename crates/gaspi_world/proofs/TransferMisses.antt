@@ -1,10 +1,9 @@
 -- A try to make a transfer that took its origin's shard, missed another one, looked, and gave the first back.
-use Rattle.std.proofs.Common.{◌≡◌, ℕ, List, [], ◌∷◌, refl, ap, sym, subst, ◌∙◌}
+use Rattle.std.proofs.Common.{◌≡◌, ℕ, List, refl, ap, sym, subst, ◌∙◌}
 use Rattle.commit_table.specs.Machine.{Machine}
 use Rattle.commit_table.specs.Calls.{Looked, MissWitness}
 use Rattle.commit_table.specs.Views.{after_take, after_miss, after_look, after_give_back}
 use Rattle.commit_table.specs.declared.views.PassView.{PassView}
-use Rattle.commit_table.specs.declared.views.LockOp.TheVariants as lock_op
 use Rattle.commit_table.specs.declared.views.LockRecord.{LockRecord}
 use Rattle.gaspi_world.specs.Transfers.{MissedLooking}
 

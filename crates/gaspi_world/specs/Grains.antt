@@ -1,5 +1,5 @@
 -- Numberings of a world's shards: the shards of an event of a rank are among those that there are.
-use Rattle.std.proofs.Common.{◌≡◌, ℕ, ◌<◌, Bool, true, false, ◌||◌, eqb, ◌==◌, nat_lt, List, [], ◌∷◌, map, Option, None, Some, refl, sym, ap, ◌∙◌, subst, arith, if◌then◌else◌}
+use Rattle.std.proofs.Common.{◌≡◌, ℕ, ◌<◌, Bool, true, false, ◌||◌, eqb, ◌==◌, nat_lt, List, [], ◌∷◌, map, Option, None, Some, refl, sym, ap, subst, arith, if◌then◌else◌}
 use Rattle.std.specs.List.{slice_get, list_any}
 use Rattle.std.proofs.lemmas.Bool.{eqb-true, ltb-true}
 use Rattle.gaspi_types.specs.Footprints.{footprint_of}

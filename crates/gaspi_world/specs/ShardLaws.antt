@@ -1,5 +1,5 @@
 -- The machine in shards is lawful, whatever the numbering.
-use Rattle.std.proofs.Common.{◌≡◌, ◌≢◌, ℕ, zero, suc, ◌^◌, ◌<◌, ◌≤◌, Bool, true, false, eqb, List, [], ◌∷◌, ◌++◌, append-nil, map, length, Option, Some, Result, Ok, Err, is_ok, refl, sym, ap, ◌∙◌, subst, arith}
+use Rattle.std.proofs.Common.{◌≡◌, ◌≢◌, ℕ, zero, suc, ◌^◌, ◌<◌, true, false, eqb, List, [], ◌∷◌, ◌++◌, append-nil, map, length, Option, Some, Result, Ok, Err, is_ok, refl, sym, ap, ◌∙◌, subst}
 use Rattle.std.specs.List.{slice_get, list_any}
 use Rattle.std.proofs.Math.Bridge.{le_prop}
 use Rattle.std.proofs.Math.Logic.{∥∥₁_elim}
@@ -10,7 +10,7 @@ use Rattle.gaspi_types.specs.declared.events.PlacedEvent.{PlacedEvent}
 use Rattle.gaspi_types.specs.declared.shapes.Limits.{Limits}
 use Rattle.gaspi_types.proofs.Chains.{found_then, same_Ok}
 use Rattle.gaspi_model.specs.State.{opening}
-use Rattle.gaspi_model.specs.Shards.{AgreeOnShard, AgreeOn, HaveSameResult, event_shards, numbers_of, without_repeats}
+use Rattle.gaspi_model.specs.Shards.{AgreeOnShard, AgreeOn, HaveSameResult, numbers_of, without_repeats}
 use Rattle.gaspi_model.specs.Sound.{IsSound}
 use Rattle.gaspi_model.specs.Step.{step, after, reached, is_legal, owner_of, cause_without_owner}
 use Rattle.gaspi_model.specs.declared.states.Shard.{Shard}
@@ -19,7 +19,6 @@ use Rattle.gaspi_model.specs.declared.states.State.{State}
 use Rattle.gaspi_model.specs.declared.states.Why.{Why}
 use Rattle.gaspi_model.proofs.Histories.{after-step, after-first, after-both, after-joined, after-limits, leads, prefix}
 use Rattle.gaspi_model.proofs.Local.Steps.{coarse-frame, coarse-determined, coarse-owner, footprint-by-owner}
-use Rattle.gaspi_model.proofs.Sound.Opening.{opens}
 use Rattle.gaspi_model.proofs.Sound.Steps.{steps, limits-stay}
 use Rattle.commit_table.specs.Machine.{Laws}
 use Rattle.gaspi_model.proofs.HistoryLengths.{few-events}

@@ -1,4 +1,4 @@
-use Rattle.std.proofs.Common.{rules, ◌≡◌, ◌≢◌, ℕ, ◌+◌, ◌%◌, ◌<◌, ◌≤◌, ◌∙◌, ◌⊎◌, ⊎_elim, inl, inr, Some, ap, refl, sym, subst, arith, get_or, false, List, [], ◌∷◌, length, length-append, slice_get}
+use Rattle.std.proofs.Common.{◌≡◌, ◌≢◌, ◌+◌, ◌%◌, ◌<◌, ◌∙◌, Some, ap, sym, subst, arith, get_or, false, List, [], ◌∷◌, length, length-append, slice_get}
 use Rattle.std.proofs.lemmas.List.{get_or-set_other}
 use Rattle.std.specs.Mem.Slots.{slots_filled, slots_items, slots_len}
 use mathlib.Core.Logic.{dite}

@@ -1,4 +1,4 @@
-use Rattle.std.proofs.Common.{◌∙◌, ap, arith}
+use Rattle.std.proofs.Common.{ap, arith}
 use Rattle.commit_table.proofs.Joining.{final_values, final_shards}
 use Rattle.commit_table.proofs.close.values_of.Goals as goal
 

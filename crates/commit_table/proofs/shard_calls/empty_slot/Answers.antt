@@ -1,5 +1,4 @@
 use Rattle.std.proofs.Common.{rules, ap, ◌∙◌, None}
-use Rattle.commit_table.specs.Views.{at_rest}
 use Rattle.commit_table.proofs.Slots.{is_out, swapped}
 use Rattle.commit_table.proofs.shard_calls.empty_slot.Goals as goal
 

@@ -1,4 +1,4 @@
-use Rattle.std.proofs.Common.{ℕ, ◌∙◌, sym, subst}
+use Rattle.std.proofs.Common.{ℕ, sym, subst}
 use Rattle.gaspi_world.specs.Transfers.{HasMoved, IsMovedBehind}
 use Rattle.gaspi_world.proofs.Movings.{moved-by, one-then}
 use Rattle.gaspi_world.proofs.transfers.move_front.Goals as goal

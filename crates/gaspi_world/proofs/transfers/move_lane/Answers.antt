@@ -1,4 +1,4 @@
-use Rattle.std.proofs.Common.{ℕ, ◌∙◌, ap, subst, sym}
+use Rattle.std.proofs.Common.{ℕ, ◌∙◌, ap, subst}
 use Rattle.gaspi_world.specs.Transfers.{HasMoved, HasMovedOne}
 use Rattle.gaspi_world.proofs.Lanes.{lane-moved}
 use Rattle.gaspi_world.proofs.transfers.move_lane.Goals as goal
