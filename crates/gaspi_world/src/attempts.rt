@@ -121,9 +121,10 @@ fn record_found(
         → IsDecided table.now.start.shape invocation.now.caller invocation.now.call.now found look pass.old.known result pass.new.known }
     ensures ample { (row_of invocation.now.call.now).takes_memory ≡ false → result ≢ Err halts.NoMemory }
 {
-    let Ok(mut room) = held.nodes.room(alloc, invocation) else {
+    let mut room = Room::new(alloc, invocation.row);
+    if held.nodes.reserve(alloc, invocation, &mut room).is_err() {
         return Err(Halt::NoMemory);
-    };
+    }
     let Ok(call) = invocation.call.copy(alloc) else {
         return Err(Halt::NoMemory);
     };
@@ -218,9 +219,10 @@ fn join_first(
     ensures worked { AttemptedWhileHeld table.now.start.shape invocation.now.caller invocation.now.call.now look pass.old.known result pass.new.known }
     ensures ample { (row_of invocation.now.call.now).takes_memory ≡ false → result ≢ Err halts.NoMemory }
 {
-    let Ok(mut room) = held.nodes.room(alloc, invocation) else {
+    let mut room = Room::new(alloc, invocation.row);
+    if held.nodes.reserve(alloc, invocation, &mut room).is_err() {
         return Err(Halt::NoMemory);
-    };
+    }
     let Ok(call) = invocation.call.copy(alloc) else {
         return Err(Halt::NoMemory);
     };

@@ -1,7 +1,8 @@
 -- The memory that is reserved for a call before its record. *Fits* is said of a room that a reply needs.
-use Rattle.std.specs.Prelude.{◌≡◌, ℕ, ◌≤◌, List, length, Option, None, Some, Result, Ok}
+use Rattle.std.specs.Prelude.{◌≡◌, ℕ, ◌≤◌, List, [], length, Option, None, Some, Result, Ok}
 use Rattle.gaspi_types.specs.CallRows.{row_of}
 use Rattle.gaspi_types.specs.SegmentTables.{alloc_checks, own_range_checks}
+use Rattle.gaspi_types.specs.declared.call_rows.CallRow.{CallRow}
 use Rattle.gaspi_types.specs.declared.call_rows.Posting.{Posting}
 use Rattle.gaspi_types.specs.declared.calls.Call.{Call}
 use Rattle.gaspi_types.specs.declared.calls.Call.TheVariants.{Alloc, Create, Load}
@@ -18,6 +19,10 @@ use Rattle.rank_node.specs.Making.{made_segment}
 use Rattle.rank_node.specs.Values.{PostsValue, MemoryValue}
 use Rattle.rank_node.specs.declared.making.MadeSegment.{MadeSegment}
 use Rattle.rank_node.specs.declared.rooms.Room.{Room}
+
+-- the room of a call with this row, in which nothing is reserved yet
+abbrev pub empty_room : CallRow → Room
+empty_room row = record { row = row; entries = None; made = None; message = None; bytes = []; numbers = record { values = 0; event = 0; caller = 0 } }
 
 -- of a call that posts, the entries that it asks for
 abbrev pub HasEntries : Option Posting → Result (List Kind) Refusal → Option (List Kind) → Type 0

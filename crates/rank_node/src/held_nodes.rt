@@ -1,7 +1,8 @@
 //! The nodes that one event reaches, owned in boxes by the thread that holds their locks. `HeldNodes` has the same functions as
-//! `Lent`: looks, reserved memory, and steps. A clause `kind` says that the other node is of the kind that it was (`IsSameKind`).
+//! `Lent`: looks, reserved memory, and steps. But `Lent::room` gives a room, and `HeldNodes::reserve` fills one that is there, so that
+//! it is not moved. A clause `kind` says that the other node is of the kind that it was (`IsSameKind`).
 
-ghost use Rattle.std.specs.Prelude.{◌≡◌, ◌≤◌, ℕ, length, false, None, Some, IfOk, IsOk};
+ghost use Rattle.std.specs.Prelude.{◌≡◌, ◌≤◌, ℕ, length, false, None, Some, IfOk, IsOk, OnOk};
 ghost use Rattle.gaspi_types.specs.CallRows.{row_of};
 ghost use Rattle.gaspi_types.specs.declared.events.Event.TheVariants.{Called, Joined};
 ghost use Rattle.gaspi_types.specs.declared.events.Outcome.{Outcome};
@@ -15,7 +16,7 @@ ghost use Rattle.rank_node.specs.Fronts.{front_outcome, IsFront};
 ghost use Rattle.rank_node.specs.HeldNodes.{peer_of, group_of, IsSameKind};
 ghost use Rattle.rank_node.specs.Lending.{LendsFor, AreLentFor, MayStep, IsStepOn, IsLeft};
 ghost use Rattle.rank_node.specs.Numbers.{elements_in, AnswerFits};
-ghost use Rattle.rank_node.specs.Rooms.{IsReservedFor, IsReservedForRecord, FitsReserved};
+ghost use Rattle.rank_node.specs.Rooms.{empty_room, IsReservedFor, IsReservedForRecord, FitsReserved};
 ghost use Rattle.rank_node.specs.declared.rooms.Room.{Room};
 ghost use Rattle.rank_node.specs.TransferSteps.{MayTake, MayPut, IsFirstPosted, IsFirstCarried, LendsForTransfer, lent_memory};
 ghost use Rattle.rank_node.specs.Transfers.{take_of, put_of, event_of};
@@ -57,7 +58,7 @@ pub enum OtherNode {
 
 impl HeldNodes {
     /// The answer to a call of a thread of the own rank: its reply, that it may join, or that it is not ready. The memory that
-    /// `room` takes for the call is enough for a second, equal reply (clause `fits`). It takes memory only where the call's row says
+    /// `reserve` takes for the call is enough for a second, equal reply (clause `fits`). It takes memory only where the call's row says
     /// so, and none where the call is not ready. The nodes do not change.
     pub fn answer(&self, alloc: Global, invocation: &Invocation<'_>) -> Result<Ready, NoMemory>
         requires lent { AreLentFor invocation.now.call.now self.now.own.value (peer_of self.now.other) (group_of self.now.other) }
@@ -108,14 +109,20 @@ impl HeldNodes {
         }
     }
 
-    /// Takes the memory that the record of a call needs. A call whose row says that it takes none takes none. The nodes do not
-    /// change.
-    pub fn room(&self, alloc: Global, invocation: &Invocation<'_>) -> Result<Room, NoMemory>
+    /// Takes the memory that the record of a call needs, into its room, in which nothing is reserved yet. A call whose row says that it
+    /// takes none takes none. The nodes do not change.
+    pub fn reserve(
+        &self,
+        alloc: Global,
+        invocation: &Invocation<'_>,
+        room: &mut Room,
+    ) -> Result<(), NoMemory>
         requires lent { AreLentFor invocation.now.call.now self.now.own.value (peer_of self.now.other) (group_of self.now.other) }
-        ensures room { IfOk result (λ room. IsReservedFor self.now.own.value.posts self.now.own.value.memory invocation.now.call.now room) }
+        requires empty { room.old ≡ empty_room (row_of invocation.now.call.now) }
+        ensures room { OnOk result (IsReservedFor self.now.own.value.posts self.now.own.value.memory invocation.now.call.now room.new) }
         ensures ample { (row_of invocation.now.call.now).takes_memory ≡ false → IsOk result }
     {
-        reserve(alloc, &self.own.posts, &self.own.memory, invocation)
+        reserve(alloc, &self.own.posts, &self.own.memory, invocation, room)
     }
 
     /// The answer to a collective of a caller after its join, in reserved memory. The collective is pending for the caller. The

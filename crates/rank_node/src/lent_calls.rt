@@ -49,7 +49,15 @@ impl Lent<'_> {
         ensures room { IfOk result (λ room. IsReservedFor self.now.own.now.posts self.now.own.now.memory invocation.now.call.now room) }
         ensures ample { (row_of invocation.now.call.now).takes_memory ≡ false → IsOk result }
     {
-        reserve(alloc, &self.own.posts, &self.own.memory, invocation)
+        let mut room = Room::new(alloc, invocation.row);
+        reserve(
+            alloc,
+            &self.own.posts,
+            &self.own.memory,
+            invocation,
+            &mut room,
+        )?;
+        Ok(room)
     }
 
     /// Makes the step by a call with its reply, recorded at `place` in the owner's rank journal. `room` is the memory that was

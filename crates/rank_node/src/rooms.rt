@@ -1,14 +1,14 @@
 //! Reserved memory: all that the record of a call needs is taken before it, so that the record takes none. In this file a *room* is
 //! that memory, and no count of events.
 
-ghost use Rattle.std.specs.Prelude.{◌≡◌, ◌≤◌, false, length, IfOk, IsOk, IsSome, None, Ok, Some};
+ghost use Rattle.std.specs.Prelude.{◌≡◌, ◌≤◌, false, length, IfOk, IsOk, IsSome, None, Ok, OnOk, Some};
 ghost use Rattle.gaspi_types.specs.CallRows.{row_of};
 ghost use Rattle.gaspi_types.specs.SegmentTables.{alloc_checks};
 ghost use Rattle.gaspi_model.specs.Calls.{requested_kinds};
 ghost use Rattle.gaspi_model.specs.PassiveCalls.{sent_message};
 ghost use Rattle.rank_node.specs.Making.{made_segment};
 ghost use Rattle.rank_node.specs.Values.{PostsValue, MemoryValue};
-ghost use Rattle.rank_node.specs.Rooms.{HasEntries, HasMade, HasBytes, IsReservedFor};
+ghost use Rattle.rank_node.specs.Rooms.{empty_room, HasEntries, HasMade, HasBytes, IsReservedFor};
 
 use crate::making::MadeSegment;
 use crate::node_memory::NodeMemory;
@@ -125,82 +125,73 @@ fn reserve_bytes(alloc: Global, posts: &NodePosts, call: &Call) -> Result<Bytes,
     Ok(Sequence::new(alloc))
 }
 
-/// The room of a call that posts nothing and takes no memory: its row alone.
-fn empty_room(alloc: Global, invocation: &Invocation<'_>) -> Room
-    requires posting { (row_of invocation.now.call.now).posting ≡ None }
-    requires memory { (row_of invocation.now.call.now).takes_memory ≡ false }
-    ensures { (posts : PostsValue) (memory : MemoryValue) → IsReservedFor posts memory invocation.now.call.now result }
-{
-    Room {
-        row: invocation.row,
-        entries: None,
-        made: None,
-        message: None,
-        bytes: Sequence::new(alloc),
-        numbers: ReservedNumbers::nothing(),
-    }
-}
+/// A law: a call that posts nothing and takes no memory needs nothing but its row.
+fn needs_its_row_alone(call: &Call, room: &Room)
+    requires posting { (row_of call.now).posting ≡ None }
+    requires memory { (row_of call.now).takes_memory ≡ false }
+    requires empty { room.now ≡ empty_room (row_of call.now) }
+    ensures { (posts : PostsValue) (memory : MemoryValue) → IsReservedFor posts memory call.now room.now }
+{}
 
-/// The room of a call that posts: its entries alone.
-fn post_room(
+/// Reserves what a call that posts needs, its entries alone.
+fn reserve_post(
     alloc: Global,
     posts: &NodePosts,
     invocation: &Invocation<'_>,
-) -> Result<Room, NoMemory>
-    requires { IsSome (row_of invocation.now.call.now).posting }
-    ensures room { (memory : MemoryValue) → IfOk result (λ room. IsReservedFor posts.now memory invocation.now.call.now room) }
+    room: &mut Room,
+) -> Result<(), NoMemory>
+    requires posting { IsSome (row_of invocation.now.call.now).posting }
+    requires empty { room.old ≡ empty_room (row_of invocation.now.call.now) }
+    ensures room { (memory : MemoryValue) → OnOk result (IsReservedFor posts.now memory invocation.now.call.now room.new) }
     ensures ample { (row_of invocation.now.call.now).takes_memory ≡ false → IsOk result }
 {
-    let row = invocation.row;
-    Ok(Room {
-        row,
-        entries: reserve_entries(alloc, posts, row.posting, invocation.call)?,
-        made: None,
-        message: None,
-        bytes: Sequence::new(alloc),
-        numbers: ReservedNumbers::nothing(),
-    })
+    room.entries = reserve_entries(alloc, posts, invocation.row.posting, invocation.call)?;
+    Ok(())
 }
 
-/// The room of a call that posts nothing, in the posts and the memory of its caller's rank.
-fn memory_room(
+/// Reserves what a call that posts nothing needs, in the posts and the memory of its caller's rank.
+fn reserve_memory(
     alloc: Global,
     posts: &NodePosts,
     memory: &NodeMemory,
     invocation: &Invocation<'_>,
-) -> Result<Room, NoMemory>
+    room: &mut Room,
+) -> Result<(), NoMemory>
     requires posting { (row_of invocation.now.call.now).posting ≡ None }
     requires notes { posts.now.limits.notes ≤ 1024 }
-    ensures room { IfOk result (λ room. IsReservedFor posts.now memory.now invocation.now.call.now room) }
+    requires empty { room.old ≡ empty_room (row_of invocation.now.call.now) }
+    ensures room { OnOk result (IsReservedFor posts.now memory.now invocation.now.call.now room.new) }
     ensures ample { (row_of invocation.now.call.now).takes_memory ≡ false → IsOk result }
 {
     let call = invocation.call;
-    Ok(Room {
-        row: invocation.row,
-        entries: None,
-        made: reserve_made(alloc, posts, call)?,
-        message: reserve_message(alloc, posts, memory, call)?,
-        bytes: reserve_bytes(alloc, posts, call)?,
-        numbers: ReservedNumbers::for_call(alloc, call)?,
-    })
+    room.made = reserve_made(alloc, posts, call)?;
+    room.message = reserve_message(alloc, posts, memory, call)?;
+    room.bytes = reserve_bytes(alloc, posts, call)?;
+    room.numbers = ReservedNumbers::for_call(alloc, call)?;
+    Ok(())
 }
 
 /// Reserves the memory that a call needs, on the posts and the memory of its caller's rank, which do not change. A call whose row
-/// says that it takes no memory takes none.
+/// says that it takes no memory takes none. `room` is that of this call, in which nothing is reserved yet.
 pub(crate) fn reserve(
     alloc: Global,
     posts: &NodePosts,
     memory: &NodeMemory,
     invocation: &Invocation<'_>,
-) -> Result<Room, NoMemory>
-    requires { posts.now.limits.notes ≤ 1024 }
-    ensures room { IfOk result (λ room. IsReservedFor posts.now memory.now invocation.now.call.now room) }
+    room: &mut Room,
+) -> Result<(), NoMemory>
+    requires notes { posts.now.limits.notes ≤ 1024 }
+    requires empty { room.old ≡ empty_room (row_of invocation.now.call.now) }
+    ensures room { OnOk result (IsReservedFor posts.now memory.now invocation.now.call.now room.new) }
     ensures ample { (row_of invocation.now.call.now).takes_memory ≡ false → IsOk result }
 {
     match (invocation.row.posting, invocation.row.takes_memory) {
-        (None, false) => Ok(empty_room(alloc, invocation)),
-        (None, true) => memory_room(alloc, posts, memory, invocation),
-        (Some(_), _) => post_room(alloc, posts, invocation),
+        (None, false) => {
+            needs_its_row_alone(invocation.call, room);
+            Ok(())
+        }
+        (None, true) => reserve_memory(alloc, posts, memory, invocation, room),
+        (Some(_), _) => reserve_post(alloc, posts, invocation, room),
     }
 }
 
@@ -224,7 +215,21 @@ fn copied_bytes(bytes: &Bytes, mut list: Bytes) -> Bytes
 
 impl Room {
     ghost use Rattle.std.specs.Prelude.{◌≡◌};
-    ghost use Rattle.rank_node.specs.Rooms.{ReplyFitsReserved};
+    ghost use Rattle.rank_node.specs.Rooms.{ReplyFitsReserved, empty_room};
+
+    /// The room of a call with this row, in which nothing is reserved yet. It takes no memory.
+    pub fn new(alloc: Global, row: CallRow) -> Room
+        ensures { result ≡ empty_room row }
+    {
+        Room {
+            row,
+            entries: None,
+            made: None,
+            message: None,
+            bytes: Sequence::new(alloc),
+            numbers: ReservedNumbers::nothing(),
+        }
+    }
 
     /// An equal reply for the caller, beside that in the event. It works once, for it uses the list for a load's bytes or the
     /// caller's list of numbers. All else of the room stays, so it still serves the record. It takes no memory.
