@@ -93,7 +93,8 @@ class Said:
 
     @property
     def is_proved(self) -> bool:
-        return self.verdict.startswith("proved")
+        """Whether it is proved, or would be with the proofs of the stubs."""
+        return self.verdict.startswith(("proved", "no holes", "depends on a hole"))
 
     @property
     def is_at_limit(self) -> bool:
@@ -149,14 +150,15 @@ def parsed(crate: str, status: int, output: str) -> Check:
     return Check(status, output, functions, unread, ended)
 
 
-def check(libraries: Libraries, crate: str, texts: dict[str, str], only: list[str]) -> Check:
-    """Checks these files in a folder of their own: the functions named, or all where none is named."""
+def check(libraries: Libraries, crate: str, texts: dict[str, str], only: list[str], has_stubs: bool = False) -> Check:
+    """Checks these files in a folder of their own: the functions named, or all where none is named. Proofs may be holes where there are
+    stubs."""
     with libraries.turns, tempfile.TemporaryDirectory(prefix="wrong-bodies-") as room:
         began = time.monotonic()
         here = Path(room)
         write(here, texts)
         root = "src/main.rt" if "src/main.rt" in texts else "src/lib.rt"
-        words = libraries.words(crate, root) + [word for it in only for word in ("--only", it)]
+        words = libraries.words(crate, root) + [word for it in only for word in ("--only", it)] + ["--allow-holes"] * has_stubs
         # What a check of the same crate kept is taken from a copy.
         if copied(libraries.top / "crates" / crate / "out" / "incremental", here / "kept"):
             words += ["--incremental", "kept"]

@@ -24,6 +24,7 @@ class Function:
     first: int  # its first line, from 0
     behind: int  # the line behind its last
     is_of_trait: bool = False  # whether it stands in a trait or in an impl of one
+    body: tuple[int, int] | None = None  # where its body begins in the text of its file, and the place behind it
 
 
 def blanked(text: str) -> str:
@@ -68,18 +69,18 @@ def functions_in(path: str, text: str) -> list[Function]:
     quiet, found = blanked(text), []
     line = lambda place: quiet.count("\n", 0, place)
 
-    def body_end(start: int) -> int:
-        """The place behind a function whose name begins at `start`."""
+    def body_of(start: int) -> tuple[int, int]:
+        """Where the body begins of a function whose name ends at `start`, and the place behind it. Both are the same without a body."""
         place = start
         for token in iter(lambda: re.compile(r"[{;]").search(quiet, place), None):
             before, place = quiet[place : token.start()], token.end()
             if token[0] == ";" and before.count("[") <= before.count("]"):
-                return place
+                return place, place
             if token[0] == "{":
                 place = closed(quiet, token.start())
                 if not CLAUSE.search(before):
-                    return place
-        return len(quiet)
+                    return token.start(), place
+        return len(quiet), len(quiet)
 
     def items(start: int, end: int, module: str, prefix: str, is_of_trait: bool = False) -> None:
         above = place = start
@@ -93,11 +94,11 @@ def functions_in(path: str, text: str) -> list[Function]:
                 name = re.compile(r"\s*(\w+)").match(quiet, place)
                 if not name:
                     continue
-                place = body_end(name.end())
+                opens, place = body_of(name.end())
                 # The lines above it begin behind the last item.
                 first = line(above) + (1 if "\n" in quiet[above : token.start()] else 0)
                 path_of = "::".join(it for it in (prefix, name[1]) if it)
-                found.append(Function(path_of, module, first, line(place - 1) + 1, is_of_trait))
+                found.append(Function(path_of, module, first, line(place - 1) + 1, is_of_trait, (opens, place) if opens < place else None))
                 above = place
             elif token[0] in ("impl", "trait", "mod"):
                 opens = re.compile(r"[{;]").search(quiet, place, end)
