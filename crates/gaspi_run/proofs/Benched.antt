@@ -24,9 +24,9 @@ use Rattle.rank_script.specs.declared.scripts.RunOutcome.TheVariants as outcomes
 use Rattle.rank_script.specs.declared.scripts.Script.{Script}
 use Rattle.rank_script.specs.declared.scripts.ScriptLine.{ScriptLine}
 use Rattle.gaspi_run.specs.Command.{is_failed_or_stuck, is_limit_outcome, has_failed_or_stuck, is_any_limit, run_status, bench_limit, numbers_text, AreClosed, HasBenched}
-use Rattle.gaspi_run.specs.Endings.{HasLimitCause}
+use Rattle.plain_schedule.specs.Endings.{HasLimitCause}
 use Rattle.gaspi_run.specs.Threads.{AnswerTally, HasRunWorld}
-use Rattle.gaspi_run.specs.declared.schedule_states.EndedCaller.{EndedCaller}
+use Rattle.plain_schedule.specs.declared.schedule_states.EndedCaller.{EndedCaller}
 use Rattle.gaspi_run.proofs.OneOfEach.{counts, found-is, found-all, none-there}
 use Rattle.gaspi_run.proofs.SameCallers.{is-itself, only-itself}
 

@@ -18,7 +18,7 @@ use Rattle.gaspi_model.specs.declared.states.Why.{Why}
 use Rattle.gaspi_world.specs.Attempts.{MayHaveJoined}
 use Rattle.gaspi_world.specs.Calling.{JoinedFirst}
 use Rattle.gaspi_model.proofs.Recordable.{join-group}
-use Rattle.gaspi_run.specs.Joins.{IsFollowed, AreJoinsFollowed, IsJoinOf}
+use Rattle.plain_schedule.specs.Joins.{IsFollowed, AreJoinsFollowed, IsJoinOf}
 
 -- A law of the machine: a call joins as itself.
 abbrev pub Itself : Type 0

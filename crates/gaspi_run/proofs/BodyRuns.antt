@@ -20,7 +20,7 @@ use Rattle.gaspi_run.specs.Bodies.{HasRunScript}
 use Rattle.gaspi_run.specs.Runs.{HasRun}
 use Rattle.gaspi_run.specs.declared.bodies.ScriptBody.{ScriptBody}
 use Rattle.gaspi_run.specs.ThreadBodies.{BodyNeeds, BodyDid, EachAt, HaveAllRun, made_pass, IsBodyOf, IsReady, HasRunCaller, HasRunThreadBody, HasRunTask, IsDone, ended_caller, ended_callers}
-use Rattle.gaspi_run.specs.declared.schedule_states.EndedCaller.{EndedCaller}
+use Rattle.plain_schedule.specs.declared.schedule_states.EndedCaller.{EndedCaller}
 use Rattle.gaspi_run.specs.declared.thread_bodies.ThreadBody.{ThreadBody}
 use Rattle.gaspi_run.specs.declared.thread_bodies.ThreadBody.TheVariants.{Caller, Worker}
 use Rattle.gaspi_run.proofs.OneOfEach.{found-all, found-is, found-any, any-map}

@@ -21,7 +21,7 @@ use Rattle.rank_script.specs.declared.scripts.ScriptLine.{ScriptLine}
 use Rattle.gaspi_model.specs.CallerEvents.{events_of}
 use Rattle.gaspi_run.specs.Runs.{LackedRoom as HadNone, HasCause, IsStoppedBefore as WasStoppedBefore}
 use Rattle.gaspi_run.proofs.CallsOfEvents.{own-events}
-use Rattle.gaspi_run.specs.Endings.{own_events, IsStoppedBefore, LackedRoom, HasLimitCause}
+use Rattle.plain_schedule.specs.Endings.{own_events, IsStoppedBefore, LackedRoom, HasLimitCause}
 use Rattle.gaspi_run.specs.ThreadBodies.{is_not_out_of_memory}
 use Rattle.gaspi_run.proofs.RunLines.{line-there, need-plain}
 

@@ -34,7 +34,7 @@ use Rattle.gaspi_world.specs.declared.starts.Start.{Start}
 use Rattle.gaspi_run.specs.Looks.{looks_in, bounded, looks_along, HasLookAfter, AreWithin}
 use Rattle.gaspi_run.specs.Runs.{moved, LackedRoom, WasFull, IsStoppedBefore, HasCause, HasRun}
 use Rattle.gaspi_run.specs.SoFar.{HasNoEnd, HadRoomSoFar, LookedSoFar, IsAt, HasRunTo}
-use Rattle.gaspi_run.specs.Joins.{AreJoinsFollowed}
+use Rattle.plain_schedule.specs.Joins.{AreJoinsFollowed}
 use Rattle.gaspi_run.proofs.BodyJoins.{Itself, joins-itself, end-adds-nothing, followed-both, followed-all, call-follows, end-follows}
 use Rattle.gaspi_run.proofs.OwnCalls.{own-after, own-events, own-more, same-front, no-end-more, no-end-same}
 use Rattle.gaspi_run.proofs.RunLooks.{all, all-more, at-end, by-call-more, by-call-later, within-one, within-more, same-between, none-earlier, line-looks, looks-both, last-full}

@@ -41,16 +41,16 @@ use Rattle.gaspi_run.specs.declared.bodies.ScriptBody.{ScriptBody}
 use Rattle.gaspi_run.proofs.CallsOfEvents.{own-events}
 use Rattle.transfer_worker.specs.Order.{Drains}
 use Rattle.transfer_worker.specs.Turns.{IsDrained}
-use Rattle.gaspi_run.specs.Joins.{AreJoinsFollowed}
-use Rattle.gaspi_run.specs.Endings.{HasEnded, HaveEnded, HasSettled}
+use Rattle.plain_schedule.specs.Joins.{AreJoinsFollowed}
+use Rattle.plain_schedule.specs.Endings.{HasEnded, HaveEnded, HasSettled}
 use Rattle.gaspi_run.specs.ThreadBodies.{EachAt, HasRunTask, HasRunThreadBody, HasRunWorker, IsDone, HaveRun, made_pass, ended_caller, ended_with, ended_callers, is_not_out_of_memory}
 use Rattle.gaspi_run.specs.Threads.{HadPass, HadWorker, IsTallyOf}
 use Rattle.gaspi_run.specs.declared.thread_bodies.ThreadBody.{ThreadBody}
 use Rattle.gaspi_run.specs.declared.thread_bodies.ThreadBody.TheVariants.{Caller, Worker}
-use Rattle.gaspi_run.specs.declared.schedule_states.EndedCaller.{EndedCaller}
+use Rattle.plain_schedule.specs.declared.schedule_states.EndedCaller.{EndedCaller}
 use Rattle.gaspi_run.proofs.CallersEnd.{own-is, own-calls, limit-cause, stopped-before}
 use Rattle.gaspi_run.proofs.OneOfEach.{counts, count-none, count-one, count-some, find-one, found-all, count-map, none-there, all-at}
-use Rattle.gaspi_run.proofs.OwnValues.{step-has-own}
+use Rattle.plain_schedule.proofs.OwnValues.{step-has-own}
 use Rattle.gaspi_run.proofs.SameCallers.{is-itself, only-itself, same-caller}
 
 -- A legal history has its own values.

@@ -22,12 +22,12 @@ use Rattle.rank_script.specs.WorldText.{WorldReading, TextFault, world_text, che
 use Rattle.rank_script.specs.declared.scripts.Script.{Script}
 use Rattle.rank_script.specs.declared.scripts.RunOutcome.{RunOutcome}
 use Rattle.rank_script.specs.declared.scripts.RunOutcome.TheVariants as outcomes
-use Rattle.gaspi_run.specs.Endings.{HasSettled, HaveEnded}
+use Rattle.plain_schedule.specs.Endings.{HasSettled, HaveEnded}
 use Rattle.gaspi_run.specs.Judging.{IsChecked}
-use Rattle.gaspi_run.specs.Schedule.{IsScheduled}
+use Rattle.plain_schedule.specs.Schedule.{IsScheduled}
 use Rattle.gaspi_run.specs.Threads.{AnswerTally, HasRunWorld}
 use Rattle.call_journal.specs.Transcripts.{transcripts}
-use Rattle.gaspi_run.specs.declared.schedule_states.EndedCaller.{EndedCaller}
+use Rattle.plain_schedule.specs.declared.schedule_states.EndedCaller.{EndedCaller}
 use Rattle.gaspi_run.specs.declared.commands.Answer.{Answer}
 use Rattle.gaspi_run.specs.declared.judging.Question.TheVariants as questions
 

@@ -1,14 +1,10 @@
 pub mod Bodies
 pub mod Command
-pub mod Endings
-pub mod Generator
-pub mod Joins
 pub mod Judging
 pub mod Looks
 pub mod ThreadBodies
 pub mod Results
 pub mod Runs
 pub mod Answering
-pub mod Schedule
 pub mod SoFar
 pub mod Threads

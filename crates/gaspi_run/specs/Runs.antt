@@ -23,7 +23,7 @@ use Rattle.gaspi_world.specs.Calling.{AreLooks}
 use Rattle.gaspi_world.specs.Waits.{HaveWaited}
 use Rattle.gaspi_world.specs.declared.calling.Stop.{Stop}
 use Rattle.gaspi_world.specs.declared.calling.Stop.TheVariants as stops
-use Rattle.gaspi_run.specs.Joins.{AreJoinsFollowed}
+use Rattle.plain_schedule.specs.Joins.{AreJoinsFollowed}
 use Rattle.gaspi_run.specs.Looks.{looks_along, HasLookAfter, AreWithin, AreByCall}
 
 -- after what came of the present call: it goes on after its reply, and ends before a call that was not made

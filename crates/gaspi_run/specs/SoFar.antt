@@ -17,7 +17,7 @@ use Rattle.gaspi_world.specs.Attempts.{lacks_room_after}
 use Rattle.gaspi_model.specs.CallerEvents.{events_of}
 use Rattle.gaspi_world.specs.Calling.{AreLooks}
 use Rattle.gaspi_world.specs.Waits.{HaveWaited}
-use Rattle.gaspi_run.specs.Joins.{AreJoinsFollowed, IsJoinOf}
+use Rattle.plain_schedule.specs.Joins.{AreJoinsFollowed, IsJoinOf}
 use Rattle.gaspi_run.specs.Looks.{looks_in, looks_along, HasLookAfter, AreWithin, AreByCall}
 use Rattle.gaspi_run.specs.Runs.{WasFull}
 

@@ -19,7 +19,7 @@ use Rattle.gaspi_run.specs.Runs.{HasRun}
 use Rattle.gaspi_run.specs.declared.bodies.ScriptBody.{ScriptBody}
 use Rattle.transfer_worker.specs.Order.{Drains}
 use Rattle.transfer_worker.specs.Turns.{IsExtended, IsDrained}
-use Rattle.gaspi_run.specs.declared.schedule_states.EndedCaller.{EndedCaller}
+use Rattle.plain_schedule.specs.declared.schedule_states.EndedCaller.{EndedCaller}
 use Rattle.gaspi_run.specs.declared.thread_bodies.ThreadBody.{ThreadBody}
 use Rattle.gaspi_run.specs.declared.thread_bodies.ThreadBody.TheVariants.{Caller, Worker}
 

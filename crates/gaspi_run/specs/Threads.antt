@@ -23,8 +23,8 @@ use Rattle.gaspi_run.specs.Looks.{looks_along, AreWithin, AreByCall}
 use Rattle.transfer_worker.specs.Order.{Drains}
 use Rattle.transfer_worker.specs.Turns.{IsDrained}
 use Rattle.gaspi_texts.specs.JournalText.{AreInRange}
-use Rattle.gaspi_run.specs.Endings.{HasSettled, HaveEnded}
-use Rattle.gaspi_run.specs.declared.schedule_states.EndedCaller.{EndedCaller}
+use Rattle.plain_schedule.specs.Endings.{HasSettled, HaveEnded}
+use Rattle.plain_schedule.specs.declared.schedule_states.EndedCaller.{EndedCaller}
 
 -- The caller of a script had a pass of the world. What it did is in the journal, each call once, in order, with its reply, and so are
 -- its joins; what it had seen is a prefix of the journal. None of its timeouts came before the looks of its line were spent, or

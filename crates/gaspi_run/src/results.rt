@@ -11,8 +11,6 @@ ghost use Rattle.gaspi_run.specs.Command.{has_failed_or_stuck, is_any_limit, run
 
 use crate::command_results::CommandResult;
 use crate::judging::{Question, judge_input};
-use crate::schedule_states::EndedCaller;
-use crate::scheduling::schedule;
 use crate::threads::{RunResult, run_on_threads};
 use call_journal::{
     Numbers4, bench_calls, bench_notifications, bench_numbers, bench_transfers, bench_words,
@@ -23,6 +21,7 @@ use gaspi_model::StepFault;
 use gaspi_texts::{Journal, write_number};
 use gaspi_types::{Bytes, NoMemory, Shape};
 use gaspi_world::Tally;
+use plain_schedule::{EndedCaller, schedule};
 use rank_script::{RunOutcome, ScriptFault, Scripts, bench_world, read_world};
 use std::alloc::Global;
 use std::sync::Wait;

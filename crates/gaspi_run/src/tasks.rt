@@ -10,10 +10,10 @@ ghost use Rattle.rank_script.specs.WorldText.{AreScriptsOf};
 ghost use Rattle.gaspi_run.specs.ThreadBodies.{made_pass, AreCallersThere, EachAt, BodyNeeds, IsBodyOf, IsReady, HaveAllRun, IsDone, HaveRun, ended_caller, ended_callers};
 
 use crate::ScriptBody;
-use crate::schedule_states::EndedCaller;
 use crate::thread_bodies::ThreadBody;
 use gaspi_types::{NoMemory, Sequence};
 use gaspi_world::{Pass, Passes, Task, World, launch};
+use plain_schedule::EndedCaller;
 use rank_script::{Cursor, RunOutcome, Scripts};
 use std::alloc::Global;
 use std::sync::Wait;

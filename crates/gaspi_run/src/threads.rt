@@ -10,12 +10,12 @@ ghost use Rattle.gaspi_world.specs.Closing.{HaveSeen, HaveDone};
 ghost use Rattle.rank_script.specs.WorldText.{AreScriptsOf};
 ghost use Rattle.gaspi_run.specs.Threads.{HasRunWorld};
 
-use crate::schedule_states::EndedCaller;
 use crate::tasks::{ThreadsResult, run_bodies};
 use gaspi_model::{notification_order, settling};
 use gaspi_texts::{Journal, journal_is_in_range};
 use gaspi_types::{NoMemory, Sequence, Shape};
 use gaspi_world::{Passes, Started, Tally, World, waits_last};
+use plain_schedule::EndedCaller;
 use rank_script::Scripts;
 use std::alloc::Global;
 use std::sync::Wait;

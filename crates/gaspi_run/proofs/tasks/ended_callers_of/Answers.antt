@@ -1,6 +1,6 @@
 use Rattle.std.proofs.Common.{◌≡◌, ◌<◌, ◌++◌, List, length, sym, ap, ◌∙◌, append-nil, arith, option_to_list}
 use Rattle.gaspi_run.specs.ThreadBodies.{ended_caller}
-use Rattle.gaspi_run.specs.declared.schedule_states.EndedCaller.{EndedCaller}
+use Rattle.plain_schedule.specs.declared.schedule_states.EndedCaller.{EndedCaller}
 use Rattle.gaspi_run.proofs.BodyRuns.{finished-more, told-more}
 use Rattle.gaspi_run.proofs.tasks.ended_callers_of.Goals as goal
 use Rattle.gaspi_run.proofs.tasks.ended_callers_of.Goals.{in-Some+in_ok-push, in_default}

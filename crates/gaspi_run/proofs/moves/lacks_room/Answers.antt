@@ -1,5 +1,0 @@
-use Rattle.gaspi_run.proofs.Declared.{active-declared}
-use Rattle.gaspi_run.proofs.moves.lacks_room.Goals as goal
-
-pub lacks_room-requires : goal.lacks_room-requires
-lacks_room-requires c = active-declared c.args.schedule.now.state _ _ c.requires.active

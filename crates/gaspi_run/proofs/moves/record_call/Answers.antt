@@ -1,5 +1,0 @@
-use Rattle.gaspi_run.proofs.Declared.{active-declared}
-use Rattle.gaspi_run.proofs.moves.record_call.Goals as goal
-
-pub record-requires-clause-declared : goal.record-requires-clause-declared
-record-requires-clause-declared c = active-declared c.args.schedule.now.state _ _ c.requires.active

@@ -1,7 +1,0 @@
-use Rattle.std.proofs.Common.{◌≡◌}
-use Rattle.std.specs.List.{flat_map, range_with_len}
-use Rattle.gaspi_run.specs.Schedule.{rank_starts}
-use Rattle.gaspi_run.proofs.scheduling.starts.Given as goal
-
-abbrev pub invariant-loop-rank : goal.invariant-loop-rank
-invariant-loop-rank l = l.active ≡ flat_map (rank_starts l.scripts) (range_with_len 0 l.rank)

@@ -1,0 +1,4 @@
+pub mod Endings
+pub mod Generator
+pub mod Joins
+pub mod Schedule
