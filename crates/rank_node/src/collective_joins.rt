@@ -115,28 +115,44 @@ fn apply_join(
     add_pending(&mut own.posts, caller.thread, id, kept);
 }
 
-/// Makes the step by the join of a collective, recorded at `place`. The arguments that stay pending are a copy, its values in the
-/// list of `room`; the segment of a create was made before, in `made`. It takes no memory. (GASPI: collectives, segment_create)
+/// A join that a look has found to be possible.
+#[derive(Debug, Drop)]
+pub(crate) struct FoundJoin {
+    /// The caller that joins.
+    pub caller: CallerId,
+    /// The group.
+    pub group: GroupId,
+    /// The arguments, which go into the journal.
+    pub args: Args,
+    /// The segment of a create, which was made before.
+    pub made: Option<MadeSegment>,
+}
+
+/// Makes the step by a join, recorded at `place`. The arguments that stay pending are a copy, its values in the list of `room`. It
+/// takes no memory. (GASPI: collectives, segment_create)
 pub(crate) fn join(
     own: &mut Node,
     group: &mut GroupNode,
     place: u64,
-    caller: CallerId,
-    id: GroupId,
-    args: Args,
+    found: FoundJoin,
     room: &mut ReservedNumbers,
-    made: Option<MadeSegment>,
 )
-    requires own { caller.rank ≡ own.old.posts.me }
-    requires step { MayStepOn (Joined caller id args) own.old (Some group.old) }
-    requires capacity { length args.values.items ≤ room.old.values }
-    requires made { IsMadeFor own.old.posts args.coll made }
-    ensures left { (s t : State) (peer : Option Node) → IsStepOn s t (Joined caller id args) own.old peer (Some group.old)
-        → IsLeft s t (Joined caller id args) place own.old own.new peer peer (Some group.new) }
-    ensures pending { IsPendingFor own.new.posts caller.thread id (joining_call id args) }
+    requires own { found.caller.rank ≡ own.old.posts.me }
+    requires step { MayStepOn (Joined found.caller found.group found.args) own.old (Some group.old) }
+    requires capacity { length found.args.values.items ≤ room.old.values }
+    requires made { IsMadeFor own.old.posts found.args.coll found.made }
+    ensures left { (s t : State) (peer : Option Node) → IsStepOn s t (Joined found.caller found.group found.args) own.old peer (Some group.old)
+        → IsLeft s t (Joined found.caller found.group found.args) place own.old own.new peer peer (Some group.new) }
+    ensures pending { IsPendingFor own.new.posts found.caller.thread found.group (joining_call found.group found.args) }
     ensures event { room.new.event ≡ room.old.event }
     ensures caller { room.new.caller ≡ room.old.caller }
 {
+    let FoundJoin {
+        caller,
+        group: id,
+        args,
+        made,
+    } = found;
     let kept = copied_args(&args, take_numbers(&mut room.values));
     apply_join(own, group, &caller, id, &args, kept, made);
     own.posts.add_event(place, Event::Joined(caller, id, args));

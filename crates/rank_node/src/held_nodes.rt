@@ -22,7 +22,7 @@ ghost use Rattle.rank_node.specs.TransferSteps.{MayTake, MayPut, IsFirstPosted, 
 ghost use Rattle.rank_node.specs.Transfers.{take_of, put_of, event_of};
 
 use crate::collective_completions::{complete, refuse};
-use crate::collective_joins::join;
+use crate::collective_joins::{FoundJoin, join};
 use crate::collective_looks::{look, look_again, look_nowhere};
 use crate::lent_plain::{answer_alone, answer_between, called_alone, called_between};
 use crate::lent_transfers::{front_outcome, put_alone, put_between, take_alone, take_between};
@@ -222,7 +222,13 @@ impl HeldNodes {
     {
         match &mut self.other {
             OtherNode::Group(node) => {
-                join(&mut self.own, node, place, caller, group, args, room, made)
+                let found = FoundJoin {
+                    caller,
+                    group,
+                    args,
+                    made,
+                };
+                join(&mut self.own, node, place, found, room)
             }
             OtherNode::Nothing | OtherNode::Rank(_) => unreachable!(),
         }

@@ -14,7 +14,7 @@ ghost use Rattle.rank_node.specs.Lending.{behind, AreSame, LendsFor, AreLentFor,
 ghost use Rattle.rank_node.specs.Numbers.{elements_in, AnswerFits};
 
 use crate::collective_completions::{complete, refuse};
-use crate::collective_joins::join;
+use crate::collective_joins::{FoundJoin, join};
 use crate::collective_looks::{look, look_again, look_nowhere};
 use crate::lent::Lent;
 use crate::making::MadeSegment;
@@ -95,7 +95,15 @@ impl Lent<'_> {
         ensures caller { room.new.caller ≡ room.old.caller }
     {
         match &mut self.group {
-            Some(node) => join(self.own, node, place, caller, group, args, room, made),
+            Some(node) => {
+                let found = FoundJoin {
+                    caller,
+                    group,
+                    args,
+                    made,
+                };
+                join(self.own, node, place, found, room)
+            }
             None => unreachable!(),
         }
     }
