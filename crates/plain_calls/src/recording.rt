@@ -17,7 +17,7 @@ ghost use Rattle.plain_calls.specs.NumberBounds.{CallIsBounded, released};
 use crate::calls::call_effect;
 use crate::looks::Evaluation;
 use crate::queue_calls::{owed_at, purged_queue};
-use crate::replies::{is_refused_or_timeout, recorded_reply};
+use crate::replies::{is_refused_or_timeout, take_recorded_reply};
 use crate::threads::{is_running, thread_at};
 use gaspi_model::{Memory, Posts, ThreadState};
 use gaspi_types::{Call, Invocation, Limits, NoMemory, Ready, Reply};
@@ -62,37 +62,32 @@ fn record_evaluation(
     invocation: &Invocation<'_>,
     posts: &mut Posts,
     memory: &mut Memory,
-    evaluation: Evaluation,
+    evaluation: &mut Evaluation,
 ) -> Result<Reply, NoMemory>
-    requires room { is_idle (recorded_reply evaluation.ready) ≡ false → CallIsBounded posts.old invocation.now.call.now (length (kinds_of evaluation.kinds)) }
+    requires room { is_idle (recorded_reply evaluation.old.ready) ≡ false → CallIsBounded posts.old invocation.now.call.now (length (kinds_of evaluation.old.kinds)) }
     requires events { posts.old.events + 1 < 2 ^ 32 }
-    ensures reply { IfOk result (λ reply. reply ≡ recorded_reply evaluation.ready) }
-    ensures posts { OnOk result (posts.new ≡ posts_after_evaluation posts.old invocation.now.caller.thread invocation.now.call.now evaluation) }
-    ensures memory { OnOk result (memory.new ≡ memory_after limits.now posts.old evaluation.message memory.old invocation.now.call.now (recorded_reply evaluation.ready)) }
+    ensures reply { IfOk result (λ reply. reply ≡ recorded_reply evaluation.old.ready) }
+    ensures posts { OnOk result (posts.new ≡ posts_after_evaluation posts.old invocation.now.caller.thread invocation.now.call.now evaluation.old) }
+    ensures memory { OnOk result (memory.new ≡ memory_after limits.now posts.old evaluation.old.message memory.old invocation.now.call.now (recorded_reply evaluation.old.ready)) }
     ensures posts_kept { OnErr result (posts.new ≡ posts.old) }
     ensures memory_kept { OnErr result (memory.new ≡ memory.old) }
     ensures ample { keeps_memory invocation.now.call.now ≡ false → IsOk result }
 {
     let events = posts.events + 1;
-    let idle = evaluation.is_refused_or_timeout();
-    let Evaluation {
-        ready,
-        kinds,
-        message,
-    } = evaluation;
-    if !idle {
+    if !evaluation.is_refused_or_timeout() {
+        let message = evaluation.message.take();
         call_effect(
             alloc,
             limits,
             invocation,
             posts,
             memory,
-            kinds.as_slice(),
+            evaluation.kinds.as_slice(),
             message,
         )?;
     }
     posts.events = events;
-    Ok(recorded_reply(ready))
+    Ok(take_recorded_reply(&mut evaluation.ready))
 }
 
 /// What `record` gives.
@@ -114,20 +109,20 @@ pub fn record(
     posts: &mut Posts,
     memory: &mut Memory,
     used: u32,
-    evaluation: Evaluation,
+    evaluation: &mut Evaluation,
 ) -> Result<Recorded, NoMemory>
     requires limits { are_limits limits.now ≡ true }
     requires sound { IsSoundPosts limits.now posts.old }
-    requires used { used ≡ posts.old.events + owed posts.old + charge (thread_at posts.old invocation.now.caller.thread) invocation.now.call.now (recorded_reply evaluation.ready) }
+    requires used { used ≡ posts.old.events + owed posts.old + charge (thread_at posts.old invocation.now.caller.thread) invocation.now.call.now (recorded_reply evaluation.old.ready) }
     requires there { is_there (thread_at posts.old invocation.now.caller.thread) ≡ true }
-    requires evaluation { IsEvaluation evaluation limits.now invocation.now.caller.rank posts.old memory.old invocation.now.caller.thread invocation.now.call.now }
-    requires room { posts.old.events + owed posts.old + charge (thread_at posts.old invocation.now.caller.thread) invocation.now.call.now (recorded_reply evaluation.ready) ≤ limits.now.events }
-    ensures reply { IfOk result (λ recorded. recorded.reply ≡ recorded_reply evaluation.ready) }
-    ensures step { Steps {S = PostsAndMemory} (recorded_of result) (record { posts = posts.old; memory = memory.old }) (record { posts = posts.new; memory = memory.new }) (called limits.now invocation.now.caller.rank posts.old evaluation.message memory.old invocation.now.caller.thread invocation.now.call.now (recorded_reply evaluation.ready)) }
+    requires evaluation { IsEvaluation evaluation.old limits.now invocation.now.caller.rank posts.old memory.old invocation.now.caller.thread invocation.now.call.now }
+    requires room { posts.old.events + owed posts.old + charge (thread_at posts.old invocation.now.caller.thread) invocation.now.call.now (recorded_reply evaluation.old.ready) ≤ limits.now.events }
+    ensures reply { IfOk result (λ recorded. recorded.reply ≡ recorded_reply evaluation.old.ready) }
+    ensures step { Steps {S = PostsAndMemory} (recorded_of result) (record { posts = posts.old; memory = memory.old }) (record { posts = posts.new; memory = memory.new }) (called limits.now invocation.now.caller.rank posts.old evaluation.old.message memory.old invocation.now.caller.thread invocation.now.call.now (recorded_reply evaluation.old.ready)) }
     ensures used { IfOk result (λ recorded. recorded.used ≡ posts.new.events + owed posts.new) }
     ensures ample { keeps_memory invocation.now.call.now ≡ false → IsOk result }
 {
-    let freed = released(posts, invocation.call, &evaluation);
+    let freed = released(posts, invocation.call, evaluation);
     let reply = record_evaluation(alloc, limits, invocation, posts, memory, evaluation)?;
     let used = used - freed;
     Ok(Recorded { reply, used })

@@ -29,6 +29,16 @@ pub fn recorded_reply(ready: Ready) -> Reply
     }
 }
 
+/// Takes out of an answer the reply with which its call is recorded, as `recorded_reply` has it. What is left there is of no call.
+pub fn take_recorded_reply(ready: &mut Ready) -> Reply
+    ensures { result ≡ recorded_reply ready.old }
+{
+    match ready {
+        Ready::Reply(reply) => std::mem::replace(reply, Reply::Timeout),
+        Ready::Join(_) | Ready::NotReady => Reply::Timeout,
+    }
+}
+
 /// Whether a reply is a refusal or a timeout.
 pub fn is_refused_or_timeout(reply: &Reply) -> bool
     ensures { result ≡ is_idle reply.now }

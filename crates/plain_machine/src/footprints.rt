@@ -29,6 +29,29 @@ pub fn empty_memory(alloc: Global) -> Memory
     }
 }
 
+/// A memory with no segment, made once. It is lent to the looks that work on none. (own choice)
+#[derive(Debug, Drop)]
+pub struct EmptyMemory {
+    memory: Memory,
+    ghost empty: { memory ≡ empty_memory },
+}
+
+impl EmptyMemory {
+    /// An empty memory. It takes no memory.
+    pub fn new(alloc: Global) -> EmptyMemory {
+        EmptyMemory {
+            memory: empty_memory(alloc),
+        }
+    }
+
+    /// The memory, which is empty.
+    pub fn lent(&self) -> &Memory
+        ensures { result.now ≡ empty_memory }
+    {
+        &self.memory
+    }
+}
+
 /// A group with no member list and no contributions, for a number over 7. It takes no memory.
 pub fn empty_group(alloc: Global) -> Group
     ensures { result ≡ empty_group }

@@ -76,11 +76,11 @@ fn look_plain(
     ensures ample { looks_with_memory invocation.now.call.now ≡ false → IsOk result }
     ensures idle { (ready : Ready) → is_send invocation.now.call.now ≡ true → answer_in (state_in ranks.now memories.now) invocation.now.caller.rank invocation.now.caller.thread invocation.now.call.now ≡ Some ready → is_idle (recorded_reply ready) ≡ true → IsOk result }
 {
-    let none = empty_memory(alloc);
+    let none = ranks.none.lent();
     let rank = invocation.caller.rank;
     let footprint = call_footprint(&ranks.limits, invocation);
-    let own = own_memory(memories, &none, rank, &footprint);
-    let memory = accessed_memory(memories, &none, rank, &footprint);
+    let own = own_memory(memories, none, rank, &footprint);
+    let memory = accessed_memory(memories, none, rank, &footprint);
     look(
         alloc,
         &ranks.limits,
@@ -152,25 +152,24 @@ pub fn is_pending_in(ranks: &RankTables, invocation: &Invocation<'_>) -> bool
 /// Makes the step by a call with its evaluation, on the posts of its rank and the memory that it works on, and gives the reply.
 /// `charge` is that of the event. Where memory runs out nothing changes.
 ///
-/// This function and those up to `record_with_lanes` are put into their callers, so that the evaluation is not copied from one to
-/// the next.
+/// What is left of the evaluation, here and up to `record_with_lanes`, is of no call.
 #[inline(always)]
 fn record_on(
     ranks: &mut RankTables,
     memory: &mut Memory,
     alloc: Global,
     invocation: &Invocation<'_>,
-    look: Evaluation,
+    look: &mut Evaluation,
     charge: u32,
 ) -> Result<Reply, NoMemory>
     requires ranks { AreRanks ranks.old.limits ranks.old.posts }
     requires used { ranks.old.used ≡ map used_room_of ranks.old.posts }
     requires there { invocation.now.caller.rank < length ranks.old.posts }
-    requires look { (posts : Posts) → slice_get ranks.old.posts invocation.now.caller.rank ≡ Some posts → IsEvaluationOn look ranks.old.limits posts memory.old invocation.now.caller invocation.now.call.now }
-    requires charge { IsCharge charge ranks.old.posts invocation.now.caller invocation.now.call.now look.ready }
-    requires room { HasEventRoom ranks.old.limits ranks.old.posts invocation.now.caller invocation.now.call.now look.ready }
-    ensures reply { IfOk result (λ reply. reply ≡ recorded_reply look.ready) }
-    ensures step { Steps {S = PostsAndLentMemory} (recorded_of result) (record { posts = ranks.old.posts; memory = memory.old }) (record { posts = ranks.new.posts; memory = memory.new }) (call_lent ranks.old.limits ranks.old.posts look.message memory.old invocation.now.caller invocation.now.call.now (recorded_reply look.ready)) }
+    requires look { (posts : Posts) → slice_get ranks.old.posts invocation.now.caller.rank ≡ Some posts → IsEvaluationOn look.old ranks.old.limits posts memory.old invocation.now.caller invocation.now.call.now }
+    requires charge { IsCharge charge ranks.old.posts invocation.now.caller invocation.now.call.now look.old.ready }
+    requires room { HasEventRoom ranks.old.limits ranks.old.posts invocation.now.caller invocation.now.call.now look.old.ready }
+    ensures reply { IfOk result (λ reply. reply ≡ recorded_reply look.old.ready) }
+    ensures step { Steps {S = PostsAndLentMemory} (recorded_of result) (record { posts = ranks.old.posts; memory = memory.old }) (record { posts = ranks.new.posts; memory = memory.new }) (call_lent ranks.old.limits ranks.old.posts look.old.message memory.old invocation.now.caller invocation.now.call.now (recorded_reply look.old.ready)) }
     ensures ranks { length ranks.new.posts ≡ length ranks.old.posts }
     ensures limits { ranks.new.limits ≡ ranks.old.limits }
     ensures groups { ranks.new.groups ≡ ranks.old.groups }
@@ -201,14 +200,14 @@ fn record_plain(
     memories: &mut Sequence<Memory>,
     alloc: Global,
     invocation: &Invocation<'_>,
-    look: Evaluation,
+    look: &mut Evaluation,
     charge: u32,
 ) -> Result<Reply, NoMemory>
     requires whole { IsStateOf ranks.old memories.old }
-    requires found { IsEvaluationWithRoom look (state_in ranks.old memories.old) invocation.now.caller invocation.now.call.now charge }
+    requires found { IsEvaluationWithRoom look.old (state_in ranks.old memories.old) invocation.now.caller invocation.now.call.now charge }
     requires plain { (row_of invocation.now.call.now).group ≡ None }
-    ensures reply { IfOk result (λ reply. reply ≡ recorded_reply look.ready) }
-    ensures step { StepsBy (recorded_of result) (state_in ranks.old memories.old) (state_in ranks.new memories.new) (Called invocation.now.caller invocation.now.call.now (recorded_reply look.ready)) }
+    ensures reply { IfOk result (λ reply. reply ≡ recorded_reply look.old.ready) }
+    ensures step { StepsBy (recorded_of result) (state_in ranks.old memories.old) (state_in ranks.new memories.new) (Called invocation.now.caller invocation.now.call.now (recorded_reply look.old.ready)) }
     ensures used { ranks.new.used ≡ map used_room_of ranks.new.posts }
     ensures ample { keeps_memory invocation.now.call.now ≡ false → IsOk result }
 {
@@ -240,7 +239,7 @@ fn record_plain(
         }
         Footprint::PeerPosts(peer) => {
             let own = ranks.posts.at(rank.index());
-            let registration = registration(rank, own, invocation.call, &look);
+            let registration = registration(rank, own, invocation.call, look);
             let mut none = empty_memory(alloc);
             let reply = record_on(ranks, &mut none, alloc, invocation, look, charge)?;
             register_at_peer(ranks.posts.at_mut(peer.index()), registration);
@@ -300,20 +299,20 @@ fn record_posting(
     standing: &mut Vec<LaneId>,
     alloc: Global,
     invocation: &Invocation<'_>,
-    look: Evaluation,
+    look: &mut Evaluation,
     charge: u32,
 ) -> Result<Reply, NoMemory>
     requires machine { IsMachine (state_in ranks.old memories.old) ranks.old.used standing.old.items }
-    requires found { IsEvaluationWithRoom look (state_in ranks.old memories.old) invocation.now.caller invocation.now.call.now charge }
+    requires found { IsEvaluationWithRoom look.old (state_in ranks.old memories.old) invocation.now.caller invocation.now.call.now charge }
     requires plain { (row_of invocation.now.call.now).group ≡ None }
-    requires unpurged { look_purge invocation.now.call.now look ≡ None }
-    ensures reply { IfOk result (λ reply. reply ≡ recorded_reply look.ready) }
-    ensures step { StepsBy (recorded_of result) (state_in ranks.old memories.old) (state_in ranks.new memories.new) (Called invocation.now.caller invocation.now.call.now (recorded_reply look.ready)) }
+    requires unpurged { look_purge invocation.now.call.now look.old ≡ None }
+    ensures reply { IfOk result (λ reply. reply ≡ recorded_reply look.old.ready) }
+    ensures step { StepsBy (recorded_of result) (state_in ranks.old memories.old) (state_in ranks.new memories.new) (Called invocation.now.caller invocation.now.call.now (recorded_reply look.old.ready)) }
     ensures used { ranks.new.used ≡ map used_room_of ranks.new.posts }
     ensures named { standing.new.items ≡ nonempty_lanes ranks.new.posts }
     ensures ample { keeps_memory invocation.now.call.now ≡ false → IsOk result }
 {
-    let Some(id) = look_lane(invocation, &look) else {
+    let Some(id) = look_lane(invocation, look) else {
         return record_plain(ranks, memories, alloc, invocation, look, charge);
     };
     if has_entry(&ranks.posts, &id) {
@@ -337,23 +336,24 @@ pub fn record_with_lanes(
     standing: &mut Vec<LaneId>,
     alloc: Global,
     invocation: &Invocation<'_>,
-    look: Evaluation,
+    look: &mut Evaluation,
     charge: u32,
 ) -> Result<Reply, NoMemory>
     requires machine { IsMachine (state_in ranks.old memories.old) ranks.old.used standing.old.items }
-    requires found { IsEvaluationWithRoom look (state_in ranks.old memories.old) invocation.now.caller invocation.now.call.now charge }
-    requires unjoined { is_joining look.ready ≡ false }
-    ensures reply { IfOk result (λ reply. reply ≡ recorded_reply look.ready) }
-    ensures step { StepsBy (recorded_of result) (state_in ranks.old memories.old) (state_in ranks.new memories.new) (Called invocation.now.caller invocation.now.call.now (recorded_reply look.ready)) }
+    requires found { IsEvaluationWithRoom look.old (state_in ranks.old memories.old) invocation.now.caller invocation.now.call.now charge }
+    requires unjoined { is_joining look.old.ready ≡ false }
+    ensures reply { IfOk result (λ reply. reply ≡ recorded_reply look.old.ready) }
+    ensures step { StepsBy (recorded_of result) (state_in ranks.old memories.old) (state_in ranks.new memories.new) (Called invocation.now.caller invocation.now.call.now (recorded_reply look.old.ready)) }
     ensures used { ranks.new.used ≡ map used_room_of ranks.new.posts }
     ensures named { standing.new.items ≡ nonempty_lanes ranks.new.posts }
     ensures ample { keeps_memory invocation.now.call.now ≡ false → IsOk result }
 {
     if let Some(id) = invocation.row.group {
-        let reply = record_collective(ranks, alloc, invocation, id, look.ready);
+        let ready = std::mem::replace(&mut look.ready, Ready::NotReady);
+        let reply = record_collective(ranks, alloc, invocation, id, ready);
         return Ok(reply);
     }
-    let Some(queue) = look_purge(invocation.call, &look) else {
+    let Some(queue) = look_purge(invocation.call, look) else {
         return record_posting(ranks, memories, standing, alloc, invocation, look, charge);
     };
     let reply = record_plain(ranks, memories, alloc, invocation, look, charge)?;
@@ -383,6 +383,38 @@ fn has_room(ranks: &RankTables, rank: RankId, charge: u32) -> bool
     taken + charge <= ranks.limits.events
 }
 
+/// Makes the step by a call with its reply, where a look has given this evaluation. Where it is no step, its cause is given: `Reply`
+/// where the look found another one, or `Limit` without room. Then, and where memory runs out, nothing changes.
+fn step_looked(
+    ranks: &mut RankTables,
+    memories: &mut Sequence<Memory>,
+    standing: &mut Vec<LaneId>,
+    alloc: Global,
+    invocation: &Invocation<'_>,
+    reply: &Reply,
+    look: &mut Evaluation,
+) -> Result<(), StepFault>
+    requires machine { IsMachine (state_in ranks.old memories.old) ranks.old.used standing.old.items }
+    requires declared { is_declared (state_in ranks.old memories.old) invocation.now.caller.rank invocation.now.caller.thread ≡ true }
+    requires look { IsEvaluationIn look.old (state_in ranks.old memories.old) invocation.now.caller invocation.now.call.now }
+    ensures step { StepsBy result (state_in ranks.old memories.old) (state_in ranks.new memories.new) (Called invocation.now.caller invocation.now.call.now reply.now) }
+    ensures used { ranks.new.used ≡ map used_room_of ranks.new.posts }
+    ensures named { standing.new.items ≡ nonempty_lanes ranks.new.posts }
+    ensures ample { keeps_memory invocation.now.call.now ≡ false → result ≢ Err StepFault.NoMemory }
+{
+    if !look.may_be_recorded_with(reply) {
+        return Err(StepFault::Illegal(Why::Reply));
+    }
+    let charge = event_charge(ranks, invocation, &look.ready);
+    if !has_room(ranks, invocation.caller.rank, charge) {
+        return Err(StepFault::Illegal(Why::Limit));
+    }
+    match record_with_lanes(ranks, memories, standing, alloc, invocation, look, charge) {
+        Ok(_) => Ok(()),
+        Err(NoMemory) => Err(StepFault::NoMemory),
+    }
+}
+
 /// Makes the step by a call with its reply. Where it is no step, its cause is given: `Caller` without a section, `Reply` where the
 /// look finds another one, or `Limit` without room. Then, and where memory runs out, nothing changes.
 pub fn step_called(
@@ -402,19 +434,9 @@ pub fn step_called(
     if !has_section(ranks, &invocation.caller) {
         return Err(StepFault::Illegal(Why::Caller));
     }
-    let look = match look_in(ranks, memories, alloc, invocation) {
-        Ok(look) => look,
-        Err(NoMemory) => return Err(StepFault::NoMemory),
-    };
-    if !look.may_be_recorded_with(reply) {
-        return Err(StepFault::Illegal(Why::Reply));
-    }
-    let charge = event_charge(ranks, invocation, &look.ready);
-    if !has_room(ranks, invocation.caller.rank, charge) {
-        return Err(StepFault::Illegal(Why::Limit));
-    }
-    match record_with_lanes(ranks, memories, standing, alloc, invocation, look, charge) {
-        Ok(_) => Ok(()),
+    let mut found = look_in(ranks, memories, alloc, invocation);
+    match &mut found {
+        Ok(look) => step_looked(ranks, memories, standing, alloc, invocation, reply, look),
         Err(NoMemory) => Err(StepFault::NoMemory),
     }
 }

@@ -18,6 +18,7 @@ ghost use Rattle.plain_calls.specs.Memory.{is_send, looks_with_memory, keeps_mem
 ghost use Rattle.plain_machine.specs.Looking.{IsEvaluationIn};
 ghost use Rattle.plain_machine.specs.Words.{word_in};
 
+use crate::footprints::EmptyMemory;
 use crate::listing::transfers;
 use crate::looking::{
     event_charge, has_section, is_pending_in, join_found, look_in, record_with_lanes,
@@ -82,6 +83,7 @@ impl Machine {
                 posts: all_posts(alloc, shape)?,
                 used: all_used(alloc, shape)?,
                 groups: all_groups(alloc, shape)?,
+                none: EmptyMemory::new(alloc),
             },
             memories: all_memories(alloc, shape)?,
             standing: Vec::new(alloc),
@@ -116,25 +118,24 @@ impl Machine {
         ensures ample { looks_with_memory invocation.now.call.now ≡ false → IsOk result }
         ensures idle { (ready : Ready) → is_send invocation.now.call.now ≡ true → answer_in self.now invocation.now.caller.rank invocation.now.caller.thread invocation.now.call.now ≡ Some ready → is_idle (recorded_reply ready) ≡ true → IsOk result }
     {
-        let look = look_in(&self.ranks, &self.memories, alloc, invocation)?;
-        Ok(look)
+        look_in(&self.ranks, &self.memories, alloc, invocation)
     }
 
     /// Makes the step by a call with its evaluation, and gives the reply. The evaluation is of this very call in this very state,
     /// and is no join; the event is a step, since its rank has room for it. So nothing is checked again. Only a post, an alloc and a
-    /// send take memory; where it runs out nothing changes.
+    /// send take memory; where it runs out nothing changes. What is left of the evaluation is of no call.
     pub fn record(
         &mut self,
         alloc: Global,
         invocation: &Invocation<'_>,
-        look: Evaluation,
+        look: &mut Evaluation,
     ) -> Result<Reply, NoMemory>
         requires declared { is_declared self.old invocation.now.caller.rank invocation.now.caller.thread ≡ true }
-        requires look { IsEvaluationIn look self.old invocation.now.caller invocation.now.call.now }
-        requires unjoined { is_joining look.ready ≡ false }
-        requires steps { IsOk (step self.old (Called invocation.now.caller invocation.now.call.now (recorded_reply look.ready))) }
-        ensures reply { IfOk result (λ reply. reply ≡ recorded_reply look.ready) }
-        ensures step { Steps (recorded_of result) self.old self.new (step self.old (Called invocation.now.caller invocation.now.call.now (recorded_reply look.ready))) }
+        requires look { IsEvaluationIn look.old self.old invocation.now.caller invocation.now.call.now }
+        requires unjoined { is_joining look.old.ready ≡ false }
+        requires steps { IsOk (step self.old (Called invocation.now.caller invocation.now.call.now (recorded_reply look.old.ready))) }
+        ensures reply { IfOk result (λ reply. reply ≡ recorded_reply look.old.ready) }
+        ensures step { Steps (recorded_of result) self.old self.new (step self.old (Called invocation.now.caller invocation.now.call.now (recorded_reply look.old.ready))) }
         ensures ample { keeps_memory invocation.now.call.now ≡ false → IsOk result }
     {
         soundness();

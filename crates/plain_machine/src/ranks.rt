@@ -1,5 +1,6 @@
 //! The ranks of the machine, apart from their memories, and its groups: they are lent together, so that a memory can be lent beside.
 
+use crate::footprints::EmptyMemory;
 use gaspi_model::Posts;
 use gaspi_types::{Group, Limits, Sequence};
 
@@ -14,4 +15,6 @@ pub struct RankTables {
     pub used: Sequence<u32>,
     /// The eight groups.
     pub groups: Sequence<Group>,
+    /// The memory that a look has which works on none.
+    pub none: EmptyMemory,
 }

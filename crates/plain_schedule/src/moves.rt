@@ -80,15 +80,15 @@ fn record_call(
     alloc: Global,
     index: usize,
     invocation: &Invocation<'_>,
-    look: Evaluation,
+    look: &mut Evaluation,
 ) -> Result<(), NoMemory>
     requires index { index < length schedule.old.active }
     requires caller { IsCallerAt schedule.old index invocation.now.caller }
     requires active { is_active schedule.old.state invocation.now.caller.rank invocation.now.caller.thread ≡ true }
-    requires look { IsEvaluationIn look schedule.old.state invocation.now.caller invocation.now.call.now }
-    requires unjoined { is_joining look.ready ≡ false }
-    requires steps { IsOk (step schedule.old.state (Called invocation.now.caller invocation.now.call.now (recorded_reply look.ready))) }
-    ensures { (w : ActiveCaller) → slice_get schedule.old.active index ≡ Some w → OnOk result (schedule.new ≡ recorded schedule.old index w invocation.now.call.now (recorded_reply look.ready)) }
+    requires look { IsEvaluationIn look.old schedule.old.state invocation.now.caller invocation.now.call.now }
+    requires unjoined { is_joining look.old.ready ≡ false }
+    requires steps { IsOk (step schedule.old.state (Called invocation.now.caller invocation.now.call.now (recorded_reply look.old.ready))) }
+    ensures { (w : ActiveCaller) → slice_get schedule.old.active index ≡ Some w → OnOk result (schedule.new ≡ recorded schedule.old index w invocation.now.call.now (recorded_reply look.old.ready)) }
 {
     let call = invocation.call.copy(alloc)?;
     bring_on(schedule.active.at_mut(index), &look.ready);
@@ -124,14 +124,14 @@ fn look_again(
     index: usize,
     invocation: &Invocation<'_>,
     timeout: Timeout,
-    look: Evaluation,
+    look: &mut Evaluation,
 ) -> Result<(), NoMemory>
     requires index { index < length schedule.old.active }
     requires caller { IsCallerAt schedule.old index invocation.now.caller }
     requires active { is_active schedule.old.state invocation.now.caller.rank invocation.now.caller.thread ≡ true }
-    requires look { IsEvaluationIn look schedule.old.state invocation.now.caller invocation.now.call.now }
-    requires not_ready { look.ready ≡ NotReady }
-    requires steps { IsOk (step schedule.old.state (Called invocation.now.caller invocation.now.call.now (recorded_reply look.ready))) }
+    requires look { IsEvaluationIn look.old schedule.old.state invocation.now.caller invocation.now.call.now }
+    requires not_ready { look.old.ready ≡ NotReady }
+    requires steps { IsOk (step schedule.old.state (Called invocation.now.caller invocation.now.call.now (recorded_reply look.old.ready))) }
     ensures { (w : ActiveCaller) (line : ScriptLine) → slice_get schedule.old.active index ≡ Some w → line.call ≡ invocation.now.call.now → line.timeout ≡ timeout
         → OnOk result (schedule.new ≡ looked limit schedule.old index w line) }
 {
@@ -145,15 +145,10 @@ fn look_again(
 }
 
 /// The arguments of the join, where a look found that the call may join; otherwise none.
-fn join_args(look: Evaluation) -> Option<Args>
-    ensures { result ≡ join_args look.ready }
+fn join_args(look: &mut Evaluation) -> Option<Args>
+    ensures { result ≡ join_args look.old.ready }
 {
-    let Evaluation {
-        ready,
-        kinds: _,
-        message: _,
-    } = look;
-    match ready {
+    match std::mem::replace(&mut look.ready, Ready::NotReady) {
         Ready::Join(args) => Some(args),
         Ready::Reply(_) | Ready::NotReady => None,
     }
@@ -198,11 +193,14 @@ fn look_joined(
     ensures { (w : ActiveCaller) (line : ScriptLine) → slice_get schedule.old.active index ≡ Some w → line.call ≡ invocation.now.call.now → line.timeout ≡ timeout
         → OnOk result (schedule.new ≡ joined_iteration limit schedule.old index w line) }
 {
-    let found = schedule.state.look(alloc, invocation)?;
-    match found.ready {
-        Ready::Reply(_) => record_call(schedule, alloc, index, invocation, found),
-        Ready::Join(_) => Ok(()),
-        Ready::NotReady => look_again(schedule, alloc, limit, index, invocation, timeout, found),
+    let mut found = schedule.state.look(alloc, invocation);
+    match &mut found {
+        Ok(look) => match look.ready {
+            Ready::Reply(_) => record_call(schedule, alloc, index, invocation, look),
+            Ready::Join(_) => Ok(()),
+            Ready::NotReady => look_again(schedule, alloc, limit, index, invocation, timeout, look),
+        },
+        Err(NoMemory) => Err(NoMemory),
     }
 }
 
@@ -234,8 +232,43 @@ fn go_on(
     go_on_with(schedule, alloc, limit, index, &invocation, timeout)
 }
 
+/// Goes on after a look at the present call of an active caller, whose rank has the room that the call needs: a reply is recorded; a
+/// collective that may join joins, and is looked at again; a call that is not ready is counted.
+fn follow_look(
+    schedule: &mut ScheduleState,
+    alloc: Global,
+    limit: u32,
+    index: usize,
+    invocation: &Invocation<'_>,
+    timeout: Timeout,
+    look: &mut Evaluation,
+) -> Result<(), NoMemory>
+    requires index { index < length schedule.old.active }
+    requires caller { IsCallerAt schedule.old index invocation.now.caller }
+    requires active { is_active schedule.old.state invocation.now.caller.rank invocation.now.caller.thread ≡ true }
+    requires room { lacks_room_in schedule.old.state invocation.now.caller invocation.now.call.now ≡ false }
+    requires look { IsEvaluationIn look.old schedule.old.state invocation.now.caller invocation.now.call.now }
+    requires answer { answer_in schedule.old.state invocation.now.caller.rank invocation.now.caller.thread invocation.now.call.now ≡ Some look.old.ready }
+    ensures { (w : ActiveCaller) (line : ScriptLine) → slice_get schedule.old.active index ≡ Some w → line.call ≡ invocation.now.call.now → line.timeout ≡ timeout
+        → OnOk result (schedule.new ≡ active_iteration limit schedule.old index w line) }
+{
+    // Says that the state is sound.
+    schedule.state.limits();
+    match look.ready {
+        Ready::NotReady => look_again(schedule, alloc, limit, index, invocation, timeout, look),
+        Ready::Reply(_) => record_call(schedule, alloc, index, invocation, look),
+        Ready::Join(_) => match join_args(look) {
+            Some(args) => {
+                join_group(schedule, alloc, invocation, args)?;
+                look_joined(schedule, alloc, limit, index, invocation, timeout)
+            }
+            None => Ok(()),
+        },
+    }
+}
+
 /// The iteration of an active caller that has a present call. Where its rank lacks room, its run ends before the call. Otherwise it
-/// looks: a reply is recorded; a collective that may join joins, and is looked at again; a call that is not ready is counted.
+/// looks, and goes on with what the look found.
 fn go_on_with(
     schedule: &mut ScheduleState,
     alloc: Global,
@@ -250,24 +283,16 @@ fn go_on_with(
     ensures { (w : ActiveCaller) (line : ScriptLine) → slice_get schedule.old.active index ≡ Some w → line.call ≡ invocation.now.call.now → line.timeout ≡ timeout
         → OnOk result (schedule.new ≡ active_iteration limit schedule.old index w line) }
 {
-    schedule.state.limits();
     if lacks_room(schedule, invocation) {
         let active = schedule.active.at_mut(index);
         active.cursor.stop(RunStop::Limit);
         active.looks = 0;
         return Ok(());
     }
-    let look = schedule.state.look(alloc, invocation)?;
-    match look.ready {
-        Ready::NotReady => look_again(schedule, alloc, limit, index, invocation, timeout, look),
-        Ready::Reply(_) => record_call(schedule, alloc, index, invocation, look),
-        Ready::Join(_) => match join_args(look) {
-            Some(args) => {
-                join_group(schedule, alloc, invocation, args)?;
-                look_joined(schedule, alloc, limit, index, invocation, timeout)
-            }
-            None => Ok(()),
-        },
+    let mut found = schedule.state.look(alloc, invocation);
+    match &mut found {
+        Ok(look) => follow_look(schedule, alloc, limit, index, invocation, timeout, look),
+        Err(NoMemory) => Err(NoMemory),
     }
 }
 

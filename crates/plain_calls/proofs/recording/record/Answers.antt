@@ -8,26 +8,26 @@ use Rattle.plain_calls.proofs.recording.record.Goals as goal
 
 pub record_evaluation-requires-clause-room : goal.record_evaluation-requires-clause-room
 record_evaluation-requires-clause-room c =
-    look_room c.args.evaluation c.args.limits.now c.args.invocation.now.caller.rank c.args.posts.now c.args.memory.now c.args.invocation.now.caller.thread c.args.invocation.now.call.now c.requires.limits c.requires.sound c.requires.evaluation
+    look_room c.args.evaluation.now c.args.limits.now c.args.invocation.now.caller.rank c.args.posts.now c.args.memory.now c.args.invocation.now.caller.thread c.args.invocation.now.call.now c.requires.limits c.requires.sound c.requires.evaluation
 
 pub returns-clause-step : goal.returns-clause-step
 returns-clause-step c =
     rw (c.in_ok-reply.ensures.posts, c.in_ok-reply.ensures.memory)
-    (look_steps c.args.evaluation c.args.limits.now c.args.invocation.now.caller.rank c.args.posts.now c.args.memory.now c.args.invocation.now.caller.thread c.args.invocation.now.call.now c.requires.evaluation c.requires.there (le-leb _ _ c.requires.room))
+    (look_steps c.args.evaluation.now c.args.limits.now c.args.invocation.now.caller.rank c.args.posts.now c.args.memory.now c.args.invocation.now.caller.thread c.args.invocation.now.call.now c.requires.evaluation c.requires.there (le-leb _ _ c.requires.room))
 
 pub released-freed-requires : goal.released-freed-requires
 released-freed-requires c =
-    let part = released-part c.args.posts.now c.args.invocation.now.call.now (recorded_reply c.args.evaluation.ready) in
+    let part = released-part c.args.posts.now c.args.invocation.now.call.now (recorded_reply c.args.evaluation.now.ready) in
     let room = c.requires.sound.room in
     let limited = c.requires.limits in
     grind (arith, nat_tests, part, room, limited)
 
 pub overflow_sub-used : goal.overflow_sub-used
 overflow_sub-used c =
-    let used = look_used c.args.evaluation c.args.limits.now c.args.invocation.now.caller.rank c.args.posts.now c.args.memory.now c.args.invocation.now.caller.thread c.args.invocation.now.call.now c.requires.sound c.requires.evaluation in
+    let used = look_used c.args.evaluation.now c.args.limits.now c.args.invocation.now.caller.rank c.args.posts.now c.args.memory.now c.args.invocation.now.caller.thread c.args.invocation.now.call.now c.requires.sound c.requires.evaluation in
     rw c.requires.used (released-within _ _ _ _ used c.released-freed.ensures)
 
 pub returns-clause-used : goal.returns-clause-used
 returns-clause-used c =
-    let used = look_used c.args.evaluation c.args.limits.now c.args.invocation.now.caller.rank c.args.posts.now c.args.memory.now c.args.invocation.now.caller.thread c.args.invocation.now.call.now c.requires.sound c.requires.evaluation in
+    let used = look_used c.args.evaluation.now c.args.limits.now c.args.invocation.now.caller.rank c.args.posts.now c.args.memory.now c.args.invocation.now.caller.thread c.args.invocation.now.call.now c.requires.sound c.requires.evaluation in
     rw (c.in_ok-reply.ensures.posts, c.requires.used) (less-released _ _ _ _ used c.released-freed.ensures)

@@ -53,7 +53,7 @@ returns-in_err-recorded-clause-step c =
     let there = rw c.index-rank.ensures.value at c.at_mut.ensures.value in
     rw (c.index-rank.ensures.value, failed c.from_residual.result c.from_residual.ensures.0)
     (lent_steps (Err faults.NoMemory) c.args.ranks.now.posts c.args.invocation.now.caller.rank _ _ _ _ whys.Caller
-    (λ p m. called c.args.ranks.now.limits c.args.invocation.now.caller.rank p c.args.look.message m c.args.invocation.now.caller.thread c.args.invocation.now.call.now (recorded_reply c.args.look.ready)) there c.in_err-recorded.ensures.step)
+    (λ p m. called c.args.ranks.now.limits c.args.invocation.now.caller.rank p c.args.look.now.message m c.args.invocation.now.caller.thread c.args.invocation.now.call.now (recorded_reply c.args.look.now.ready)) there c.in_err-recorded.ensures.step)
 
 pub returns-in_err-recorded-clause-used : goal.returns-in_err-recorded-clause-used
 returns-in_err-recorded-clause-used c =
@@ -65,7 +65,7 @@ returns-clause-step c =
     let there = rw c.index-rank.ensures.value at c.at_mut.ensures.value in
     rw c.index-rank.ensures.value
     (lent_steps (Ok tt) c.args.ranks.now.posts c.args.invocation.now.caller.rank _ _ _ _ whys.Caller
-    (λ p m. called c.args.ranks.now.limits c.args.invocation.now.caller.rank p c.args.look.message m c.args.invocation.now.caller.thread c.args.invocation.now.call.now (recorded_reply c.args.look.ready)) there c.in_ok-recorded.ensures.step)
+    (λ p m. called c.args.ranks.now.limits c.args.invocation.now.caller.rank p c.args.look.now.message m c.args.invocation.now.caller.thread c.args.invocation.now.call.now (recorded_reply c.args.look.now.ready)) there c.in_ok-recorded.ensures.step)
 
 pub returns-clause-used : goal.returns-clause-used
 returns-clause-used c =

@@ -1,7 +1,11 @@
+use Rattle.std.proofs.lemmas.Result.{IfOk-weaker}
 use Rattle.plain_machine.specs.Machine.{state_in}
 use Rattle.plain_machine.proofs.Recorded.{finding_answers}
 use Rattle.plain_machine.proofs.machine.Machine.look.Goals as goal
 
 pub returns-clause-answer : goal.returns-clause-answer
 returns-clause-answer c =
-    rw (← c.self.view_is) (finding_answers (state_in c.self.inside.ranks c.self.inside.memories) c.args.invocation.now.caller c.args.invocation.now.call.now c.in_ok-look.look (rw (← c.self.view_is) at c.requires) c.in_ok-look.ensures.look)
+    let s = state_in c.self.inside.ranks c.self.inside.memories in
+    rw (← c.self.view_is)
+    (IfOk-weaker c.look_in.result _ _ (λ look found. finding_answers s c.args.invocation.now.caller c.args.invocation.now.call.now look (rw (← c.self.view_is) at c.requires) found)
+    c.look_in.ensures.look)

@@ -10,10 +10,10 @@ use Rattle.plain_machine.proofs.machine.Machine.record.Goals as goal
 
 pub invariant_of-self : goal.invariant_of-self
 invariant_of-self c = (
-  stepped (state_in c.self.inside.ranks c.self.inside.memories) _ (Called c.args.invocation.now.caller c.args.invocation.now.call.now (recorded_reply c.args.look.ready)) _ _ _ _ (recorded_of c.record_with_lanes.result)
+  stepped (state_in c.self.inside.ranks c.self.inside.memories) _ (Called c.args.invocation.now.caller c.args.invocation.now.call.now (recorded_reply c.args.look.now.ready)) _ _ _ _ (recorded_of c.record_with_lanes.result)
       c.soundness.ensures.steps c.self.invariant.0 c.record_with_lanes.ensures.step c.record_with_lanes.ensures.used c.record_with_lanes.ensures.named,
   rw c.forget_moved.ensures
-      (counts_recorded c.self.inside.counts (state_in c.self.inside.ranks c.self.inside.memories) (state_in c.record_with_lanes.new.ranks c.record_with_lanes.new.memories) c.args.invocation.now.caller c.args.invocation.now.call.now (recorded_reply c.args.look.ready) (recorded_of c.record_with_lanes.result)
+      (counts_recorded c.self.inside.counts (state_in c.self.inside.ranks c.self.inside.memories) (state_in c.record_with_lanes.new.ranks c.record_with_lanes.new.memories) c.args.invocation.now.caller c.args.invocation.now.call.now (recorded_reply c.args.look.now.ready) (recorded_of c.record_with_lanes.result)
       c.soundness.ensures.limits c.self.invariant.1 c.record_with_lanes.ensures.step),
 )
 
@@ -26,5 +26,5 @@ record_with_lanes-requires-clause-found c = record {
   declared = rw (← c.self.view_is) at c.requires.declared;
   finds = rw (← c.self.view_is) at c.requires.look;
   charge = c.event_charge-charge.ensures.charge;
-  room = room_of_step (state_in c.self.inside.ranks c.self.inside.memories) c.args.invocation.now.caller c.args.invocation.now.call.now c.args.look.ready (rw (← c.self.view_is) at c.requires.steps);
+  room = room_of_step (state_in c.self.inside.ranks c.self.inside.memories) c.args.invocation.now.caller c.args.invocation.now.call.now c.args.look.now.ready (rw (← c.self.view_is) at c.requires.steps);
 }

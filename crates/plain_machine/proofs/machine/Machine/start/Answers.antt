@@ -10,7 +10,7 @@ invariant_of-result c = (
     sound = c.soundness.ensures.opens c.args.shape.now c.limits-limits.ensures.world;
     fitting = fitting-opening c.args.shape.now c.limits-limits.ensures.world.limits;
     used = used-opening c.args.shape.now (range_with_len 0 c.args.shape.now.limits.ranks);
-    named = c.new.ensures.items ∙ nonempty-opening c.args.shape.now (range_with_len 0 c.args.shape.now.limits.ranks);
+    named = c.new-2.ensures.items ∙ nonempty-opening c.args.shape.now (range_with_len 0 c.args.shape.now.limits.ranks);
   }),
   rw c.in_ok-opening_counts.ensures (counts_opening _ _ _),
 )
