@@ -252,7 +252,9 @@ pub fn judge_input(
     ensures fault { (number line : ℕ) → IsErrOf result (script_faults.At number line)
         → checked_world input.now ≡ Err (record { number = number; line = line }) }
 {
-    let (shape, _scripts, place) = read_input(alloc, input)?;
+    let (shape, scripts, place) = read_input(alloc, input)?;
+    // The journal has the room of the scripts, which say nothing of it.
+    drop(scripts);
     match place {
         None => Ok(no_journal_result(alloc, line_count(input) + 1)?),
         Some((place, number)) => {

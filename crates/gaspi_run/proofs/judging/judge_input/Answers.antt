@@ -11,7 +11,7 @@ all-behind place input = ap (λ (n : ℕ). take n (drop place input)) (sym (leng
 pub returns-clause-told : goal.returns-clause-told
 returns-clause-told c = record {
   world = c.in_ok-shape.shape;
-  scripts = c.in_ok-shape._scripts;
+  scripts = c.in_ok-shape.scripts;
   read = c.in_ok-shape.ensures.exact.0;
   result =
       subst (λ (o : Option (ℕ × ℕ)). IsCheckedIn c.args.question c.in_ok-shape.shape c.args.input.now o c.in_ok-journal_result-in-Some.field-0.journal c.in_ok-journal_result-in-Some.field-0.status c.in_ok-journal_result-in-Some.field-0.text)
