@@ -144,7 +144,11 @@ pub fn run_command<S: Source, K: Sink>(
         (K.held sink.old) (K.held sink.new) (K.faults sink.old) (K.faults sink.new) result }
 {
     match read_all(alloc, source, MOST_INPUT_BYTES as u64) {
-        Ok(input) => answer_result(alloc, sink, command_result(alloc, command, input)),
+        Ok(input) => answer_result(
+            alloc,
+            sink,
+            command_result(alloc, command, input.as_slice()),
+        ),
         Err(stop) => answer_stop(alloc, sink, stop),
     }
 }
@@ -166,7 +170,7 @@ pub fn run_threads<R: Threads + Wait + Sync, S: Source, K: Sink>(
 {
     match read_all(alloc, source, MOST_INPUT_BYTES as u64) {
         Ok(input) => {
-            let told = run_result(rt, alloc, workers, limit, brief, input);
+            let told = run_result(rt, alloc, workers, limit, brief, input.as_slice());
             answer_result(alloc, sink, told)
         }
         Err(stop) => answer_stop(alloc, sink, stop),

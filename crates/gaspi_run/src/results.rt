@@ -91,18 +91,16 @@ pub fn run_result<R: Threads + Wait + Sync>(
     workers: u32,
     limit: u32,
     brief: bool,
-    input: Bytes,
+    input: &[u8],
 ) -> Result<CommandResult, ScriptFault>
     requires limit { 1 ≤ limit }
     requires workers { (1 ≤ workers) × (workers ≤ 4) }
-    ensures told { IfOk result (λ told. HasRunOnThreads workers limit brief input told.journal told.tally told.status told.text) }
+    ensures told { IfOk result (λ told. HasRunOnThreads workers limit brief input.now told.journal told.tally told.status told.text) }
     ensures held { IfOk result (λ told. told.is_held ≡ false → writes_journal (commands.Run workers limit brief) ≡ true) }
     ensures fault { (number line : ℕ) → IsErrOf result (script_faults.At number line)
-        → world_text input ≡ Err (record { number = number; line = line }) }
+        → world_text input.now ≡ Err (record { number = number; line = line }) }
 {
-    let (shape, scripts) = read_world(alloc, input.as_slice())?;
-    // The run has the room of the text.
-    drop(input);
+    let (shape, scripts) = read_world(alloc, input)?;
     let RunResult {
         journal,
         tally,
@@ -178,18 +176,16 @@ fn step_result(
     seed: u32,
     limit: u32,
     brief: bool,
-    input: Bytes,
+    input: &[u8],
 ) -> Result<CommandResult, ScriptFault>
     requires { 1 ≤ limit }
-    ensures told { IfOk result (λ told. IsStepped seed limit brief input told.journal told.status told.text) }
+    ensures told { IfOk result (λ told. IsStepped seed limit brief input.now told.journal told.status told.text) }
     ensures plain { IfOk result (λ told. told.tally ≡ None) }
     ensures held { IfOk result (λ told. told.is_held ≡ false → writes_journal (commands.Step seed limit brief) ≡ true) }
     ensures fault { (number line : ℕ) → IsErrOf result (script_faults.At number line)
-        → world_text input ≡ Err (record { number = number; line = line }) }
+        → world_text input.now ≡ Err (record { number = number; line = line }) }
 {
-    let (shape, scripts) = read_world(alloc, input.as_slice())?;
-    // The run has the room of the text.
-    drop(input);
+    let (shape, scripts) = read_world(alloc, input)?;
     let ran = schedule(alloc, &shape, &scripts, seed, limit)?;
     let status = run_status(ran.outcomes.as_slice());
     let told = told_of_run(alloc, brief, &shape, &scripts, ran.journal, None, status)?;
@@ -201,19 +197,19 @@ fn step_result(
 pub fn command_result(
     alloc: Global,
     command: Command,
-    input: Bytes,
+    input: &[u8],
 ) -> Result<CommandResult, ScriptFault>
     requires within { IsWithin command }
     requires plain { is_plain command ≡ true }
-    ensures told { IfOk result (λ told. IsCommandResult command input told.journal told.tally told.status told.text) }
+    ensures told { IfOk result (λ told. IsCommandResult command input.now told.journal told.tally told.status told.text) }
     ensures held { IfOk result (λ told. told.is_held ≡ false → writes_journal command ≡ true) }
     ensures fault { (number line : ℕ) → IsErrOf result (script_faults.At number line)
-        → world_read command input ≡ Err (record { number = number; line = line }) }
+        → world_read command input.now ≡ Err (record { number = number; line = line }) }
 {
     match command {
         Command::Run { .. } | Command::Bench { .. } => unreachable!(),
         Command::Step { seed, limit, brief } => step_result(alloc, seed, limit, brief, input),
-        Command::Check => judge_input(alloc, input.as_slice(), Question::Verdict),
-        Command::Why { place } => judge_input(alloc, input.as_slice(), Question::Writes { place }),
+        Command::Check => judge_input(alloc, input, Question::Verdict),
+        Command::Why { place } => judge_input(alloc, input, Question::Writes { place }),
     }
 }

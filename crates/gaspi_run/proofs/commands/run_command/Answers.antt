@@ -7,7 +7,7 @@ pub returns-in-Ok : goal.returns-in-Ok
 returns-in-Ok g c =
     answers-reading c.args.command _ _ _ _ _ _ _ _ c.answer_result.result (plain-reads c.args.command c.requires.plain)
     (answered-result c.args.command _ _ _ _ _ _ _ _ c.answer_result.result (plain-reads c.args.command c.requires.plain) c.read_all.ensures.taken c.in-Ok.input c.command_result.result c.in-Ok.ensures.within c.in-Ok.ensures.all c.in-Ok.ensures.end c.in-Ok.ensures.still
-    c.command_result.ensures.told c.command_result.ensures.held c.command_result.ensures.fault c.answer_result.ensures)
+    (rw (sym c.as_slice.ensures) c.command_result.ensures.told) c.command_result.ensures.held (λ number line is. ap (world_read c.args.command) (sym c.as_slice.ensures) ∙ c.command_result.ensures.fault number line is) c.answer_result.ensures)
 
 pub returns-in-Err : goal.returns-in-Err
 returns-in-Err g c =
