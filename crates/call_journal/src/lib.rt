@@ -15,5 +15,5 @@ pub use answers::{CoveredWrite, Explanation};
 pub use bench_laws::{bench_calls, bench_notifications, bench_transfers, bench_words};
 pub use explanations::why;
 pub use journal_numbers::{Numbers4, bench_numbers};
-pub use transcripts::write_transcripts;
+pub use transcripts::{transcripts_text, write_transcripts};
 pub use verdicts::{Verdict, check};

@@ -1,12 +1,13 @@
 //! The calls of each caller in a history, found for all callers at once, for transcripts. What a table has after `NoMemory` is
 //! not said.
 
-ghost use Rattle.std.specs.Prelude.{◌≡◌, ◌++◌, ◌∷◌, [], List, replicate, OnOk, IfOk};
+ghost use Rattle.std.specs.Prelude.{◌≡◌, ◌<◌, ◌++◌, ◌∷◌, [], List, replicate, OnOk, IfOk};
 ghost use Rattle.gaspi_types.specs.Tables.{changed_at};
 ghost use Rattle.call_journal.specs.OwnCalls.{HasCallers, IsCallTable};
 ghost use Rattle.call_journal.specs.declared.own_calls.RecordedCall.{RecordedCall};
 
-use gaspi_types::{Call, CallerId, Event, NoMemory, Reply, Sequence};
+use gaspi_types::{Call, CallerId, Event, NoMemory, RankId, Reply, Sequence, ThreadId};
+use rank_script::Scripts;
 use std::alloc::Global;
 
 /// A recorded call and its reply, lent by the history.
@@ -19,24 +20,47 @@ pub struct RecordedCall<'a> {
 /// The recorded calls of each caller, by rank and thread, each list in the order of the history.
 pub type RecordedCalls<'a> = Sequence<Sequence<Sequence<RecordedCall<'a>>>>;
 
+/// An empty list for a caller, with memory for a call of each line of its script.
+fn empty_list<'a>(
+    alloc: Global,
+    caller: CallerId,
+    scripts: &Scripts,
+) -> Result<Sequence<RecordedCall<'a>>, NoMemory>
+    ensures { IfOk result (λ calls. calls ≡ []) }
+{
+    match scripts.of(caller) {
+        Some(script) => Sequence::with_capacity(alloc, script.lines.count_in_memory()),
+        None => Ok(Sequence::new(alloc)),
+    }
+}
+
 /// An empty list for each of four threads of a rank.
-fn empty_row<'a>(alloc: Global) -> Result<Sequence<Sequence<RecordedCall<'a>>>, NoMemory>
+fn empty_row<'a>(
+    alloc: Global,
+    rank: u32,
+    scripts: &Scripts,
+) -> Result<Sequence<Sequence<RecordedCall<'a>>>, NoMemory>
+    requires { rank < 16 }
     ensures { IfOk result (λ row. row ≡ replicate 4 []) }
 {
     let mut row = Sequence::new(alloc);
-    for _thread in 0..4u32 {
-        row.push(Sequence::new(alloc))?;
+    for thread in 0..4u32 {
+        let caller = CallerId {
+            rank: RankId::of(rank),
+            thread: ThreadId::of(thread),
+        };
+        row.push(empty_list(alloc, caller, scripts)?)?;
     }
     Ok(row)
 }
 
 /// The table without a call, for 16 ranks with four threads each.
-fn empty_table<'a>(alloc: Global) -> Result<RecordedCalls<'a>, NoMemory>
+fn empty_table<'a>(alloc: Global, scripts: &Scripts) -> Result<RecordedCalls<'a>, NoMemory>
     ensures { IfOk result (λ table. table ≡ replicate 16 (replicate 4 [])) }
 {
     let mut table = Sequence::new(alloc);
-    for _rank in 0..16u32 {
-        table.push(empty_row(alloc)?)?;
+    for rank in 0..16u32 {
+        table.push(empty_row(alloc, rank, scripts)?)?;
     }
     Ok(table)
 }
@@ -55,11 +79,15 @@ fn add_call<'a>(
     calls.push(own)
 }
 
-/// The recorded calls of all callers in a history.
-pub fn own_calls<'a>(alloc: Global, history: &'a [Event]) -> Result<RecordedCalls<'a>, NoMemory>
+/// The recorded calls of all callers in a history, of which those of these scripts are expected.
+pub fn own_calls<'a>(
+    alloc: Global,
+    scripts: &Scripts,
+    history: &'a [Event],
+) -> Result<RecordedCalls<'a>, NoMemory>
     ensures { IfOk result (λ table. IsCallTable table history.now) }
 {
-    let mut table = empty_table(alloc)?;
+    let mut table = empty_table(alloc, scripts)?;
     for event in history {
         if let Event::Called(caller, call, reply) = event {
             add_call(&mut table, *caller, RecordedCall { call, reply })?;

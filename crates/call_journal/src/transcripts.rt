@@ -1,7 +1,7 @@
 //! Transcripts: the replies of each caller, with the line of its script that made each call, and how its run ended. What the
 //! text of a private function has after `NoMemory` is not said.
 
-ghost use Rattle.std.specs.Prelude.{◌≡◌, ◌<◌, ◌++◌, ◌||◌, [], List, OnOk, OnErr, codes, is_some};
+ghost use Rattle.std.specs.Prelude.{◌≡◌, ◌<◌, ◌++◌, ◌||◌, [], List, OnOk, OnErr, codes, is_some, IfOk};
 ghost use Rattle.std.specs.Fmt.{decimal};
 ghost use Rattle.gaspi_types.specs.declared.events.Event.{Event};
 ghost use Rattle.gaspi_types.specs.CallRows.{is_end};
@@ -14,6 +14,10 @@ use crate::own_calls::{RecordedCall, RecordedCalls, own_calls};
 use gaspi_texts::{Journal, write_number, write_reply};
 use gaspi_types::{Bytes, Call, CallerId, NoMemory, RankId, Reply, Shape, ThreadId};
 use rank_script::{Cursor, RunOutcome, Script, Scripts};
+use std::alloc::Global;
+
+/// For how many bytes memory is taken before a line of a transcript is known: for those of most lines.
+const BYTES_OF_A_LINE: usize = 20;
 
 /// Adds a caller: its rank, a dot, and its thread.
 fn write_caller(text: &mut Bytes, caller: CallerId) -> Result<(), NoMemory>
@@ -24,12 +28,21 @@ fn write_caller(text: &mut Bytes, caller: CallerId) -> Result<(), NoMemory>
     write_number(text, u64::from(caller.thread.number()))
 }
 
-/// Adds the line of a recorded call: its caller, the line of the script, and the reply.
-fn write_call(text: &mut Bytes, caller: CallerId, line: u64, reply: &Reply) -> Result<(), NoMemory>
-    ensures { OnOk result (text.new ≡ text.old ++ call_line caller line reply.now) }
+/// How each line of a recorded call of a caller begins: the caller, and a space.
+fn line_start(alloc: Global, caller: CallerId) -> Result<Bytes, NoMemory>
+    ensures { IfOk result (λ start. start ≡ caller_word caller ++ codes " ") }
 {
-    write_caller(text, caller)?;
-    text.push(b' ')?;
+    let mut start = Bytes::new(alloc);
+    write_caller(&mut start, caller)?;
+    start.push(b' ')?;
+    Ok(start)
+}
+
+/// Adds the line of a recorded call: how the lines of its caller begin, the line of the script, and the reply.
+fn write_call(text: &mut Bytes, start: &[u8], line: u64, reply: &Reply) -> Result<(), NoMemory>
+    ensures { (caller : CallerId) → start.now ≡ caller_word caller ++ codes " " → OnOk result (text.new ≡ text.old ++ call_line caller line reply.now) }
+{
+    text.append(start)?;
     write_number(text, line)?;
     text.push(b' ')?;
     write_reply(text, reply)?;
@@ -99,12 +112,14 @@ fn write_transcript(
 ) -> Result<(), NoMemory>
     ensures { OnOk result (text.new ≡ text.old ++ transcript script.now.caller (at_first_line script.now.lines) (pairs_of calls.now)) }
 {
-    let mut cursor = Cursor::new(text.allocator(), script)?;
+    let alloc = text.allocator();
+    let start = line_start(alloc, script.caller)?;
+    let mut cursor = Cursor::new(alloc, script)?;
     for own in calls {
         if is_over(&cursor, own.call) {
             return write_ending(text, script.caller, &cursor);
         }
-        write_call(text, script.caller, cursor.line(), own.reply)?;
+        write_call(text, start.as_slice(), cursor.line(), own.reply)?;
         cursor.advance(own.reply);
     }
     write_ending(text, script.caller, &cursor)
@@ -158,12 +173,27 @@ fn append_transcripts(
 ) -> Result<(), NoMemory>
     ensures { OnOk result (text.new ≡ text.old ++ transcripts shape.now scripts.now journal.now) }
 {
-    let table = own_calls(text.allocator(), journal.as_slice())?;
+    let table = own_calls(text.allocator(), scripts, journal.as_slice())?;
     let limits = shape.limits();
     for rank in 0..limits.ranks {
         write_rank(text, rank, scripts, &table)?;
     }
     Ok(())
+}
+
+/// The transcripts of all callers of a world, by rank and thread. The only failure is out of memory.
+pub fn transcripts_text(
+    alloc: Global,
+    shape: &Shape,
+    scripts: &Scripts,
+    journal: &Journal,
+) -> Result<Bytes, NoMemory>
+    ensures { IfOk result (λ text. text ≡ transcripts shape.now scripts.now journal.now) }
+{
+    let room = scripts.line_count().saturating_mul(BYTES_OF_A_LINE);
+    let mut text = Bytes::with_capacity(alloc, room)?;
+    append_transcripts(&mut text, shape, scripts, journal)?;
+    Ok(text)
 }
 
 /// Adds the transcripts of all callers of a world, by rank and thread. After `NoMemory` nothing has changed.
@@ -176,7 +206,6 @@ pub fn write_transcripts(
     ensures ok { OnOk result (text.new ≡ text.old ++ transcripts shape.now scripts.now journal.now) }
     ensures err { OnErr result (text.new ≡ text.old) }
 {
-    let mut told = Bytes::new(text.allocator());
-    append_transcripts(&mut told, shape, scripts, journal)?;
+    let told = transcripts_text(text.allocator(), shape, scripts, journal)?;
     text.extend(told)
 }

@@ -1,9 +1,7 @@
 //! Calls of the machine in memory that no command makes: of its transfers, its ranks, and looks at calls.
 
 use crate::one_rank::{caller, notified, shape};
-use gaspi_types::{
-    Barrier, Call, CallerId, Event, Invocation, NoMemory, RankId, Ready, Reply, Reset,
-};
+use gaspi_types::{Barrier, Call, CallerId, Event, NoMemory, RankId, Ready, Reply, Reset};
 use plain_machine::Machine;
 use std::alloc::Global;
 use std::test::Fail;
@@ -75,8 +73,8 @@ fn joins(
     if !machine.is_declared(caller) {
         return Ok(false);
     }
-    let invocation = Invocation::new(caller, call);
-    Ok(machine.look(alloc, &invocation)?.is_join())
+    let ready = machine.answer(alloc, caller, call)?;
+    Ok(matches!(ready, Ready::Join(_)))
 }
 
 /// Whether a reset is answered, and may not join.

@@ -144,11 +144,7 @@ pub fn run_command<S: Source, K: Sink>(
         (K.held sink.old) (K.held sink.new) (K.faults sink.old) (K.faults sink.new) result }
 {
     match read_all(alloc, source, MOST_INPUT_BYTES as u64) {
-        Ok(input) => answer_result(
-            alloc,
-            sink,
-            command_result(alloc, command, input.as_slice()),
-        ),
+        Ok(input) => answer_result(alloc, sink, command_result(alloc, command, input)),
         Err(stop) => answer_stop(alloc, sink, stop),
     }
 }
@@ -170,7 +166,7 @@ pub fn run_threads<R: Threads + Wait + Sync, S: Source, K: Sink>(
 {
     match read_all(alloc, source, MOST_INPUT_BYTES as u64) {
         Ok(input) => {
-            let told = run_result(rt, alloc, workers, limit, brief, input.as_slice());
+            let told = run_result(rt, alloc, workers, limit, brief, input);
             answer_result(alloc, sink, told)
         }
         Err(stop) => answer_stop(alloc, sink, stop),

@@ -14,7 +14,7 @@ use crate::judging::{Question, judge_input};
 use crate::threads::{RunResult, run_on_threads};
 use call_journal::{
     Numbers4, bench_calls, bench_notifications, bench_numbers, bench_transfers, bench_words,
-    write_transcripts,
+    transcripts_text,
 };
 use command_line::Command;
 use gaspi_model::StepFault;
@@ -78,8 +78,7 @@ fn told_of_run(
     if !brief {
         return Ok(CommandResult::with_journal_text(journal, tally, status));
     }
-    let mut text = Bytes::new(alloc);
-    write_transcripts(&mut text, shape, scripts, &journal)?;
+    let text = transcripts_text(alloc, shape, scripts, &journal)?;
     Ok(CommandResult::with_text(journal, tally, status, text))
 }
 
@@ -91,16 +90,18 @@ pub fn run_result<R: Threads + Wait + Sync>(
     workers: u32,
     limit: u32,
     brief: bool,
-    input: &[u8],
+    input: Bytes,
 ) -> Result<CommandResult, ScriptFault>
     requires limit { 1 ≤ limit }
     requires workers { (1 ≤ workers) × (workers ≤ 4) }
-    ensures told { IfOk result (λ told. HasRunOnThreads workers limit brief input.now told.journal told.tally told.status told.text) }
+    ensures told { IfOk result (λ told. HasRunOnThreads workers limit brief input told.journal told.tally told.status told.text) }
     ensures held { IfOk result (λ told. told.is_held ≡ false → writes_journal (commands.Run workers limit brief) ≡ true) }
     ensures fault { (number line : ℕ) → IsErrOf result (script_faults.At number line)
-        → world_text input.now ≡ Err (record { number = number; line = line }) }
+        → world_text input ≡ Err (record { number = number; line = line }) }
 {
-    let (shape, scripts) = read_world(alloc, input)?;
+    let (shape, scripts) = read_world(alloc, input.as_slice())?;
+    // The rank journals have the room of the text, of which the scripts are kept.
+    drop(input);
     let RunResult {
         journal,
         tally,
@@ -176,16 +177,18 @@ fn step_result(
     seed: u32,
     limit: u32,
     brief: bool,
-    input: &[u8],
+    input: Bytes,
 ) -> Result<CommandResult, ScriptFault>
     requires { 1 ≤ limit }
-    ensures told { IfOk result (λ told. IsStepped seed limit brief input.now told.journal told.status told.text) }
+    ensures told { IfOk result (λ told. IsStepped seed limit brief input told.journal told.status told.text) }
     ensures plain { IfOk result (λ told. told.tally ≡ None) }
     ensures held { IfOk result (λ told. told.is_held ≡ false → writes_journal (commands.Step seed limit brief) ≡ true) }
     ensures fault { (number line : ℕ) → IsErrOf result (script_faults.At number line)
-        → world_text input.now ≡ Err (record { number = number; line = line }) }
+        → world_text input ≡ Err (record { number = number; line = line }) }
 {
-    let (shape, scripts) = read_world(alloc, input)?;
+    let (shape, scripts) = read_world(alloc, input.as_slice())?;
+    // The journal has the room of the text, of which the scripts are kept.
+    drop(input);
     let ran = schedule(alloc, &shape, &scripts, seed, limit)?;
     let status = run_status(ran.outcomes.as_slice());
     let told = told_of_run(alloc, brief, &shape, &scripts, ran.journal, None, status)?;
@@ -197,19 +200,19 @@ fn step_result(
 pub fn command_result(
     alloc: Global,
     command: Command,
-    input: &[u8],
+    input: Bytes,
 ) -> Result<CommandResult, ScriptFault>
     requires within { IsWithin command }
     requires plain { is_plain command ≡ true }
-    ensures told { IfOk result (λ told. IsCommandResult command input.now told.journal told.tally told.status told.text) }
+    ensures told { IfOk result (λ told. IsCommandResult command input told.journal told.tally told.status told.text) }
     ensures held { IfOk result (λ told. told.is_held ≡ false → writes_journal command ≡ true) }
     ensures fault { (number line : ℕ) → IsErrOf result (script_faults.At number line)
-        → world_read command input.now ≡ Err (record { number = number; line = line }) }
+        → world_read command input ≡ Err (record { number = number; line = line }) }
 {
     match command {
         Command::Run { .. } | Command::Bench { .. } => unreachable!(),
         Command::Step { seed, limit, brief } => step_result(alloc, seed, limit, brief, input),
-        Command::Check => judge_input(alloc, input, Question::Verdict),
-        Command::Why { place } => judge_input(alloc, input, Question::Writes { place }),
+        Command::Check => judge_input(alloc, input.as_slice(), Question::Verdict),
+        Command::Why { place } => judge_input(alloc, input.as_slice(), Question::Writes { place }),
     }
 }

@@ -1,5 +1,5 @@
 -- What a look found, recorded: the step by the call with that reply.
-use Rattle.std.proofs.Common.{◌≡◌, ℕ, ◌+◌, ◌-◌, ◌≤◌, arith, Bool, true, false, nat_le, List, [], Option, None, Some, Ok, Err, length, refl, sym, ap, ◌∙◌}
+use Rattle.std.proofs.Common.{◌≡◌, ℕ, ◌+◌, ◌-◌, ◌≤◌, arith, Bool, true, false, nat_le, List, [], Option, None, Some, Result, Ok, Err, OnOk, length, refl, sym, ap, ◌∙◌}
 use Rattle.gaspi_types.specs.CallRows.{row_of}
 use Rattle.gaspi_types.specs.Replies.{is_idle, same_reply}
 use Rattle.gaspi_types.specs.World.{are_limits}
@@ -39,7 +39,17 @@ plain_asks limits me posts (ReadList call) is = absurd (let no : ⊥ = cc in no)
 plain_asks limits me posts (ReadListNotify call) is = absurd (let no : ⊥ = cc in no)
 plain_asks limits me posts call is = refl
 
--- and brings no message
+-- the evaluation of such a call, which has no entry
+pub plain_evaluation : {A E : Type 0} (r : Result A E) (evaluation : Evaluation) (limits : Limits) (me : ℕ) (posts : Posts) (memory : Memory) (thread : ℕ) (call : Call) → (row_of call).posting ≡ None
+    → evaluation.ready ≡ answer limits me posts memory thread call → kinds_of evaluation.kinds ≡ [] → OnOk r (IsEvaluation evaluation limits me posts memory thread call)
+plain_evaluation {A} {E} (Err fault) evaluation limits me posts memory thread call none ready nothing = tt
+plain_evaluation {A} {E} (Ok done) evaluation limits me posts memory thread call none ready nothing = record {
+  ready = ready;
+  kinds = λ busy. plain_asks limits me posts call none ∙ ap (λ (kinds : List Kind). Ok kinds) (sym nothing);
+  nothing = λ idle. nothing;
+}
+
+-- a call that posts brings no message
 pub posting_brings : (me : ℕ) (own : Memory) (call : Call) (to : Posting) → (row_of call).posting ≡ Some to → sent_message me own call ≡ None
 posting_brings me own (PassiveSend call) to is = absurd (let no : ⊥ = cc in no)
 posting_brings me own call to is = refl

@@ -31,7 +31,7 @@ use crate::passive_calls::{
 use crate::post_calls::posting_result;
 use crate::posting::post;
 use crate::queue_calls::{closed, purge_result, purged, qsize_result, state_result, wait_result};
-use crate::replies::{answer_of_result, is_idle_ready};
+use crate::replies::answer_of_result;
 use crate::segment_calls::{
     Registration, alloc_effect, alloc_result, delete_effect, delete_result, register_result,
     registration_of, set_known_extent,
@@ -128,46 +128,49 @@ fn plain_result(
     })
 }
 
-/// The evaluation of a call that posts, from what `posting_result` found: done, with the kinds of its entries, or its refusal. The
-/// clause says so of any requested kinds and any result that `finds` agrees with (`Accepts`).
-fn post_evaluation(finds: Result<EntryKinds, Refusal>) -> Evaluation
-    ensures message { result.message ≡ None }
-    ensures finding { (asked : Result (List Kind) Refusal) (answers : Result (Option Reply) Refusal) → Accepts finds asked answers → IsPostEvaluation result asked answers }
+/// Writes the evaluation of a call that posts, from what `posting_result` found: done, with the kinds of its entries, or its refusal.
+/// The clause says so of any requested kinds and any result that `finds` agrees with (`Accepts`).
+fn set_post(evaluation: &mut Evaluation, finds: Result<EntryKinds, Refusal>)
+    ensures message { evaluation.new.message ≡ None }
+    ensures finding { (asked : Result (List Kind) Refusal) (answers : Result (Option Reply) Refusal) → Accepts finds asked answers → IsPostEvaluation evaluation.new asked answers }
 {
     match finds {
-        Ok(kinds) => Evaluation {
-            ready: Ready::Reply(Reply::Done),
-            kinds,
-            message: None,
-        },
-        Err(refusal) => Evaluation::plain(Ready::Reply(Reply::Refused(refusal))),
+        Ok(kinds) => {
+            evaluation.ready = Ready::Reply(Reply::Done);
+            evaluation.kinds = kinds;
+            evaluation.clear_message();
+        }
+        Err(refusal) => evaluation.set_plain(Ready::Reply(Reply::Refused(refusal))),
     }
 }
 
-/// The message of a send that is done, copied from the own memory. A send that is refused or not ready has none, nor has any other
-/// call; these take no memory.
-fn sent_message(
+/// Adds to an evaluation that has none the message of a send that is done, copied from the own memory. A send that is refused or not
+/// ready has none, nor has any other call; these take no memory. Where memory runs out nothing changes.
+fn set_message(
     alloc: Global,
     me: RankId,
     own: &Memory,
     call: &Call,
-    ready: &Ready,
-) -> Result<Option<Message>, NoMemory>
-    ensures message { IfOk result (λ message. is_idle (recorded_reply ready.now) ≡ false → message ≡ sent_message me own.now call.now) }
+    evaluation: &mut Evaluation,
+) -> Result<(), NoMemory>
+    requires { evaluation.old.message ≡ None }
+    ensures message { OnOk result (HasMessage evaluation.new (sent_message me own.now call.now)) }
+    ensures ready { evaluation.new.ready ≡ evaluation.old.ready }
+    ensures kinds { evaluation.new.kinds ≡ evaluation.old.kinds }
     ensures ample { is_send call.now ≡ false → IsOk result }
-    ensures idle { is_idle (recorded_reply ready.now) ≡ true → IsOk result }
+    ensures idle { is_idle (recorded_reply evaluation.old.ready) ≡ true → IsOk result }
 {
     if let Call::PassiveSend(call) = call {
-        if !is_idle_ready(ready) {
-            return Ok(Some(message_of(alloc, me, &own.segments, call)?));
+        if !evaluation.is_refused_or_timeout() {
+            evaluation.message = Some(message_of(alloc, me, &own.segments, call)?);
         }
     }
-    Ok(None)
+    Ok(())
 }
 
-/// The evaluation of a call that is no collective, by its caller, who may have ended. `own` is the memory of the caller's rank; a
-/// send copies its message from there. Only a load, the post of a list (clause `ample`) and a send that is done (clause `idle`) take
-/// memory. Nothing changes.
+/// Writes the evaluation of a call that is no collective, by its caller, who may have ended, over `look`. `own` is the memory of the
+/// caller's rank; a send copies its message from there. Only a load, the post of a list (clause `ample`) and a send that is done
+/// (clause `idle`) take memory. Where it runs out, what `look` says is of no call.
 pub fn look(
     alloc: Global,
     limits: &Limits,
@@ -175,12 +178,13 @@ pub fn look(
     posts: &Posts,
     own: &Memory,
     memory: &Memory,
-) -> Result<Evaluation, NoMemory>
+    look: &mut Evaluation,
+) -> Result<(), NoMemory>
     requires queues { length posts.now.queues ≤ 8 }
     requires corrupt { length posts.now.corrupt ≤ 32 }
     requires inbox { AreShort memory.now.inbox }
-    ensures look { IfOk result (λ look. IsEvaluation look limits.now invocation.now.caller.rank posts.now memory.now invocation.now.caller.thread invocation.now.call.now) }
-    ensures message { IfOk result (λ look. HasMessage look (sent_message invocation.now.caller.rank own.now invocation.now.call.now)) }
+    ensures look { OnOk result (IsEvaluation look.new limits.now invocation.now.caller.rank posts.now memory.now invocation.now.caller.thread invocation.now.call.now) }
+    ensures message { OnOk result (HasMessage look.new (sent_message invocation.now.caller.rank own.now invocation.now.call.now)) }
     ensures ample { looks_with_memory invocation.now.call.now ≡ false → IsOk result }
     // A look at a send that is not done takes none.
     ensures idle { is_send invocation.now.call.now ≡ true → is_idle (recorded_reply (answer limits.now invocation.now.caller.rank posts.now memory.now invocation.now.caller.thread invocation.now.call.now)) ≡ true → IsOk result }
@@ -188,22 +192,18 @@ pub fn look(
     let me = invocation.caller.rank;
     let call = invocation.call;
     if !is_running(thread_at(posts, invocation.caller.thread)) {
-        return Ok(Evaluation::plain(Ready::Reply(Reply::Refused(Refusal::CallerEnded))));
+        look.set_plain(Ready::Reply(Reply::Refused(Refusal::CallerEnded)));
+        return Ok(());
     }
     match invocation.row.posting {
         Some(to) => {
-            let finds = posting_result(alloc, limits, me, posts, to, call)?;
-            Ok(post_evaluation(finds))
+            set_post(look, posting_result(alloc, limits, me, posts, to, call)?);
+            Ok(())
         }
         None => {
             let finds = plain_result(alloc, limits, me, posts, memory, call)?;
-            let ready = answer_of_result(finds);
-            let message = sent_message(alloc, me, own, call, &ready)?;
-            Ok(Evaluation {
-                ready,
-                kinds: EntryKinds::Nothing,
-                message,
-            })
+            look.set_plain(answer_of_result(finds));
+            set_message(alloc, me, own, call, look)
         }
     }
 }

@@ -44,7 +44,7 @@ pub use notification_calls::{reset_result, waitsome_result};
 pub use openings::opening_segments;
 pub use passive_calls::{message_of, receive_result, send_result};
 pub use queue_calls::{purged_queue, state_result};
-pub use recording::{Recorded, charge, record};
+pub use recording::{charge, record};
 pub use replies::{answer_of_result, is_refused_or_timeout, recorded_reply};
 pub use segment_calls::{Registration, alloc_result, register_result, registration_of};
 pub use threads::{is_running, is_there, thread_at};

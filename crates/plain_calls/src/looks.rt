@@ -4,9 +4,9 @@ ghost use Rattle.std.specs.Prelude.{◌≡◌, None};
 ghost use Rattle.segment_store.specs.declared.kinds.EntryKinds.TheVariants as kinds;
 ghost use Rattle.gaspi_types.specs.Replies.{is_idle};
 ghost use Rattle.gaspi_model.specs.Calls.{recorded_reply};
-ghost use Rattle.gaspi_model.specs.CollectiveCalls.{is_reply_of, is_joining};
+ghost use Rattle.gaspi_model.specs.CollectiveCalls.{is_reply_of};
 
-use crate::replies::is_idle_ready;
+use crate::replies::{is_idle_ready, take_recorded_reply};
 use gaspi_model::same_reply;
 use gaspi_types::{Message, Ready, Reply};
 use segment_store::EntryKinds;
@@ -23,15 +23,50 @@ pub struct Evaluation {
 }
 
 impl Evaluation {
-    /// The evaluation with an answer, but with no entry and no message.
-    pub fn plain(ready: Ready) -> Evaluation
-        ensures { result ≡ record { ready = ready; kinds = kinds.Nothing; message = None } }
-    {
+    /// An evaluation of no call, for a look to write over.
+    pub fn of_no_call() -> Evaluation {
         Evaluation {
-            ready,
+            ready: Ready::NotReady,
             kinds: EntryKinds::Nothing,
             message: None,
         }
+    }
+
+    /// Writes over the evaluation: this answer, no entry and no message.
+    #[inline(always)]
+    pub fn set_plain(&mut self, ready: Ready)
+        ensures { self.new ≡ record { ready = ready; kinds = kinds.Nothing; message = None } }
+    {
+        self.ready = ready;
+        self.clear_kinds();
+        self.clear_message();
+    }
+
+    /// Removes the entries, where there are any: few calls have some, and to write that there are none takes longer.
+    #[inline(always)]
+    fn clear_kinds(&mut self)
+        ensures { self.new ≡ record self.old { kinds = kinds.Nothing } }
+    {
+        if !matches!(self.kinds, EntryKinds::Nothing) {
+            self.kinds = EntryKinds::Nothing;
+        }
+    }
+
+    /// Removes the message, where there is one.
+    #[inline(always)]
+    pub(crate) fn clear_message(&mut self)
+        ensures { self.new ≡ record self.old { message = None } }
+    {
+        if self.message.is_some() {
+            self.message = None;
+        }
+    }
+
+    /// Takes out the reply with which the call is recorded, as `recorded_reply` has it. The answer that is left is of no call.
+    pub fn take_reply(&mut self) -> Reply
+        ensures { result ≡ recorded_reply self.old.ready }
+    {
+        take_recorded_reply(&mut self.ready)
     }
 
     /// Whether the call is recorded with a refusal or a timeout. A call that is not ready or that may join counts as a timeout.
@@ -39,13 +74,6 @@ impl Evaluation {
         ensures { result ≡ is_idle (recorded_reply self.now.ready) }
     {
         is_idle_ready(&self.ready)
-    }
-
-    /// Whether the answer is that the call may join its group. (GASPI: collectives)
-    pub fn is_join(&self) -> bool
-        ensures { result ≡ is_joining self.now.ready }
-    {
-        matches!(&self.ready, Ready::Join(_))
     }
 
     /// Whether the call may be recorded with a reply: with that of its answer, or with a timeout where it is not ready. Where it may

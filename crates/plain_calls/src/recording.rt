@@ -17,7 +17,6 @@ ghost use Rattle.plain_calls.specs.NumberBounds.{CallIsBounded, released};
 use crate::calls::call_effect;
 use crate::looks::Evaluation;
 use crate::queue_calls::{owed_at, purged_queue};
-use crate::replies::{is_refused_or_timeout, take_recorded_reply};
 use crate::threads::{is_running, thread_at};
 use gaspi_model::{Memory, Posts, ThreadState};
 use gaspi_types::{Call, Invocation, Limits, NoMemory, Ready, Reply};
@@ -54,8 +53,8 @@ fn released(posts: &Posts, call: &Call, evaluation: &Evaluation) -> u32
     }
 }
 
-/// Makes the effect of a call with its evaluation, counts one event more, and gives the reply. A refusal or a timeout changes the
-/// count alone. Where memory runs out nothing changes.
+/// Makes the effect of a call with its evaluation, and counts one event more. A refusal or a timeout changes the count alone. Where
+/// memory runs out neither posts nor memory change. The message of the evaluation is taken out; its answer stays.
 fn record_evaluation(
     alloc: Global,
     limits: &Limits,
@@ -63,10 +62,10 @@ fn record_evaluation(
     posts: &mut Posts,
     memory: &mut Memory,
     evaluation: &mut Evaluation,
-) -> Result<Reply, NoMemory>
+) -> Result<(), NoMemory>
     requires room { is_idle (recorded_reply evaluation.old.ready) ≡ false → CallIsBounded posts.old invocation.now.call.now (length (kinds_of evaluation.old.kinds)) }
     requires events { posts.old.events + 1 < 2 ^ 32 }
-    ensures reply { IfOk result (λ reply. reply ≡ recorded_reply evaluation.old.ready) }
+    ensures ready { evaluation.new.ready ≡ evaluation.old.ready }
     ensures posts { OnOk result (posts.new ≡ posts_after_evaluation posts.old invocation.now.caller.thread invocation.now.call.now evaluation.old) }
     ensures memory { OnOk result (memory.new ≡ memory_after limits.now posts.old evaluation.old.message memory.old invocation.now.call.now (recorded_reply evaluation.old.ready)) }
     ensures posts_kept { OnErr result (posts.new ≡ posts.old) }
@@ -87,21 +86,13 @@ fn record_evaluation(
         )?;
     }
     posts.events = events;
-    Ok(take_recorded_reply(&mut evaluation.ready))
+    Ok(())
 }
 
-/// What `record` gives.
-#[derive(Debug, Drop)]
-pub struct Recorded {
-    /// The reply with which the call was recorded.
-    pub reply: Reply,
-    /// The used room of the caller's rank after that.
-    pub used: u32,
-}
-
-/// Makes the step by a call with its evaluation. That is the evaluation of this very call on these very posts and this memory, and
-/// the rank has room for the event; so nothing is checked again. `used` is the rank's used room with the charge of the event added.
-/// A post, an alloc and a send take memory; where it runs out nothing changes.
+/// Makes the step by a call with its evaluation, and gives the used room of the caller's rank after it. That is the evaluation of this
+/// very call on these very posts and this memory, and the rank has room for the event; so nothing is checked again. `used` is the
+/// rank's used room with the charge of the event added. A post, an alloc and a send take memory; where it runs out neither posts nor
+/// memory change. The message of the evaluation is taken out; its answer stays.
 pub fn record(
     alloc: Global,
     limits: &Limits,
@@ -110,20 +101,19 @@ pub fn record(
     memory: &mut Memory,
     used: u32,
     evaluation: &mut Evaluation,
-) -> Result<Recorded, NoMemory>
+) -> Result<u32, NoMemory>
     requires limits { are_limits limits.now ≡ true }
     requires sound { IsSoundPosts limits.now posts.old }
     requires used { used ≡ posts.old.events + owed posts.old + charge (thread_at posts.old invocation.now.caller.thread) invocation.now.call.now (recorded_reply evaluation.old.ready) }
     requires there { is_there (thread_at posts.old invocation.now.caller.thread) ≡ true }
     requires evaluation { IsEvaluation evaluation.old limits.now invocation.now.caller.rank posts.old memory.old invocation.now.caller.thread invocation.now.call.now }
     requires room { posts.old.events + owed posts.old + charge (thread_at posts.old invocation.now.caller.thread) invocation.now.call.now (recorded_reply evaluation.old.ready) ≤ limits.now.events }
-    ensures reply { IfOk result (λ recorded. recorded.reply ≡ recorded_reply evaluation.old.ready) }
+    ensures ready { evaluation.new.ready ≡ evaluation.old.ready }
     ensures step { Steps {S = PostsAndMemory} (recorded_of result) (record { posts = posts.old; memory = memory.old }) (record { posts = posts.new; memory = memory.new }) (called limits.now invocation.now.caller.rank posts.old evaluation.old.message memory.old invocation.now.caller.thread invocation.now.call.now (recorded_reply evaluation.old.ready)) }
-    ensures used { IfOk result (λ recorded. recorded.used ≡ posts.new.events + owed posts.new) }
+    ensures used { IfOk result (λ used. used ≡ posts.new.events + owed posts.new) }
     ensures ample { keeps_memory invocation.now.call.now ≡ false → IsOk result }
 {
     let freed = released(posts, invocation.call, evaluation);
-    let reply = record_evaluation(alloc, limits, invocation, posts, memory, evaluation)?;
-    let used = used - freed;
-    Ok(Recorded { reply, used })
+    record_evaluation(alloc, limits, invocation, posts, memory, evaluation)?;
+    Ok(used - freed)
 }

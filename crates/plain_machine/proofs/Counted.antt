@@ -1,7 +1,7 @@
 -- An event changes the transfers of its own rank alone, so the counts of all other ranks stay. A call that posts nothing and
 -- purges nothing, and a join, change none.
-use Rattle.std.proofs.Common.{◌≡◌, ℕ, zero, suc, Bool, true, false, List, [], ◌∷◌, ◌++◌, length, Option, None, Some, Result, Ok, Err, is_none, if◌then◌else◌, refl, sym, ap, subst, inl, inr, ◌⊎◌, ◌∙◌, arith, replicate, slice_get}
-use Rattle.std.proofs.lemmas.Bool.{cases_eq}
+use Rattle.std.proofs.Common.{◌≡◌, ◌==◌, nat_le, ℕ, zero, suc, ◌+◌, Bool, true, false, List, [], ◌∷◌, ◌++◌, length, Option, None, Some, Result, Ok, Err, is_none, if◌then◌else◌, refl, sym, ap, subst, inl, inr, ◌⊎◌, ◌∙◌, arith, replicate, slice_get}
+use Rattle.std.proofs.lemmas.Bool.{cases_eq, eqb-true, leb-true}
 use Rattle.std.specs.List.{flat_map, enumerate_from, range_with_len, slice_set}
 use Rattle.std.proofs.lemmas.List.{length-set}
 use Rattle.gaspi_types.specs.CallRows.{row_of}
@@ -31,9 +31,10 @@ use Rattle.plain_calls.specs.NumberBounds.{purged_queue}
 use Rattle.plain_calls.proofs.Queues.{plain_queues}
 use Rattle.plain_machine.specs.Machine.{is_still}
 use Rattle.plain_machine.specs.Footprints.{call_footprint}
-use Rattle.plain_machine.specs.RankCounts.{transfers_of, AreRankCounts, IsCountOfAll, AreCounts, without_count}
+use Rattle.plain_machine.specs.RankCounts.{transfers_of, AreRankCounts, IsCountOfOthers, AreCounts, count_without, without_count}
 use Rattle.plain_machine.specs.declared.rank_counts.TransferCounts.{TransferCounts}
 use Rattle.plain_machine.proofs.Lists.{same_changed}
+use Rattle.plain_machine.proofs.Totals.{total_swapped}
 use Rattle.plain_machine.proofs.Walked.{transfers-by_rank}
 use Rattle.plain_machine.proofs.AtFootprints.{IsCalled, called_back, used_back, put_back, registered_by}
 
@@ -194,22 +195,72 @@ count_set l all counts me n kept is = λ rank count there.
 
 all_kept : (s t : State) (counts : TransferCounts) → t.limits ≡ s.limits → KeepsAll s t → AreCounts s.limits s.posts counts → AreCounts t.limits t.posts counts
 all_kept s t counts limits keeps is = record {
-  by_rank = λ rank count there. is.by_rank rank count there ∙ ap length (sym (ap (λ (l : Limits). transfers_of l t.posts rank) limits ∙ keeps.each rank));
-  all = of_all counts.all is.all;
+  by_rank = λ rank count there. is.by_rank rank count there ∙ ap length (sym (each rank));
+  others = of_others counts.others counts.forgotten is.others;
 }
   where
-    of_all : (count : Option ℕ) → IsCountOfAll s.limits s.posts count → IsCountOfAll t.limits t.posts count
-    of_all None is = tt
-    of_all (Some n) is = is ∙ ap length (sym (ap (λ (l : Limits). transfers l t.posts) limits ∙ all_transfers s t keeps))
+    each : (rank : ℕ) → transfers_of t.limits t.posts rank ≡ transfers_of s.limits s.posts rank
+    each rank = ap (λ (l : Limits). transfers_of l t.posts rank) limits ∙ keeps.each rank
 
-others_kept : (s t : State) (counts : TransferCounts) (me : ℕ) → t.limits ≡ s.limits → ((j : ℕ) → (me ≡ j → ⊥) → transfers_of s.limits t.posts j ≡ transfers_of s.limits s.posts j)
-    → AreCounts s.limits s.posts counts → AreCounts t.limits t.posts (without_count counts me)
-others_kept s t counts me limits same is = record {
+    all : length (transfers t.limits t.posts) ≡ length (transfers s.limits s.posts)
+    all = ap length (ap (λ (l : Limits). transfers l t.posts) limits ∙ all_transfers s t keeps)
+
+    of_others : (others forgotten : Option ℕ) → IsCountOfOthers s.limits s.posts others forgotten → IsCountOfOthers t.limits t.posts others forgotten
+    of_others None forgotten is = tt
+    of_others (Some n) None is = is ∙ sym all
+    of_others (Some n) (Some rank) is = ap (λ (xs : List Transfer). n + length xs) (each rank) ∙ (is ∙ sym all)
+
+others_kept : (s t : State) (counts : TransferCounts) (me : ℕ) → t.limits ≡ s.limits → length t.posts ≡ length s.posts
+    → ((j : ℕ) → (me ≡ j → ⊥) → transfers_of s.limits t.posts j ≡ transfers_of s.limits s.posts j) → AreCounts s.limits s.posts counts → AreCounts t.limits t.posts (without_count counts me)
+others_kept s t counts me limits long same is = record {
   by_rank = λ rank count there.
       let left = item_left counts.by_rank me rank count there in
       is.by_rank rank count left.1 ∙ ap length (sym (ap (λ (l : Limits). transfers_of l t.posts rank) limits ∙ same rank left.0));
-  all = tt;
+  others = subst (λ (l : Limits). IsCountOfOthers l t.posts (count_without counts me) (Some me)) (sym limits) (of_others counts.others counts.forgotten refl refl is.others);
 }
+  where
+    swapped : length (transfers s.limits t.posts) + length (transfers_of s.limits s.posts me) ≡ length (transfers s.limits s.posts) + length (transfers_of s.limits t.posts me)
+    swapped = total_swapped s.limits s.posts t.posts me long same
+
+    of_stored : (n : ℕ) (stored : Option ℕ) → counts.others ≡ Some n → counts.forgotten ≡ None → item_at counts.by_rank me ≡ stored → n + 0 ≡ length (transfers s.limits s.posts)
+        → IsCountOfOthers s.limits t.posts (count_without counts me) (Some me)
+    of_stored n None others forgotten stored all = rw (others, forgotten, stored) tt
+    of_stored n (Some count) others forgotten stored all = by_size (nat_le count n) refl
+      where
+        by_size : (b : Bool) → nat_le count n ≡ b → IsCountOfOthers s.limits t.posts (count_without counts me) (Some me)
+        by_size false more = rw (others, forgotten, stored, more) tt
+        by_size true fits =
+            let within = leb-true count n fits in
+            let own = is.by_rank me count stored in
+            rw (others, forgotten, stored, fits) (omega (arith, swapped, within, own, all))
+
+    of_others : (others forgotten : Option ℕ) → counts.others ≡ others → counts.forgotten ≡ forgotten → IsCountOfOthers s.limits s.posts others forgotten
+        → IsCountOfOthers s.limits t.posts (count_without counts me) (Some me)
+    of_others None forgotten none left all = rw none tt
+    of_others (Some n) None others forgotten all = of_stored n (item_at counts.by_rank me) others forgotten refl all
+    of_others (Some n) (Some rank) others forgotten all = by_rank (rank == me) refl
+      where
+        by_rank : (b : Bool) → (rank == me) ≡ b → IsCountOfOthers s.limits t.posts (count_without counts me) (Some me)
+        by_rank false apart = rw (others, forgotten, apart) tt
+        by_rank true one =
+            let same_rank : rank ≡ me = eqb-true rank me one in
+            let own : length (transfers_of s.limits s.posts rank) ≡ length (transfers_of s.limits s.posts me) = ap (λ (k : ℕ). length (transfers_of s.limits s.posts k)) same_rank in
+            rw (others, forgotten, one) (omega (arith, swapped, own, all))
+
+-- a step leaves the number of ranks
+long_step : (s t : State) (e : Event) → step s e ≡ Ok t → length t.posts ≡ length s.posts
+long_step s t (Called c call reply) is = by_group (row_of call).group refl
+  where
+    by_group : (o : Option ℕ) → (row_of call).group ≡ o → length t.posts ≡ length s.posts
+    by_group None plain = long_after_call s t c call reply (called_back s t c call reply plain is)
+    by_group (Some id) named = let met = on_group-called s t c id call reply named is in (all_meeting s t c.rank met.0 met.1 met.2).long
+long_step s t (Joined c id args) is = let met = on_group-joined s t c id args is in (all_meeting s t c.rank met.0 met.1 met.2).long
+long_step s t (Take origin queue target number outcome) is =
+    let b = used_back s t origin queue target number outcome is in
+    ap (λ (x : State). length x.posts) (sym b.is) ∙ length-set s.posts origin b.after
+long_step s t (Put origin queue target number outcome) is =
+    let b = put_back s t origin queue target number outcome is in
+    ap length (sym b.posts) ∙ length-set s.posts origin b.after.posts
 
 -- where nothing was changed
 all_same : (s t : State) → t ≡ s → KeepsAll s t
@@ -218,11 +269,11 @@ all_same s t same = record { long = ap (λ (x : State). length x.posts) same; ea
 -- what is kept of them where an event is made: those of all ranks but its own
 pub counts_left : (counts : TransferCounts) (s t : State) (e : Event) (result : Result (Unit {0}) StepFault) → ((s t : State) (e : Event) → step s e ≡ Ok t → t.limits ≡ s.limits)
     → AreCounts s.limits s.posts counts → Steps result s t (step s e) → AreCounts t.limits t.posts (without_count counts (owner_of e))
-counts_left counts s t e (Ok done) limits is steps = others_kept s t counts (owner_of e) (limits s t e steps) (λ j apart. of_others s.limits s t e j apart steps) is
+counts_left counts s t e (Ok done) limits is steps = others_kept s t counts (owner_of e) (limits s t e steps) (long_step s t e steps) (λ j apart. of_others s.limits s t e j apart steps) is
 counts_left counts s t e (Err (faults.Illegal why)) limits is steps =
-    others_kept s t counts (owner_of e) (ap (λ (x : State). x.limits) steps.1) (λ j apart. ap (λ (x : State). transfers_of s.limits x.posts j) steps.1) is
+    others_kept s t counts (owner_of e) (ap (λ (x : State). x.limits) steps.1) (ap (λ (x : State). length x.posts) steps.1) (λ j apart. ap (λ (x : State). transfers_of s.limits x.posts j) steps.1) is
 counts_left counts s t e (Err faults.NoMemory) limits is steps =
-    others_kept s t counts (owner_of e) (ap (λ (x : State). x.limits) steps) (λ j apart. ap (λ (x : State). transfers_of s.limits x.posts j) steps) is
+    others_kept s t counts (owner_of e) (ap (λ (x : State). x.limits) steps) (ap (λ (x : State). length x.posts) steps) (λ j apart. ap (λ (x : State). transfers_of s.limits x.posts j) steps) is
 
 none_of : {A : Type 0} (o : Option A) → is_none o ≡ true → o ≡ None
 none_of None is = refl
@@ -273,5 +324,5 @@ none_there zero rank = refl
 none_there (suc n) zero = refl
 none_there (suc n) (suc rank) = none_there n rank
 
-pub counts_opening : (l : Limits) (all : List Posts) (n : ℕ) → AreCounts l all (record { by_rank = replicate n None; all = None })
-counts_opening l all n = record { by_rank = λ rank count there. absurd (let none = none_there n rank in let no : ⊥ = cc in no); all = tt }
+pub counts_opening : (l : Limits) (all : List Posts) (n : ℕ) → AreCounts l all (record { by_rank = replicate n None; others = None; forgotten = None })
+counts_opening l all n = record { by_rank = λ rank count there. absurd (let none = none_there n rank in let no : ⊥ = cc in no); others = tt }

@@ -12,6 +12,7 @@ pub mod Opened
 pub mod Parted
 pub mod Renamed
 pub mod Running
+pub mod Totals
 pub mod Recorded
 pub mod AtFootprints
 pub mod Walked

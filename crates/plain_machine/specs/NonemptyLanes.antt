@@ -1,5 +1,5 @@
 -- The nonempty lanes, by origin, queue and target, and the enabled transfers of a lane.
-use Rattle.std.specs.Prelude.{◌≡◌, ℕ, ◌+◌, Bool, true, false, not, ◌&&◌, ◌||◌, ◌==◌, nat_lt, List, [], ◌∷◌, length, Option, None, Some, if◌then◌else◌, slice_get, is_none}
+use Rattle.std.specs.Prelude.{◌≡◌, ℕ, ◌+◌, ◌<◌, ◌^◌, Bool, true, false, not, ◌&&◌, ◌||◌, ◌==◌, nat_lt, List, [], ◌∷◌, length, Option, None, Some, if◌then◌else◌, slice_get, is_none}
 use Rattle.std.specs.List.{flat_map, enumerate_from}
 use Rattle.gaspi_types.specs.CallRows.{row_of}
 use Rattle.gaspi_types.specs.Lanes.{carried_count, has_earlier_write, has_earlier_read}
@@ -128,16 +128,11 @@ abbrev pub is_put : Event → Bool
 is_put (Put origin queue target number outcome) = true
 is_put other = false
 
--- a number is over another, if there is one
-abbrev pub is_over : Option ℕ → ℕ → Bool
-is_over None n = false
-is_over (Some least) n = nat_lt least n
-
 -- the summary of a lane is right: how many entries are carried, and the least number of a write and of a read
 pub record AreLaneCounts (lane : List Entry) (summary : LaneCounts) : Type 0 where
   pub carried : summary.carried ≡ carried_count lane
-  pub writes : (n : ℕ) → has_earlier_write lane n ≡ is_over summary.first_write n
-  pub reads : (n : ℕ) → has_earlier_read lane n ≡ is_over summary.first_read n
+  pub writes : (n : ℕ) → n < 2 ^ 32 → has_earlier_write lane n ≡ nat_lt summary.first_write n
+  pub reads : (n : ℕ) → n < 2 ^ 32 → has_earlier_read lane n ≡ nat_lt summary.first_read n
 
 -- what a search in a list has found at an index (`place`): the item, or how far the index is past the list's end
 abbrev pub IsSearchOf : TransferSearch → List Transfer → ℕ → Type 0

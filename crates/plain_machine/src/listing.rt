@@ -9,7 +9,7 @@ ghost use Rattle.std.specs.Option.{option_to_list};
 ghost use Rattle.gaspi_types.specs.Lanes.{may_put};
 ghost use Rattle.gaspi_types.specs.declared.entries.Entry.{Entry};
 ghost use Rattle.gaspi_model.specs.Transfers.{transfer_of};
-ghost use Rattle.plain_machine.specs.NonemptyLanes.{is_over, AreLaneCounts, IsSearchOf, entries_transfers, unbroken_transfers};
+ghost use Rattle.plain_machine.specs.NonemptyLanes.{AreLaneCounts, IsSearchOf, entries_transfers, unbroken_transfers};
 
 use crate::nonempty_lanes::{LaneId, open_entries};
 use gaspi_model::Posts;
@@ -17,15 +17,18 @@ use gaspi_types::{Entry, Kind, Limits, NoMemory, Sequence, Transfer};
 use plain_calls::{is_carried, is_posted, is_read, is_write};
 use std::alloc::Global;
 
+/// Over the number of every entry.
+const NO_NUMBER: u64 = u64::MAX;
+
 /// The summary of a lane, by which its enabled transfers are judged.
 #[derive(Clone, Copy, Debug, PartialEq, Eq)]
 pub struct LaneCounts {
     /// How many entries are carried.
     pub carried: usize,
-    /// The least number of a write, if there is one.
-    pub first_write: Option<u32>,
-    /// The least number of a read, if there is one.
-    pub first_read: Option<u32>,
+    /// The least number of a write; `NO_NUMBER` where there is none.
+    pub first_write: u64,
+    /// The least number of a read; `NO_NUMBER` where there is none.
+    pub first_read: u64,
 }
 
 /// What the search for the transfer at an index of a list has found.
@@ -37,16 +40,15 @@ pub enum TransferSearch {
     Left(usize),
 }
 
-/// The lesser of `least`, if there is one, and `other`, if that `counts`.
-fn lesser(least: Option<u32>, counts: bool, other: u32) -> Option<u32>
-    ensures { (n : ℕ) → is_over result n ≡ (is_over least n || (counts && nat_lt other n)) }
+/// The lesser of `least` and, if it `counts`, `other`.
+fn lesser(least: u64, counts: bool, other: u32) -> u64
+    ensures { (n : ℕ) → nat_lt result n ≡ (nat_lt least n || (counts && nat_lt other n)) }
 {
-    if !counts {
-        return least;
-    }
-    match least {
-        Some(number) if number <= other => least,
-        Some(_) | None => Some(other),
+    let other = u64::from(other);
+    if counts && other < least {
+        other
+    } else {
+        least
     }
 }
 
@@ -55,8 +57,8 @@ fn summary_of(entries: &[Entry]) -> LaneCounts
     ensures { AreLaneCounts entries.now result }
 {
     let mut carried = 0;
-    let mut first_write = None;
-    let mut first_read = None;
+    let mut first_write = NO_NUMBER;
+    let mut first_read = NO_NUMBER;
     for entry in entries {
         if is_carried(entry) {
             carried += 1;
@@ -71,16 +73,6 @@ fn summary_of(entries: &[Entry]) -> LaneCounts
     }
 }
 
-/// Whether `number` is over `least`; false where there is no least number.
-fn is_over(least: Option<u32>, number: u32) -> bool
-    ensures { result ≡ is_over least number }
-{
-    match least {
-        Some(least) => least < number,
-        None => false,
-    }
-}
-
 /// Whether the put of an entry may come, by the summary of its lane. Whether the queue is broken is not asked here.
 /// (GASPI: notification order)
 fn may_put(summary: LaneCounts, entry: &Entry) -> bool
@@ -89,8 +81,8 @@ fn may_put(summary: LaneCounts, entry: &Entry) -> bool
     is_carried(entry)
         && match entry.kind {
             Kind::Write { .. } | Kind::Read { .. } => true,
-            Kind::Notify { .. } => !is_over(summary.first_write, entry.number),
-            Kind::ReadNote { .. } => !is_over(summary.first_read, entry.number),
+            Kind::Notify { .. } => summary.first_write >= u64::from(entry.number),
+            Kind::ReadNote { .. } => summary.first_read >= u64::from(entry.number),
         }
 }
 

@@ -5,7 +5,7 @@
 //! `found` that the evaluation is of this very call in this very state, whose rank has room for the event. After a step the stored
 //! used room is right (clause `used`), and so is the list of nonempty lanes (clause `named`).
 
-ghost use Rattle.std.specs.Prelude.{◌≡◌, ◌≢◌, ◌+◌, ◌<◌, ◌≤◌, ◌||◌, List, nat_le, length, map, slice_get, IfOk, IsOk, Ok, Err, true, false, Some, None};
+ghost use Rattle.std.specs.Prelude.{◌≡◌, ◌≢◌, ◌+◌, ◌<◌, ◌≤◌, ◌||◌, List, nat_le, length, map, slice_get, IfOk, OnOk, IsOk, Ok, Err, true, false, Some, None};
 ghost use Rattle.gaspi_types.specs.CallRows.{row_of};
 ghost use Rattle.gaspi_types.specs.Replies.{is_idle};
 ghost use Rattle.gaspi_types.specs.Tables.{item_at};
@@ -37,8 +37,8 @@ use gaspi_types::{
     Sequence, ThreadId,
 };
 use plain_calls::{
-    Evaluation, Joining, charge, collective_look, complete, is_there, join, look, may_join,
-    pending_on, record, register_at_peer, registration, thread_at,
+    Evaluation, Joining, charge, collective_look, complete, is_there, join, may_join, pending_on,
+    record, register_at_peer, registration, thread_at,
 };
 use std::alloc::Global;
 
@@ -62,17 +62,19 @@ fn is_pending_at(posts: &Posts, thread: ThreadId, id: u64) -> bool
     }
 }
 
-/// The evaluation of a call that is no collective. Only a load, the post of a list and a send that is done take memory.
+/// Writes the evaluation of a call that is no collective over `look`. Only a load, the post of a list and a send that is done take
+/// memory; where it runs out, what `look` says is of no call.
 fn look_plain(
     ranks: &RankTables,
     memories: &Sequence<Memory>,
     alloc: Global,
     invocation: &Invocation<'_>,
-) -> Result<Evaluation, NoMemory>
+    look: &mut Evaluation,
+) -> Result<(), NoMemory>
     requires whole { IsStateOf ranks.now memories.now }
     requires there { invocation.now.caller.rank < length ranks.now.posts }
     requires plain { (row_of invocation.now.call.now).group ≡ None }
-    ensures look { IfOk result (λ look. IsEvaluationIn look (state_in ranks.now memories.now) invocation.now.caller invocation.now.call.now) }
+    ensures look { OnOk result (IsEvaluationIn look.new (state_in ranks.now memories.now) invocation.now.caller invocation.now.call.now) }
     ensures ample { looks_with_memory invocation.now.call.now ≡ false → IsOk result }
     ensures idle { (ready : Ready) → is_send invocation.now.call.now ≡ true → answer_in (state_in ranks.now memories.now) invocation.now.caller.rank invocation.now.caller.thread invocation.now.call.now ≡ Some ready → is_idle (recorded_reply ready) ≡ true → IsOk result }
 {
@@ -81,13 +83,14 @@ fn look_plain(
     let footprint = call_footprint(&ranks.limits, invocation);
     let own = own_memory(memories, none, rank, &footprint);
     let memory = accessed_memory(memories, none, rank, &footprint);
-    look(
+    plain_calls::look(
         alloc,
         &ranks.limits,
         invocation,
         ranks.posts.at(rank.index()),
         own,
         memory,
+        look,
     )
 }
 
@@ -116,25 +119,28 @@ fn look_collective(
     )
 }
 
-/// The evaluation of a call of a caller. Only a load, the post of a list, an allreduce and a send that is done take memory.
+/// Writes the evaluation of a call of a caller over `look`. Only a load, the post of a list, an allreduce and a send that is done take
+/// memory; where it runs out, what `look` says is of no call.
 pub fn look_in(
     ranks: &RankTables,
     memories: &Sequence<Memory>,
     alloc: Global,
     invocation: &Invocation<'_>,
-) -> Result<Evaluation, NoMemory>
+    look: &mut Evaluation,
+) -> Result<(), NoMemory>
     requires whole { IsStateOf ranks.now memories.now }
     requires there { invocation.now.caller.rank < length ranks.now.posts }
-    ensures look { IfOk result (λ look. IsEvaluationIn look (state_in ranks.now memories.now) invocation.now.caller invocation.now.call.now) }
+    ensures look { OnOk result (IsEvaluationIn look.new (state_in ranks.now memories.now) invocation.now.caller invocation.now.call.now) }
     ensures ample { looks_with_memory invocation.now.call.now ≡ false → IsOk result }
     ensures idle { (ready : Ready) → is_send invocation.now.call.now ≡ true → answer_in (state_in ranks.now memories.now) invocation.now.caller.rank invocation.now.caller.thread invocation.now.call.now ≡ Some ready → is_idle (recorded_reply ready) ≡ true → IsOk result }
 {
     match invocation.row.group {
         Some(id) => {
             let ready = look_collective(ranks, alloc, &invocation.caller, id, invocation.call)?;
-            Ok(Evaluation::plain(ready))
+            look.set_plain(ready);
+            Ok(())
         }
-        None => look_plain(ranks, memories, alloc, invocation),
+        None => look_plain(ranks, memories, alloc, invocation, look),
     }
 }
 
@@ -149,10 +155,10 @@ pub fn is_pending_in(ranks: &RankTables, invocation: &Invocation<'_>) -> bool
     }
 }
 
-/// Makes the step by a call with its evaluation, on the posts of its rank and the memory that it works on, and gives the reply.
-/// `charge` is that of the event. Where memory runs out nothing changes.
+/// Makes the step by a call with its evaluation, on the posts of its rank and the memory that it works on. `charge` is that of the
+/// event. Where memory runs out nothing changes.
 ///
-/// What is left of the evaluation, here and up to `record_with_lanes`, is of no call.
+/// Here and up to `record_with_lanes` the evaluation keeps its answer, or the reply of it, and its message is taken out.
 #[inline(always)]
 fn record_on(
     ranks: &mut RankTables,
@@ -161,14 +167,14 @@ fn record_on(
     invocation: &Invocation<'_>,
     look: &mut Evaluation,
     charge: u32,
-) -> Result<Reply, NoMemory>
+) -> Result<(), NoMemory>
     requires ranks { AreRanks ranks.old.limits ranks.old.posts }
     requires used { ranks.old.used ≡ map used_room_of ranks.old.posts }
     requires there { invocation.now.caller.rank < length ranks.old.posts }
     requires look { (posts : Posts) → slice_get ranks.old.posts invocation.now.caller.rank ≡ Some posts → IsEvaluationOn look.old ranks.old.limits posts memory.old invocation.now.caller invocation.now.call.now }
     requires charge { IsCharge charge ranks.old.posts invocation.now.caller invocation.now.call.now look.old.ready }
     requires room { HasEventRoom ranks.old.limits ranks.old.posts invocation.now.caller invocation.now.call.now look.old.ready }
-    ensures reply { IfOk result (λ reply. reply ≡ recorded_reply look.old.ready) }
+    ensures ready { look.new.ready ≡ look.old.ready }
     ensures step { Steps {S = PostsAndLentMemory} (recorded_of result) (record { posts = ranks.old.posts; memory = memory.old }) (record { posts = ranks.new.posts; memory = memory.new }) (call_lent ranks.old.limits ranks.old.posts look.old.message memory.old invocation.now.caller invocation.now.call.now (recorded_reply look.old.ready)) }
     ensures ranks { length ranks.new.posts ≡ length ranks.old.posts }
     ensures limits { ranks.new.limits ≡ ranks.old.limits }
@@ -179,7 +185,7 @@ fn record_on(
     let rank = invocation.caller.rank.index();
     let taken = *ranks.used.at(rank);
     let used = taken + charge;
-    let recorded = record(
+    let used = record(
         alloc,
         &ranks.limits,
         invocation,
@@ -188,11 +194,11 @@ fn record_on(
         used,
         look,
     )?;
-    *ranks.used.at_mut(rank) = recorded.used;
-    Ok(recorded.reply)
+    *ranks.used.at_mut(rank) = used;
+    Ok(())
 }
 
-/// Makes the step by a call that is no collective, with its evaluation, and gives the reply. A `register` changes the posts of its
+/// Makes the step by a call that is no collective, with its evaluation. A `register` changes the posts of its
 /// peer too. Where memory runs out nothing changes.
 #[inline(always)]
 fn record_plain(
@@ -202,11 +208,11 @@ fn record_plain(
     invocation: &Invocation<'_>,
     look: &mut Evaluation,
     charge: u32,
-) -> Result<Reply, NoMemory>
+) -> Result<(), NoMemory>
     requires whole { IsStateOf ranks.old memories.old }
     requires found { IsEvaluationWithRoom look.old (state_in ranks.old memories.old) invocation.now.caller invocation.now.call.now charge }
     requires plain { (row_of invocation.now.call.now).group ≡ None }
-    ensures reply { IfOk result (λ reply. reply ≡ recorded_reply look.old.ready) }
+    ensures ready { look.new.ready ≡ look.old.ready }
     ensures step { StepsBy (recorded_of result) (state_in ranks.old memories.old) (state_in ranks.new memories.new) (Called invocation.now.caller invocation.now.call.now (recorded_reply look.old.ready)) }
     ensures used { ranks.new.used ≡ map used_room_of ranks.new.posts }
     ensures ample { keeps_memory invocation.now.call.now ≡ false → IsOk result }
@@ -241,9 +247,9 @@ fn record_plain(
             let own = ranks.posts.at(rank.index());
             let registration = registration(rank, own, invocation.call, look);
             let mut none = empty_memory(alloc);
-            let reply = record_on(ranks, &mut none, alloc, invocation, look, charge)?;
+            record_on(ranks, &mut none, alloc, invocation, look, charge)?;
             register_at_peer(ranks.posts.at_mut(peer.index()), registration);
-            Ok(reply)
+            Ok(())
         }
     }
 }
@@ -301,12 +307,12 @@ fn record_posting(
     invocation: &Invocation<'_>,
     look: &mut Evaluation,
     charge: u32,
-) -> Result<Reply, NoMemory>
+) -> Result<(), NoMemory>
     requires machine { IsMachine (state_in ranks.old memories.old) ranks.old.used standing.old.items }
     requires found { IsEvaluationWithRoom look.old (state_in ranks.old memories.old) invocation.now.caller invocation.now.call.now charge }
     requires plain { (row_of invocation.now.call.now).group ≡ None }
     requires unpurged { look_purge invocation.now.call.now look.old ≡ None }
-    ensures reply { IfOk result (λ reply. reply ≡ recorded_reply look.old.ready) }
+    ensures ready { look.new.ready ≡ look.old.ready }
     ensures step { StepsBy (recorded_of result) (state_in ranks.old memories.old) (state_in ranks.new memories.new) (Called invocation.now.caller invocation.now.call.now (recorded_reply look.old.ready)) }
     ensures used { ranks.new.used ≡ map used_room_of ranks.new.posts }
     ensures named { standing.new.items ≡ nonempty_lanes ranks.new.posts }
@@ -321,12 +327,12 @@ fn record_posting(
     if standing.reserve(1).is_err() {
         return Err(NoMemory);
     }
-    let reply = record_plain(ranks, memories, alloc, invocation, look, charge)?;
+    record_plain(ranks, memories, alloc, invocation, look, charge)?;
     insert_lane(standing, id);
-    Ok(reply)
+    Ok(())
 }
 
-/// Makes the step by any call with its evaluation, and gives the reply. The nonempty lanes get the lane to which the call posts, and
+/// Makes the step by any call with its evaluation. The nonempty lanes get the lane to which the call posts, and
 /// lose those of the queue that it purges. The evaluation is of this very call in this very state, and is no join; its rank has room
 /// for the event. So nothing is checked again. Where memory runs out nothing changes.
 #[inline(always)]
@@ -338,11 +344,11 @@ pub fn record_with_lanes(
     invocation: &Invocation<'_>,
     look: &mut Evaluation,
     charge: u32,
-) -> Result<Reply, NoMemory>
+) -> Result<(), NoMemory>
     requires machine { IsMachine (state_in ranks.old memories.old) ranks.old.used standing.old.items }
     requires found { IsEvaluationWithRoom look.old (state_in ranks.old memories.old) invocation.now.caller invocation.now.call.now charge }
     requires unjoined { is_joining look.old.ready ≡ false }
-    ensures reply { IfOk result (λ reply. reply ≡ recorded_reply look.old.ready) }
+    ensures reply { recorded_reply look.new.ready ≡ recorded_reply look.old.ready }
     ensures step { StepsBy (recorded_of result) (state_in ranks.old memories.old) (state_in ranks.new memories.new) (Called invocation.now.caller invocation.now.call.now (recorded_reply look.old.ready)) }
     ensures used { ranks.new.used ≡ map used_room_of ranks.new.posts }
     ensures named { standing.new.items ≡ nonempty_lanes ranks.new.posts }
@@ -350,15 +356,15 @@ pub fn record_with_lanes(
 {
     if let Some(id) = invocation.row.group {
         let ready = std::mem::replace(&mut look.ready, Ready::NotReady);
-        let reply = record_collective(ranks, alloc, invocation, id, ready);
-        return Ok(reply);
+        look.ready = Ready::Reply(record_collective(ranks, alloc, invocation, id, ready));
+        return Ok(());
     }
     let Some(queue) = look_purge(invocation.call, look) else {
         return record_posting(ranks, memories, standing, alloc, invocation, look, charge);
     };
-    let reply = record_plain(ranks, memories, alloc, invocation, look, charge)?;
+    record_plain(ranks, memories, alloc, invocation, look, charge)?;
     remove_queue_lanes(standing, invocation.caller.rank, queue);
-    Ok(reply)
+    Ok(())
 }
 
 /// The used room that the event of a call with this answer adds.
@@ -410,7 +416,7 @@ fn step_looked(
         return Err(StepFault::Illegal(Why::Limit));
     }
     match record_with_lanes(ranks, memories, standing, alloc, invocation, look, charge) {
-        Ok(_) => Ok(()),
+        Ok(()) => Ok(()),
         Err(NoMemory) => Err(StepFault::NoMemory),
     }
 }
@@ -434,9 +440,11 @@ pub fn step_called(
     if !has_section(ranks, &invocation.caller) {
         return Err(StepFault::Illegal(Why::Caller));
     }
-    let mut found = look_in(ranks, memories, alloc, invocation);
-    match &mut found {
-        Ok(look) => step_looked(ranks, memories, standing, alloc, invocation, reply, look),
+    let mut look = Evaluation::of_no_call();
+    match look_in(ranks, memories, alloc, invocation, &mut look) {
+        Ok(()) => step_looked(
+            ranks, memories, standing, alloc, invocation, reply, &mut look,
+        ),
         Err(NoMemory) => Err(StepFault::NoMemory),
     }
 }

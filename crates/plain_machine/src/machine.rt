@@ -1,7 +1,7 @@
 //! The machine: its opening state, its steps, and questions on its state. Each function of the crate that others call is here; the
 //! work is done in the other files, on the fields of `Machine`.
 
-ghost use Rattle.std.specs.Prelude.{◌≡◌, ◌≢◌, ℕ, ◌+◌, ◌<◌, ◌↔◌, IfOk, IsOk, IsTrue, Some, Err, true, false, not, length, slice_get};
+ghost use Rattle.std.specs.Prelude.{◌≡◌, ◌≢◌, ℕ, ◌+◌, ◌<◌, ◌↔◌, IfOk, IsOk, IsTrue, Some, Err, true, false, not, length, slice_get, OnOk};
 ghost use Rattle.gaspi_types.specs.CallRows.{need_of};
 ghost use Rattle.gaspi_model.specs.CollectiveCalls.{is_joining, join_event};
 ghost use Rattle.gaspi_model.specs.Sound.{IsSound};
@@ -108,33 +108,38 @@ impl Machine {
         )
     }
 
-    /// The evaluation of a call by a caller that has a section: a refusal or a reply, that it may join, or that it is not ready; and
-    /// what the record needs beside. Only a load, the post of a list, an allreduce (clause `ample`) and a send that is done (clause
-    /// `idle`) take memory. Nothing changes.
-    pub fn look(&self, alloc: Global, invocation: &Invocation<'_>) -> Result<Evaluation, NoMemory>
+    /// Writes the evaluation of a call by a caller that has a section over `look`: a refusal or a reply, that it may join, or that it is
+    /// not ready; and what the record needs beside. Only a load, the post of a list, an allreduce (clause `ample`) and a send that is
+    /// done (clause `idle`) take memory; where it runs out, what `look` says is of no call.
+    pub fn look(
+        &self,
+        alloc: Global,
+        invocation: &Invocation<'_>,
+        look: &mut Evaluation,
+    ) -> Result<(), NoMemory>
         requires { is_declared self.now invocation.now.caller.rank invocation.now.caller.thread ≡ true }
-        ensures look { IfOk result (λ look. IsEvaluationIn look self.now invocation.now.caller invocation.now.call.now) }
-        ensures answer { IfOk result (λ look. answer_in self.now invocation.now.caller.rank invocation.now.caller.thread invocation.now.call.now ≡ Some look.ready) }
+        ensures look { OnOk result (IsEvaluationIn look.new self.now invocation.now.caller invocation.now.call.now) }
+        ensures answer { OnOk result (answer_in self.now invocation.now.caller.rank invocation.now.caller.thread invocation.now.call.now ≡ Some look.new.ready) }
         ensures ample { looks_with_memory invocation.now.call.now ≡ false → IsOk result }
         ensures idle { (ready : Ready) → is_send invocation.now.call.now ≡ true → answer_in self.now invocation.now.caller.rank invocation.now.caller.thread invocation.now.call.now ≡ Some ready → is_idle (recorded_reply ready) ≡ true → IsOk result }
     {
-        look_in(&self.ranks, &self.memories, alloc, invocation)
+        look_in(&self.ranks, &self.memories, alloc, invocation, look)
     }
 
-    /// Makes the step by a call with its evaluation, and gives the reply. The evaluation is of this very call in this very state,
-    /// and is no join; the event is a step, since its rank has room for it. So nothing is checked again. Only a post, an alloc and a
-    /// send take memory; where it runs out nothing changes. What is left of the evaluation is of no call.
+    /// Makes the step by a call with its evaluation, which keeps the reply (`take_reply`), and nothing else of use. The evaluation is of
+    /// this very call in this very state, and is no join; the event is a step, since its rank has room for it. So nothing is checked
+    /// again. Only a post, an alloc and a send take memory; where it runs out nothing changes.
     pub fn record(
         &mut self,
         alloc: Global,
         invocation: &Invocation<'_>,
         look: &mut Evaluation,
-    ) -> Result<Reply, NoMemory>
+    ) -> Result<(), NoMemory>
         requires declared { is_declared self.old invocation.now.caller.rank invocation.now.caller.thread ≡ true }
         requires look { IsEvaluationIn look.old self.old invocation.now.caller invocation.now.call.now }
         requires unjoined { is_joining look.old.ready ≡ false }
         requires steps { IsOk (step self.old (Called invocation.now.caller invocation.now.call.now (recorded_reply look.old.ready))) }
-        ensures reply { IfOk result (λ reply. reply ≡ recorded_reply look.old.ready) }
+        ensures reply { recorded_reply look.new.ready ≡ recorded_reply look.old.ready }
         ensures step { Steps (recorded_of result) self.old self.new (step self.old (Called invocation.now.caller invocation.now.call.now (recorded_reply look.old.ready))) }
         ensures ample { keeps_memory invocation.now.call.now ≡ false → IsOk result }
     {
@@ -180,8 +185,9 @@ impl Machine {
         ensures idle { (ready : Ready) → is_send call.now ≡ true → answer_in self.now caller.rank caller.thread call.now ≡ Some ready → is_idle (recorded_reply ready) ≡ true → IsOk result }
     {
         let invocation = Invocation::new(caller, call);
-        let look = self.look(alloc, &invocation)?;
-        Ok(look.ready)
+        let mut look = Evaluation::of_no_call();
+        self.look(alloc, &invocation, &mut look)?;
+        Ok(std::mem::replace(&mut look.ready, Ready::NotReady))
     }
 
     /// The enabled transfers, by origin, queue, target and number. For tests: `transfer_at` gives each without a list.

@@ -2,8 +2,9 @@
 //! (`place` is such an index, and no place of an event).
 //!
 //! An event changes the transfers of its owner alone. So counts are stored, a rank is counted again only after its own events, and a
-//! sought transfer is looked for in the lanes of one rank. To *forget* a count is to store none. `lanes` are the nonempty lanes
-//! (clause `named`), and the stored counts are right, before (clause `counts`) and after (clause `kept`).
+//! sought transfer is looked for in the lanes of one rank. To *forget* a count is to store none; while one rank's alone is forgotten,
+//! the count of all others is known. `lanes` are the nonempty lanes (clause `named`), and the stored counts are right, before (clause
+//! `counts`) and after (clause `kept`).
 
 ghost use Rattle.std.specs.Prelude.{◌≡◌, ◌≤◌, None, Option, ℕ, length, replicate, slice_get, slice_set, if◌then◌else◌, IfOk};
 ghost use Rattle.gaspi_types.specs.Tables.{item_at};
@@ -11,7 +12,7 @@ ghost use Rattle.gaspi_model.specs.Step.{owner_of};
 ghost use Rattle.gaspi_model.specs.Transfers.{transfers};
 ghost use Rattle.plain_machine.specs.Machine.{is_still};
 ghost use Rattle.plain_machine.specs.NonemptyLanes.{IsSearchOf, nonempty_lanes};
-ghost use Rattle.plain_machine.specs.RankCounts.{transfers_of, without_count, AreRankCounts, AreCounts, HaveFewTransfers};
+ghost use Rattle.plain_machine.specs.RankCounts.{transfers_of, count_without, without_count, AreRankCounts, AreCounts, HaveFewTransfers};
 
 use crate::listing::{TransferSearch, lanes_count, lanes_transfer};
 use crate::nonempty_lanes::{LaneId, lanes_of_rank};
@@ -27,8 +28,10 @@ type RankCounts = Sequence<Option<usize>>;
 pub struct TransferCounts {
     /// Of each rank.
     by_rank: RankCounts,
-    /// Of all ranks; None where a rank's count was forgotten since.
-    all: Option<usize>,
+    /// Of all ranks but `forgotten`; None where more than one rank's count was forgotten since all were counted.
+    others: Option<usize>,
+    /// The rank that `others` leaves out; None where it counts all.
+    forgotten: Option<RankId>,
 }
 
 /// No count of any rank, for the opening state.
@@ -44,11 +47,12 @@ fn opening_rank_counts(alloc: Global, ranks: u32) -> Result<RankCounts, NoMemory
 
 /// No count, for the opening state.
 pub fn opening_counts(alloc: Global, ranks: u32) -> Result<TransferCounts, NoMemory>
-    ensures { IfOk result (λ counts. counts ≡ record { by_rank = replicate ranks None; all = None }) }
+    ensures { IfOk result (λ counts. counts ≡ record { by_rank = replicate ranks None; others = None; forgotten = None }) }
 {
     Ok(TransferCounts {
         by_rank: opening_rank_counts(alloc, ranks)?,
-        all: None,
+        others: None,
+        forgotten: None,
     })
 }
 
@@ -72,12 +76,26 @@ fn set_count(counts: &mut RankCounts, rank: RankId, count: Option<usize>)
     }
 }
 
-/// Forgets the count of a rank, and that of all.
+/// The count of all ranks but `rank`, from that of all but `forgotten`, where one follows from the other: `rank` is left out already,
+/// or its own count is stored.
+fn count_without(counts: &TransferCounts, rank: RankId) -> Option<usize>
+    ensures { result ≡ count_without counts.now rank }
+{
+    let others = counts.others?;
+    match counts.forgotten {
+        Some(forgotten) if forgotten == rank => Some(others),
+        Some(_) => None,
+        None => others.checked_sub(kept_count(&counts.by_rank, rank)?),
+    }
+}
+
+/// Forgets the count of a rank. That of all others stays, where it is known.
 pub fn forget_count(counts: &mut TransferCounts, rank: RankId)
     ensures { counts.new ≡ without_count counts.old rank }
 {
+    counts.others = count_without(counts, rank);
+    counts.forgotten = Some(rank);
     set_count(&mut counts.by_rank, rank, None);
-    counts.all = None;
 }
 
 /// The owner of an event.
@@ -90,7 +108,7 @@ fn owner(event: &Event) -> RankId
     }
 }
 
-/// Forgets the counts that an event may change: that of its owner, and that of all.
+/// Forgets the count that an event may change: that of its owner.
 pub fn forget_owner(counts: &mut TransferCounts, event: &Event)
     ensures { counts.new ≡ without_count counts.old (owner_of event.now) }
 {
@@ -159,7 +177,8 @@ fn counts_sum(
     count
 }
 
-/// How many transfers are enabled. They are summed up where no count of all is stored, and then it is stored.
+/// How many transfers are enabled: of the others and of the rank whose count was forgotten, where these are known apart, and else the
+/// sum over all ranks. Then the count of all is stored.
 pub fn transfer_count(
     limits: &Limits,
     posts: &Sequence<Posts>,
@@ -173,11 +192,15 @@ pub fn transfer_count(
     ensures count { result ≡ length (transfers limits.now posts.now) }
     ensures kept { AreCounts limits.now posts.now counts.new }
 {
-    if let Some(count) = counts.all {
-        return count;
-    }
-    let count = counts_sum(limits, posts, lanes, &mut counts.by_rank);
-    counts.all = Some(count);
+    let count = match (counts.others, counts.forgotten) {
+        (Some(count), None) => return count,
+        (Some(others), Some(rank)) => {
+            others + rank_count(limits, posts, lanes, &mut counts.by_rank, rank)
+        }
+        (None, _) => counts_sum(limits, posts, lanes, &mut counts.by_rank),
+    };
+    counts.others = Some(count);
+    counts.forgotten = None;
     count
 }
 

@@ -92,8 +92,8 @@ fn record_call(
 {
     let call = invocation.call.copy(alloc)?;
     bring_on(schedule.active.at_mut(index), &look.ready);
-    let reply = schedule.state.record(alloc, invocation, look)?;
-    let event = Event::Called(invocation.caller, call, reply);
+    schedule.state.record(alloc, invocation, look)?;
+    let event = Event::Called(invocation.caller, call, look.take_reply());
     schedule.journal.push(event)?;
     Ok(())
 }
@@ -185,6 +185,7 @@ fn look_joined(
     index: usize,
     invocation: &Invocation<'_>,
     timeout: Timeout,
+    look: &mut Evaluation,
 ) -> Result<(), NoMemory>
     requires index { index < length schedule.old.active }
     requires caller { IsCallerAt schedule.old index invocation.now.caller }
@@ -193,14 +194,11 @@ fn look_joined(
     ensures { (w : ActiveCaller) (line : ScriptLine) → slice_get schedule.old.active index ≡ Some w → line.call ≡ invocation.now.call.now → line.timeout ≡ timeout
         → OnOk result (schedule.new ≡ joined_iteration limit schedule.old index w line) }
 {
-    let mut found = schedule.state.look(alloc, invocation);
-    match &mut found {
-        Ok(look) => match look.ready {
-            Ready::Reply(_) => record_call(schedule, alloc, index, invocation, look),
-            Ready::Join(_) => Ok(()),
-            Ready::NotReady => look_again(schedule, alloc, limit, index, invocation, timeout, look),
-        },
-        Err(NoMemory) => Err(NoMemory),
+    schedule.state.look(alloc, invocation, look)?;
+    match look.ready {
+        Ready::Reply(_) => record_call(schedule, alloc, index, invocation, look),
+        Ready::Join(_) => Ok(()),
+        Ready::NotReady => look_again(schedule, alloc, limit, index, invocation, timeout, look),
     }
 }
 
@@ -214,6 +212,7 @@ fn lacks_room(schedule: &ScheduleState, invocation: &Invocation<'_>) -> bool
 }
 
 /// The iteration of an active caller that has a present call, which is made into an invocation here.
+#[inline(always)]
 fn go_on(
     schedule: &mut ScheduleState,
     alloc: Global,
@@ -221,6 +220,7 @@ fn go_on(
     index: usize,
     call: &Call,
     timeout: Timeout,
+    look: &mut Evaluation,
 ) -> Result<(), NoMemory>
     requires index { index < length schedule.old.active }
     requires active { AreActive schedule.old }
@@ -229,7 +229,7 @@ fn go_on(
 {
     let caller = schedule.active.at(index).caller;
     let invocation = Invocation::new(caller, call);
-    go_on_with(schedule, alloc, limit, index, &invocation, timeout)
+    go_on_with(schedule, alloc, limit, index, &invocation, timeout, look)
 }
 
 /// Goes on after a look at the present call of an active caller, whose rank has the room that the call needs: a reply is recorded; a
@@ -260,7 +260,7 @@ fn follow_look(
         Ready::Join(_) => match join_args(look) {
             Some(args) => {
                 join_group(schedule, alloc, invocation, args)?;
-                look_joined(schedule, alloc, limit, index, invocation, timeout)
+                look_joined(schedule, alloc, limit, index, invocation, timeout, look)
             }
             None => Ok(()),
         },
@@ -276,6 +276,7 @@ fn go_on_with(
     index: usize,
     invocation: &Invocation<'_>,
     timeout: Timeout,
+    look: &mut Evaluation,
 ) -> Result<(), NoMemory>
     requires index { index < length schedule.old.active }
     requires caller { IsCallerAt schedule.old index invocation.now.caller }
@@ -289,11 +290,8 @@ fn go_on_with(
         active.looks = 0;
         return Ok(());
     }
-    let mut found = schedule.state.look(alloc, invocation);
-    match &mut found {
-        Ok(look) => follow_look(schedule, alloc, limit, index, invocation, timeout, look),
-        Err(NoMemory) => Err(NoMemory),
-    }
+    schedule.state.look(alloc, invocation, look)?;
+    follow_look(schedule, alloc, limit, index, invocation, timeout, look)
 }
 
 /// The iteration of an active caller: its end, where its run is over, and otherwise that of its present call.
@@ -302,19 +300,23 @@ fn caller_iteration(
     alloc: Global,
     limit: u32,
     index: usize,
+    look: &mut Evaluation,
 ) -> Result<(), NoMemory>
     requires index { index < length schedule.old.active }
     requires active { AreActive schedule.old }
     ensures { (w : ActiveCaller) → slice_get schedule.old.active index ≡ Some w → OnOk result (schedule.new ≡ caller_iteration limit schedule.old index w) }
 {
     let cursor = &schedule.active.at(index).cursor;
+    if let Some((call, timeout)) = cursor.present_in_memory() {
+        return go_on(schedule, alloc, limit, index, call, timeout, look);
+    }
     if let Some(outcome) = cursor.outcome() {
         return end_caller(schedule, alloc, index, outcome);
     }
     match cursor.present() {
         Some((call, timeout)) => {
             let call = call.copy(alloc)?;
-            go_on(schedule, alloc, limit, index, &call, timeout)
+            go_on(schedule, alloc, limit, index, &call, timeout, look)
         }
         None => Ok(()),
     }
@@ -344,13 +346,14 @@ fn candidate_iteration(
     alloc: Global,
     limit: u32,
     candidate: usize,
+    look: &mut Evaluation,
 ) -> Result<(), NoMemory>
     requires active { AreActive schedule.old }
     ensures { OnOk result (schedule.new ≡ candidate_iteration limit schedule.old candidate) }
 {
     let active = schedule.active.len();
     if candidate < active {
-        return caller_iteration(schedule, alloc, limit, candidate);
+        return caller_iteration(schedule, alloc, limit, candidate, look);
     }
     match schedule.state.transfer_at(candidate - active) {
         Some(transfer) => transfer_iteration(schedule, alloc, &transfer),
@@ -359,7 +362,12 @@ fn candidate_iteration(
 }
 
 /// One iteration: a draw picks a candidate. False where there is no candidate, and then nothing has changed.
-pub fn iterate(schedule: &mut ScheduleState, alloc: Global, limit: u32) -> Result<bool, NoMemory>
+pub fn iterate(
+    schedule: &mut ScheduleState,
+    alloc: Global,
+    limit: u32,
+    look: &mut Evaluation,
+) -> Result<bool, NoMemory>
     requires { AreActive schedule.old }
     ensures over { result ≡ Ok false → (candidates schedule.old ≡ 0) × (schedule.new ≡ schedule.old) }
     ensures iterated { result ≡ Ok true → (0 < candidates schedule.old) × (schedule.new ≡ iterate limit schedule.old) }
@@ -371,6 +379,6 @@ pub fn iterate(schedule: &mut ScheduleState, alloc: Global, limit: u32) -> Resul
     }
     schedule.x = drawn(schedule.x);
     let candidate = picked(schedule.x, active, transfers);
-    candidate_iteration(schedule, alloc, limit, candidate)?;
+    candidate_iteration(schedule, alloc, limit, candidate, look)?;
     Ok(true)
 }

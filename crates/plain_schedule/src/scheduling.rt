@@ -14,6 +14,7 @@ use crate::schedule_states::{ActiveCaller, EndedCaller, ScheduleState};
 use gaspi_model::{enabled, endings, settling, soundness};
 use gaspi_texts::{Journal, journal_is_in_range};
 use gaspi_types::{CallerId, NoMemory, RankId, Sequence, Shape, ThreadId};
+use plain_calls::Evaluation;
 use plain_machine::Machine;
 use rank_script::{Cursor, Scripts, runs};
 use std::alloc::Global;
@@ -111,9 +112,11 @@ pub fn schedule(
         state: Machine::start(alloc, shape)?,
         active: starts(alloc, shape, scripts)?,
         ended: Sequence::new(alloc),
-        journal: Sequence::new(alloc),
+        // Most lines make an event at least. Memory that no event needs is never used.
+        journal: Sequence::with_capacity(alloc, scripts.line_count())?,
     };
-    while iterate(&mut schedule, alloc, limit)? {}
+    let mut look = Evaluation::of_no_call();
+    while iterate(&mut schedule, alloc, limit, &mut look)? {}
     let ScheduleState {
         x: _,
         state: _,

@@ -1,7 +1,7 @@
 //! A cursor walks a script call by call. The present call is the one to be made next, and the present line has it. The tests of a line
 //! and a reply, which say where it goes on, are here too.
 
-ghost use Rattle.std.specs.Prelude.{◌≡◌, ◌+◌, ◌<◌, ◌^◌, true, IfOk};
+ghost use Rattle.std.specs.Prelude.{◌≡◌, ◌+◌, ◌<◌, ◌^◌, true, IfOk, IfSome, Some};
 ghost use Rattle.std.specs.Option.{option_map};
 ghost use Rattle.rank_script.specs.Runs.{RunEnded, at_first_line, advanced, stopped, present_of, line_of, outcome_of, is_stuck, is_retried, is_failed, is_timeout};
 
@@ -51,6 +51,15 @@ impl<'a> Cursor<'a> {
         ensures { option_map (λ call. (call.0.now, call.1)) result ≡ present_of self.now }
     {
         let line = self.left.first()?;
+        Some((&line.call, line.timeout.get()))
+    }
+
+    /// The present call with its timeout, lent for as long as the script is, so that it serves while the run moves on. None where the
+    /// run has ended, and for a line of `bench`, which no script has in memory.
+    pub fn present_in_memory(&self) -> Option<(&'a Call, Timeout)>
+        ensures { IfSome result (λ call. present_of self.now ≡ Some (call.0.now, call.1)) }
+    {
+        let line = self.left.first_in_memory()?;
         Some((&line.call, line.timeout.get()))
     }
 

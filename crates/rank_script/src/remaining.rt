@@ -55,6 +55,16 @@ impl<'a> Remaining<'a> {
         }
     }
 
+    /// The present line where the script has it in memory, lent for as long as the script is; otherwise none.
+    pub(crate) fn first_in_memory(&self) -> Option<&'a ScriptLine>
+        ensures { IfSome result (λ line. self.now ≡ line.now ∷ drop 1 self.now) }
+    {
+        match &self.rounds {
+            Some(_) => None,
+            None => self.others.first(),
+        }
+    }
+
     /// Goes on to the next line; where no line is left, nothing changes. It takes no memory.
     pub(crate) fn step(&mut self)
         ensures { self.new ≡ drop 1 self.old }

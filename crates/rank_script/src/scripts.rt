@@ -1,7 +1,7 @@
 //! Scripts and their lines, how a run of a script ends, and why a world text is refused. In contracts a line is plain where its call
 //! is no `end`, and looking where its timeout has one look at least: all lines in `Scripts` are both.
 
-ghost use Rattle.std.specs.Prelude.{◌≡◌, ◌<◌, ◌++◌, ◌∷◌, [], length, ◌==◌, find, option_copied, slice_get, Some, OnOk, OnErr};
+ghost use Rattle.std.specs.Prelude.{◌≡◌, ◌<◌, ◌≤◌, ◌++◌, ◌∷◌, [], length, ◌==◌, find, option_copied, slice_get, Some, OnOk, OnErr};
 ghost use Rattle.rank_script.specs.declared.scripts.ScriptFault.TheVariants.{NoMemory};
 
 use crate::expected::ExpectedReply;
@@ -68,6 +68,13 @@ impl ScriptLines {
             ring: Some(ring),
             others: Sequence::new(alloc),
         }
+    }
+
+    /// How many lines are in memory: all of a script that was read.
+    pub fn count_in_memory(&self) -> usize
+        ensures { result ≤ length self.now }
+    {
+        self.others.len()
     }
 
     /// Appends a line. Where memory runs out, nothing changes.
@@ -172,6 +179,15 @@ impl Scripts {
         ensures looks { AreLooking self.now }
     {
         self.scripts.len()
+    }
+
+    /// How many lines the scripts have in memory, for a guess at the room of what their run makes; no proof rests on it.
+    pub fn line_count(&self) -> usize {
+        let mut count: usize = 0;
+        for script in self.scripts.as_slice() {
+            count = count.saturating_add(script.lines.count_in_memory());
+        }
+        count
     }
 
     /// Whether there is no script.

@@ -20,7 +20,7 @@ loop-own-preserved c =
     subst (λ (p : RunPosition). HasTold c.args.script.now.caller (at_first_line c.args.script.now.lines) p c.args.calls.now c.args.text.now c.write_call.new.text (c.loop-own.own-index + 1)) (sym c.advance.ensures)
     (answered-more c.args.script.now.caller (at_first_line c.args.script.now.lines) c.loop-own.cursor c.args.calls.now c.args.text.now c.loop-own.text c.write_call.new.text c.loop-own.own-index c.own-item.result
     (read-at c.args.calls.now c.loop-own.own-index c.own-item.result c.loop-own-test.true c.own-item.is) (sym c.is_over.ensures ∙ c.if-is_over.false) c.loop-own.invariant
-    (rw (sym c.line.ensures) c.in_ok-write_call.ensures))
+    (rw (sym c.line.ensures) (c.in_ok-write_call.ensures c.args.script.now.caller (c.as_slice.ensures ∙ c.in_ok-start.ensures))))
 
 pub returns : goal.returns
 returns c =

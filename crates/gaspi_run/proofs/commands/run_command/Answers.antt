@@ -1,5 +1,4 @@
-use Rattle.std.proofs.Common.{Err, sym, ap, ◌∙◌}
-use Rattle.gaspi_run.specs.Command.{world_read}
+use Rattle.std.proofs.Common.{Err, ap}
 use Rattle.gaspi_run.proofs.Answering.{plain-reads, answers-reading, answered-result, answered-stop}
 use Rattle.gaspi_run.proofs.commands.run_command.Goals as goal
 
@@ -7,7 +6,7 @@ pub returns-in-Ok : goal.returns-in-Ok
 returns-in-Ok g c =
     answers-reading c.args.command _ _ _ _ _ _ _ _ c.answer_result.result (plain-reads c.args.command c.requires.plain)
     (answered-result c.args.command _ _ _ _ _ _ _ _ c.answer_result.result (plain-reads c.args.command c.requires.plain) c.read_all.ensures.taken c.in-Ok.input c.command_result.result c.in-Ok.ensures.within c.in-Ok.ensures.all c.in-Ok.ensures.end c.in-Ok.ensures.still
-    (rw (sym c.as_slice.ensures) c.command_result.ensures.told) c.command_result.ensures.held (λ number line is. ap (world_read c.args.command) (sym c.as_slice.ensures) ∙ c.command_result.ensures.fault number line is) c.answer_result.ensures)
+    c.command_result.ensures.told c.command_result.ensures.held c.command_result.ensures.fault c.answer_result.ensures)
 
 pub returns-in-Err : goal.returns-in-Err
 returns-in-Err g c =

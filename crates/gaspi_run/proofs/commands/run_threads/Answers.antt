@@ -1,13 +1,12 @@
-use Rattle.std.proofs.Common.{Err, refl, sym, ap, ◌∙◌}
+use Rattle.std.proofs.Common.{Err, refl, ap}
 use Rattle.command_line.specs.declared.words.Command.TheVariants as commands
-use Rattle.gaspi_run.specs.Command.{world_read}
 use Rattle.gaspi_run.proofs.Answering.{answered-result, answered-stop}
 use Rattle.gaspi_run.proofs.commands.run_threads.Goals as goal
 
 pub returns-in-Ok : goal.returns-in-Ok
 returns-in-Ok g c =
     answered-result (commands.Run c.args.workers c.args.limit c.args.brief) _ _ _ _ _ _ _ _ c.answer_result.result refl c.read_all.ensures.taken c.in-Ok.input c.run_result-told.result c.in-Ok.ensures.within c.in-Ok.ensures.all c.in-Ok.ensures.end c.in-Ok.ensures.still
-    (rw (sym c.as_slice.ensures) c.run_result-told.ensures.told) c.run_result-told.ensures.held (λ number line is. ap (world_read (commands.Run c.args.workers c.args.limit c.args.brief)) (sym c.as_slice.ensures) ∙ c.run_result-told.ensures.fault number line is) c.answer_result.ensures
+    c.run_result-told.ensures.told c.run_result-told.ensures.held c.run_result-told.ensures.fault c.answer_result.ensures
 
 pub returns-in-Err : goal.returns-in-Err
 returns-in-Err g c =

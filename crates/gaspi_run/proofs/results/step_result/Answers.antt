@@ -8,12 +8,12 @@ returns-clause-told c = rw c.in_ok-told.ensures (record {
   world = c.in_ok-shape.shape;
   scripts = c.in_ok-shape.scripts;
   finished = c.in_ok-ran.ran.outcomes;
-  read = c.in_ok-shape.ensures.exact;
+  read = rw c.as_slice.ensures at c.in_ok-shape.ensures.exact;
   scheduled = c.in_ok-ran.ensures.scheduled;
   legal = c.in_ok-ran.ensures.legal;
   settled = c.in_ok-ran.ensures.settled;
   ended = c.in_ok-ran.ensures.runs;
   ranges = c.in_ok-ran.ensures.ranges;
-  status_is = c.run_status-status.ensures ∙ ap run_status c.as_slice.ensures;
+  status_is = c.run_status-status.ensures ∙ ap run_status c.as_slice-2.ensures;
   text_is = refl;
 })

@@ -12,7 +12,7 @@ record_evaluation-requires-clause-room c =
 
 pub returns-clause-step : goal.returns-clause-step
 returns-clause-step c =
-    rw (c.in_ok-reply.ensures.posts, c.in_ok-reply.ensures.memory)
+    rw (c.in_ok-record_evaluation.ensures.posts, c.in_ok-record_evaluation.ensures.memory)
     (look_steps c.args.evaluation.now c.args.limits.now c.args.invocation.now.caller.rank c.args.posts.now c.args.memory.now c.args.invocation.now.caller.thread c.args.invocation.now.call.now c.requires.evaluation c.requires.there (le-leb _ _ c.requires.room))
 
 pub released-freed-requires : goal.released-freed-requires
@@ -22,12 +22,12 @@ released-freed-requires c =
     let limited = c.requires.limits in
     grind (arith, nat_tests, part, room, limited)
 
-pub overflow_sub-used : goal.overflow_sub-used
-overflow_sub-used c =
+pub overflow_sub-result : goal.overflow_sub-result
+overflow_sub-result c =
     let used = look_used c.args.evaluation.now c.args.limits.now c.args.invocation.now.caller.rank c.args.posts.now c.args.memory.now c.args.invocation.now.caller.thread c.args.invocation.now.call.now c.requires.sound c.requires.evaluation in
     rw c.requires.used (released-within _ _ _ _ used c.released-freed.ensures)
 
 pub returns-clause-used : goal.returns-clause-used
 returns-clause-used c =
     let used = look_used c.args.evaluation.now c.args.limits.now c.args.invocation.now.caller.rank c.args.posts.now c.args.memory.now c.args.invocation.now.caller.thread c.args.invocation.now.call.now c.requires.sound c.requires.evaluation in
-    rw (c.in_ok-reply.ensures.posts, c.requires.used) (less-released _ _ _ _ used c.released-freed.ensures)
+    rw (c.in_ok-record_evaluation.ensures.posts, c.requires.used) (less-released _ _ _ _ used c.released-freed.ensures)

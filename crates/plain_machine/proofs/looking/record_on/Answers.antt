@@ -3,7 +3,6 @@ use Rattle.std.proofs.lemmas.Bool.Decides.{nat_tests}
 use Rattle.std.proofs.lemmas.List.{map-set}
 use Rattle.gaspi_types.proofs.Items.{there-within}
 use Rattle.gaspi_types.specs.declared.memory.NoMemory.{NoMemory}
-use Rattle.gaspi_types.specs.declared.replies.Reply.{Reply}
 use Rattle.gaspi_model.specs.Calls.{recorded_reply}
 use Rattle.gaspi_model.specs.Step.{called}
 use Rattle.gaspi_model.specs.Transfers.{PostsAndMemory}
@@ -16,8 +15,8 @@ use Rattle.plain_machine.proofs.Lists.{mapped, map_kept}
 use Rattle.plain_machine.proofs.looking.record_on.Goals as goal
 
 -- a record that failed is told so
-failed : (result : Result Reply NoMemory) → IsErr result → recorded_of result ≡ Err faults.NoMemory
-failed (Ok reply) is = absurd (let no : ⊥ = cc in no)
+failed : (result : Result (Unit {0}) NoMemory) → IsErr result → recorded_of result ≡ Err faults.NoMemory
+failed (Ok done) is = absurd (let no : ⊥ = cc in no)
 failed (Err none) is = refl
 
 pub overflow_add-used : goal.overflow_add-used
@@ -48,25 +47,25 @@ record-requires-clause-room c =
     let there = rw c.index-rank.ensures.value at c.at_mut.ensures.value in
     c.requires.room _ there
 
-pub returns-in_err-recorded-clause-step : goal.returns-in_err-recorded-clause-step
-returns-in_err-recorded-clause-step c =
+pub returns-in_err-used-clause-step : goal.returns-in_err-used-clause-step
+returns-in_err-used-clause-step c =
     let there = rw c.index-rank.ensures.value at c.at_mut.ensures.value in
     rw (c.index-rank.ensures.value, failed c.from_residual.result c.from_residual.ensures.0)
     (lent_steps (Err faults.NoMemory) c.args.ranks.now.posts c.args.invocation.now.caller.rank _ _ _ _ whys.Caller
-    (λ p m. called c.args.ranks.now.limits c.args.invocation.now.caller.rank p c.args.look.now.message m c.args.invocation.now.caller.thread c.args.invocation.now.call.now (recorded_reply c.args.look.now.ready)) there c.in_err-recorded.ensures.step)
+    (λ p m. called c.args.ranks.now.limits c.args.invocation.now.caller.rank p c.args.look.now.message m c.args.invocation.now.caller.thread c.args.invocation.now.call.now (recorded_reply c.args.look.now.ready)) there c.in_err-used.ensures.step)
 
-pub returns-in_err-recorded-clause-used : goal.returns-in_err-recorded-clause-used
-returns-in_err-recorded-clause-used c =
+pub returns-in_err-used-clause-used : goal.returns-in_err-used-clause-used
+returns-in_err-used-clause-used c =
     c.requires.used
-    ∙ sym (map_kept used_room_of c.args.ranks.now.posts c.index-rank.result _ c.record.new.posts c.at_mut.ensures.value (ap (λ (w : PostsAndMemory). used_room_of w.posts) c.in_err-recorded.ensures.step))
+    ∙ sym (map_kept used_room_of c.args.ranks.now.posts c.index-rank.result _ c.record.new.posts c.at_mut.ensures.value (ap (λ (w : PostsAndMemory). used_room_of w.posts) c.in_err-used.ensures.step))
 
 pub returns-clause-step : goal.returns-clause-step
 returns-clause-step c =
     let there = rw c.index-rank.ensures.value at c.at_mut.ensures.value in
     rw c.index-rank.ensures.value
     (lent_steps (Ok tt) c.args.ranks.now.posts c.args.invocation.now.caller.rank _ _ _ _ whys.Caller
-    (λ p m. called c.args.ranks.now.limits c.args.invocation.now.caller.rank p c.args.look.now.message m c.args.invocation.now.caller.thread c.args.invocation.now.call.now (recorded_reply c.args.look.now.ready)) there c.in_ok-recorded.ensures.step)
+    (λ p m. called c.args.ranks.now.limits c.args.invocation.now.caller.rank p c.args.look.now.message m c.args.invocation.now.caller.thread c.args.invocation.now.call.now (recorded_reply c.args.look.now.ready)) there c.in_ok-used.ensures.step)
 
 pub returns-clause-used : goal.returns-clause-used
 returns-clause-used c =
-    rw (c.requires.used, c.in_ok-recorded.ensures.used) (sym (map-set used_room_of c.args.ranks.now.posts c.index-rank.result c.record.new.posts))
+    rw (c.requires.used, c.in_ok-used.ensures.used) (sym (map-set used_room_of c.args.ranks.now.posts c.index-rank.result c.record.new.posts))

@@ -48,20 +48,20 @@ returns-in-GroupAndMemory-clause-step c =
     (called_ranks c.args.ranks.now c.record_on-in-GroupAndMemory.new.ranks c.args.memories.now c.args.invocation.now.caller c.args.invocation.now.call.now c.args.look.now (GroupAndMemory c.in-GroupAndMemory.field-0) (recorded_of c.record_on-in-GroupAndMemory.result) _ c.record_on-in-GroupAndMemory.new.memory
     c.requires.plain c.requires.found.declared (sym c.call_footprint.ensures ∙ c.in-GroupAndMemory.is) (rw there refl) (set-there c.args.memories.now c.args.invocation.now.caller.rank _ there) (λ change all. refl) c.record_on-in-GroupAndMemory.ensures.limits c.record_on-in-GroupAndMemory.ensures.groups c.requires.found.finds c.record_on-in-GroupAndMemory.ensures.step)
 
-pub returns-in_ok-reply-in-PeerPosts-clause-step : goal.returns-in_ok-reply-in-PeerPosts-clause-step
-returns-in_ok-reply-in-PeerPosts-clause-step c =
+pub returns-in_ok-record_on-in-PeerPosts-clause-step : goal.returns-in_ok-record_on-in-PeerPosts-clause-step
+returns-in_ok-record_on-in-PeerPosts-clause-step c =
     let s = state_in c.args.ranks.now c.args.memories.now in
     let caller = c.args.invocation.now.caller in
     let call = c.args.invocation.now.call.now in
     let own = rw c.index-in-PeerPosts.ensures.value at c.at-own.ensures in
     let peer = rw c.index-in-PeerPosts-2.ensures.value at c.at_mut.ensures.value in
     rw c.index-in-PeerPosts-2.ensures.value
-    (limits_as c.args.ranks.now c.record_on-in-PeerPosts.new.ranks _ c.args.memories.now (Ok tt) s _ c.in_ok-reply-in-PeerPosts.ensures.limits c.in_ok-reply-in-PeerPosts.ensures.groups
+    (limits_as c.args.ranks.now c.record_on-in-PeerPosts.new.ranks _ c.args.memories.now (Ok tt) s _ c.in_ok-record_on-in-PeerPosts.ensures.limits c.in_ok-record_on-in-PeerPosts.ensures.groups
     (called_telling s caller call (recorded_reply c.args.look.now.ready) c.in-PeerPosts.peer _ _ _ _ _ c.record_on-in-PeerPosts.new.ranks.posts
     c.requires.plain own (sym c.call_footprint.ensures ∙ c.in-PeerPosts.is) c.empty_memory-none-in-PeerPosts.ensures peer (c.register_at_peer.ensures ∙ c.registration-registration.ensures _)
-    (sym (lent_same c.args.look.now c.args.ranks.now.limits c.args.ranks.now.posts (call_message s caller.rank call) c.empty_memory-none-in-PeerPosts.result caller call c.requires.found.finds.message) ∙ c.in_ok-reply-in-PeerPosts.ensures.step)))
+    (sym (lent_same c.args.look.now c.args.ranks.now.limits c.args.ranks.now.posts (call_message s caller.rank call) c.empty_memory-none-in-PeerPosts.result caller call c.requires.found.finds.message) ∙ c.in_ok-record_on-in-PeerPosts.ensures.step)))
 
-pub returns-in_ok-reply-in-PeerPosts-clause-used : goal.returns-in_ok-reply-in-PeerPosts-clause-used
-returns-in_ok-reply-in-PeerPosts-clause-used c =
-    c.in_ok-reply-in-PeerPosts.ensures.used
+pub returns-in_ok-record_on-in-PeerPosts-clause-used : goal.returns-in_ok-record_on-in-PeerPosts-clause-used
+returns-in_ok-record_on-in-PeerPosts-clause-used c =
+    c.in_ok-record_on-in-PeerPosts.ensures.used
     ∙ sym (map_kept used_room_of c.record_on-in-PeerPosts.new.ranks.posts c.index-in-PeerPosts-2.result _ c.register_at_peer.new.peer c.at_mut.ensures.value (ap used_room_of c.register_at_peer.ensures ∙ registered_used c.registration-registration.result _))

@@ -23,10 +23,10 @@ returns-clause-named c =
     c.insert_lane.ensures
     ∙ (rw (c.reserve.ensures.items, c.requires.machine.named)
     (posting_first (state_in c.args.ranks.now c.args.memories.now) (state_in c.record_plain-2.new.ranks c.record_plain-2.new.memories) (Called c.args.invocation.now.caller c.args.invocation.now.call.now (recorded_reply c.args.look.now.ready)) c.in-Some.id
-    c.requires.machine.sound (sym c.look_lane.ensures ∙ c.in-Some.is) refl (c.has_entry.ensures.none c.if-has_entry.false) c.in_ok-reply.ensures.step))
+    c.requires.machine.sound (sym c.look_lane.ensures ∙ c.in-Some.is) refl (c.has_entry.ensures.none c.if-has_entry.false) c.in_ok-record_plain.ensures.step))
 
 pub insert_lane-requires-clause-parted : goal.insert_lane-requires-clause-parted
 insert_lane-requires-clause-parted c =
     rw (c.reserve.ensures.items, c.requires.machine.named)
     (posting_parted (state_in c.args.ranks.now c.args.memories.now) (state_in c.record_plain-2.new.ranks c.record_plain-2.new.memories) (Called c.args.invocation.now.caller c.args.invocation.now.call.now (recorded_reply c.args.look.now.ready)) c.in-Some.id
-    c.requires.machine.sound (sym c.look_lane.ensures ∙ c.in-Some.is) refl (c.has_entry.ensures.none c.if-has_entry.false) c.in_ok-reply.ensures.step)
+    c.requires.machine.sound (sym c.look_lane.ensures ∙ c.in-Some.is) refl (c.has_entry.ensures.none c.if-has_entry.false) c.in_ok-record_plain.ensures.step)

@@ -11,7 +11,6 @@ use Rattle.plain_machine.specs.Machine.{state_in}
 use Rattle.plain_machine.proofs.EventRooms.{full_step}
 use Rattle.plain_machine.proofs.Recorded.{declared_there, unanswered, recorded_by}
 use Rattle.plain_machine.proofs.looking.step_looked.Goals as goal
-use Rattle.plain_machine.proofs.looking.step_looked.Goals.{in-Ok, in-Err}
 
 pub returns-then-not-may_be_recorded_with-clause-step : goal.returns-then-not-may_be_recorded_with-clause-step
 returns-then-not-may_be_recorded_with-clause-step c = (
@@ -43,14 +42,13 @@ record_with_lanes-requires-clause-found c = record {
       (leb-true _ _ (sym (c.has_room.ensures posts at) ∙ c.if-not-has_room.false));
 }
 
-pub returns-clause-step : goal.returns-clause-step
-returns-clause-step c =
-    let s = state_in c.args.ranks.now c.args.memories.now in
-    let same : c.args.reply.now ≡ recorded_reply c.args.look.now.ready = (recorded_by c.args.look.now.ready c.args.reply.now (sym c.may_be_recorded_with.ensures ∙ c.if-not-may_be_recorded_with.false)).1 in
-    let stepped : recorded_of c.record_with_lanes.result ≡ c.match-record_with_lanes.result =
-    elim c.match-record_with_lanes.branch [ in-Ok w ↦ rw (w.in-Ok.is, w.result-is) refl | in-Err w ↦ rw (w.in-Err.is, w.result-is) refl ] in
-    subst (λ (m : Result (Unit {0}) StepFault). Steps m s (state_in c.record_with_lanes.new.ranks c.record_with_lanes.new.memories) (step s (Called c.args.invocation.now.caller c.args.invocation.now.call.now c.args.reply.now))) stepped
-    (subst (λ (r : Reply). Steps (recorded_of c.record_with_lanes.result) s (state_in c.record_with_lanes.new.ranks c.record_with_lanes.new.memories) (step s (Called c.args.invocation.now.caller c.args.invocation.now.call.now r))) (sym same) c.record_with_lanes.ensures.step)
+pub returns-in-Ok-clause-step : goal.returns-in-Ok-clause-step
+returns-in-Ok-clause-step c =
+    let same = (recorded_by c.args.look.now.ready c.args.reply.now (sym c.may_be_recorded_with.ensures ∙ c.if-not-may_be_recorded_with.false)).1 in
+    rw same (rw c.in-Ok.is at c.record_with_lanes.ensures.step)
+
+pub returns-in-Err-clause-step : goal.returns-in-Err-clause-step
+returns-in-Err-clause-step c = rw c.in-Err.is at c.record_with_lanes.ensures.step
 
 pub returns-then-not-has_room-clause-step : goal.returns-then-not-has_room-clause-step
 returns-then-not-has_room-clause-step c =

@@ -1,5 +1,5 @@
 use Rattle.plain_schedule.proofs.Declared.{active-declared}
 use Rattle.plain_schedule.proofs.moves.go_on_with.Goals as goal
 
-pub look-found-requires : goal.look-found-requires
-look-found-requires c = active-declared c.args.schedule.now.state _ _ c.requires.active
+pub look-requires : goal.look-requires
+look-requires c = active-declared c.args.schedule.now.state _ _ c.requires.active
