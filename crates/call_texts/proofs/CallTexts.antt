@@ -35,7 +35,7 @@ no-end Wait [] = refl
 no-end word [] = refl
 no-end word (argument ∷ arguments) = refl
 
-spelled-call : (word : CallWord) (fields : Fields (form_of word)) → spelled (call_with word fields) ≡ Some (record { word = word; fields = fields })
+pub spelled-call : (word : CallWord) (fields : Fields (form_of word)) → spelled (call_with word fields) ≡ Some (record { word = word; fields = fields })
 spelled-call Wait fields = refl
 spelled-call word fields = refl
 

@@ -96,11 +96,11 @@ item-range words taken is =
       number-range roffset.1 size fifth,
     ))))))
 
-record AreItems (count : ℕ) (items : List Item) : Type 0 where
-  counted : length items ≡ count
-  range : AllByRecursion IsItemInRange items
+pub record AreItems (count : ℕ) (items : List Item) : Type 0 where
+  pub counted : length items ≡ count
+  pub range : AllByRecursion IsItemInRange items
 
-items-range : (count : ℕ) (words : List (List ℕ)) (taken : List Item × List (List ℕ)) → items_spelled count words ≡ Some taken → AreItems count taken.0
+pub items-range : (count : ℕ) (words : List (List ℕ)) (taken : List Item × List (List ℕ)) → items_spelled count words ≡ Some taken → AreItems count taken.0
 items-range zero words taken is =
     subst (λ (t : List Item × List (List ℕ)). AreItems zero t.0) (same_Some ([], words) taken is) (record { counted = refl; range = tt })
 items-range (suc count) words taken is =

@@ -16,3 +16,4 @@ pub mod ReadElements
 pub mod WordLengths
 pub mod WordRanges
 pub mod WordTexts
+pub mod WrittenWords

@@ -4,7 +4,7 @@ use Rattle.std.specs.List.{join_with_byte}
 use Rattle.std.specs.Str.{bytes_eq}
 use Rattle.std.specs.Option.{option_map_or}
 use Rattle.call_texts.specs.Words.{words_of}
-use Rattle.call_texts.specs.Fields.{Fields, AreInRange, words_of_fields, fields_spelled, form_words, has_list}
+use Rattle.call_texts.specs.Fields.{Fields, AreInRange, words_of_fields, fields_spelled, form_words, has_list, are_numeric}
 use Rattle.call_texts.specs.Steps.{◌>>=◌}
 use Rattle.gaspi_types.specs.declared.calls.Call.{Call}
 use Rattle.gaspi_types.specs.declared.calls.Call.TheVariants as calls
@@ -303,3 +303,11 @@ IsSpelledInRange (Some s) = AreInRange (form_of s.word) s.fields
 -- the numbers of a call are those of its types
 abbrev pub IsWritable : Call → Type 0
 IsWritable call = IsSpelledInRange (spelled call)
+
+abbrev pub is_spelled_numeric : Option Spelled → Bool
+is_spelled_numeric None = true
+is_spelled_numeric (Some s) = are_numeric (form_of s.word)
+
+-- whether each word of a call, behind its own, is a number in decimal
+abbrev pub is_call_numeric : Call → Bool
+is_call_numeric call = is_spelled_numeric (spelled call)

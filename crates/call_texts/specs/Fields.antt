@@ -1,6 +1,6 @@
 -- Forms: the kinds of the fields that follow a word, in their order. How a form is read, what is written of it, and
 -- which values are in the ranges of their types, all by the kinds of its fields. (own choice)
-use Rattle.std.specs.Prelude.{ℕ, zero, suc, ◌+◌, ◌*◌, ◌^◌, ◌<◌, nat_le, Bool, true, false, ◌||◌, List, [], ◌∷◌, ◌++◌, length, map, take, drop, flat_map, Option, Some, None, if◌then◌else◌}
+use Rattle.std.specs.Prelude.{ℕ, zero, suc, ◌+◌, ◌*◌, ◌^◌, ◌<◌, nat_le, Bool, true, false, ◌&&◌, ◌||◌, List, [], ◌∷◌, ◌++◌, length, map, take, drop, flat_map, Option, Some, None, if◌then◌else◌}
 use Rattle.std.specs.Fmt.{decimal, signed_decimal}
 use Rattle.std.specs.List.{AllByRecursion}
 use Rattle.hex.specs.Hex.{IsBytes}
@@ -113,6 +113,13 @@ is_list Items = true
 is_list Elements = true
 is_list field = false
 
+-- whether each word of a field is a number in decimal
+abbrev pub is_numeric : Field → Bool
+is_numeric Number = true
+is_numeric Value = true
+is_numeric Items = true
+is_numeric field = false
+
 -- how many of the words in front belong to a field; none where the number of its items or elements is not of the form of a number
 abbrev pub field_words : Field → List (List ℕ) → Option ℕ
 field_words Items (word ∷ words) = do
@@ -153,6 +160,11 @@ fields_spelled (field ∷ form) words = do
 abbrev pub has_list : List Field → Bool
 has_list [] = false
 has_list (field ∷ form) = is_list field || has_list form
+
+-- whether all fields of a form are such
+abbrev pub are_numeric : List Field → Bool
+are_numeric [] = true
+are_numeric (field ∷ form) = is_numeric field && are_numeric form
 
 -- how many of the words in front belong to a form, one field after the other
 abbrev pub form_words : List Field → List (List ℕ) → Option ℕ

@@ -1,5 +1,5 @@
 -- Numbers as words of a text.
-use Rattle.std.specs.Prelude.{ℕ, Bool, List, length, Option, Some, None, if◌then◌else◌, ◌&&◌, nat_lt, nat_le}
+use Rattle.std.specs.Prelude.{ℕ, Bool, false, List, [], ◌∷◌, length, Option, Some, None, if◌then◌else◌, ◌&&◌, ◌==◌, nat_lt, nat_le}
 use Rattle.std.specs.Char.{is_ascii_digit}
 use Rattle.std.specs.List.{list_all}
 use Rattle.std.specs.Str.Parse.{digits_value}
@@ -20,3 +20,9 @@ number_of word = number_up_to 18446744073709551615 word
 -- a number of 32 bits, as a notification value is (GASPI: notifications)
 unfoldable pub value_of : List ℕ → Option ℕ
 value_of word = number_up_to 4294967295 word
+
+-- a zero in front of another digit, which no number in decimal has
+abbrev pub has_leading_zero : List ℕ → Bool
+has_leading_zero [] = false
+has_leading_zero (first ∷ []) = false
+has_leading_zero (first ∷ second ∷ rest) = (first == 48) && is_ascii_digit second

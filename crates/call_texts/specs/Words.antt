@@ -16,6 +16,10 @@ words_of text = filter (λ word. not (length word == 0)) (slice_split is_blank t
 abbrev pub words_in_piece : List ℕ → List (List ℕ)
 words_in_piece piece = if length piece == 0 then [] else piece ∷ []
 
+-- what is between one space and the next; a piece may be empty
+abbrev pub pieces_of : List ℕ → List (List ℕ)
+pieces_of text = slice_split (λ byte. byte == 32) text
+
 -- what may be a word of a text
 pub record IsWord (word : List ℕ) : Type 0 where
   pub filled : 0 < length word

@@ -1,13 +1,20 @@
 //! Texts of calls, in the one form that is written.
 
 ghost use Rattle.std.specs.Prelude.{◌≡◌, ◌++◌, take, length, OnOk, OnErr};
-ghost use Rattle.call_texts.specs.CallText.{call_text};
+ghost use Rattle.call_texts.specs.CallText.{call_text, is_call_numeric};
 ghost use Rattle.gaspi_types.specs.declared.calls.Call.TheVariants as calls;
 
 use crate::call_words::CallWord;
 use crate::elements::{append_typed, op_word};
 use crate::words_written::{append_bytes, append_line, append_list, append_word};
 use gaspi_types::{Allreduce, Bytes, Call, NoMemory};
+
+/// Whether each word of a call, behind its own, is a number in decimal: not those of bytes, an operation and elements.
+pub fn is_call_numeric(call: &Call) -> bool
+    ensures { result ≡ is_call_numeric call.now }
+{
+    !matches!(call, Call::Store(_) | Call::Allreduce(_))
+}
 
 /// Adds the text of an allreduce, for `append_call`. After `NoMemory` the text still begins with what it had.
 fn append_allreduce(text: &mut Bytes, call: &Allreduce) -> Result<(), NoMemory>

@@ -2,7 +2,7 @@
 
 ghost use Rattle.std.specs.Prelude.{◌≡◌, ◌++◌, OnOk, OnErr};
 ghost use Rattle.std.specs.Fmt.{decimal};
-ghost use Rattle.call_texts.specs.Numbers.{number_of, value_of};
+ghost use Rattle.call_texts.specs.Numbers.{number_of, value_of, has_leading_zero};
 
 use gaspi_types::{Bytes, NoMemory};
 use itoa::Buffer;
@@ -35,6 +35,16 @@ pub fn read_value(word: &[u8]) -> Option<u32>
 {
     let number = read_number(word)?;
     u32::try_from(number).ok()
+}
+
+/// Whether a word has a zero in front of another digit, as no number in decimal has.
+pub fn has_leading_zero(word: &[u8]) -> bool
+    ensures { result ≡ has_leading_zero word.now }
+{
+    match word {
+        [first, second, ..] => *first == b'0' && second.is_ascii_digit(),
+        _ => false,
+    }
 }
 
 /// Adds a number in decimal, without leading zeros. After `NoMemory` nothing has changed.

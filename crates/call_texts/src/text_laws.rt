@@ -1,11 +1,11 @@
 //! Laws of texts: what is written reads back, and what is read is counted and in range. A law is the contract of a function
 //! that does nothing.
 
-ghost use Rattle.std.specs.Prelude.{◌≡◌, ◌≢◌, ◌^◌, ◌<◌, ℕ, ℤ, List, length, map, Some, true};
+ghost use Rattle.std.specs.Prelude.{◌≡◌, ◌≢◌, ◌^◌, ◌<◌, ℕ, ℤ, List, length, map, Some, true, false};
 ghost use Rattle.std.specs.Fmt.{decimal, signed_decimal};
 ghost use Rattle.std.specs.List.{AllByRecursion, join_with_byte};
 ghost use Rattle.hex.specs.Hex.{IsBytes};
-ghost use Rattle.call_texts.specs.CallText.{call_by, call_of, recorded_call_of, call_of_text, call_with, form_of, arguments_of, has_timeout, words_of_call, call_text, IsWritable};
+ghost use Rattle.call_texts.specs.CallText.{call_by, call_of, recorded_call_of, call_of_text, call_with, form_of, arguments_of, has_timeout, words_of_call, call_text, is_call_numeric, IsWritable};
 ghost use Rattle.call_texts.specs.Elements.{type_word, op_word, type_of, op_of, elements_of};
 ghost use Rattle.call_texts.specs.Fields.{Fields};
 ghost use Rattle.call_texts.specs.declared.call_words.CallWord.{CallWord};
@@ -16,12 +16,19 @@ ghost use Rattle.gaspi_types.specs.declared.collectives.Op.{Op};
 ghost use Rattle.gaspi_types.specs.declared.calls.Call.{Call};
 ghost use Rattle.gaspi_types.specs.declared.calls.Call.TheVariants.{End};
 ghost use Rattle.call_texts.specs.Hex.{bytes_of, hex_text};
-ghost use Rattle.call_texts.specs.Numbers.{is_numeral, number_of, value_of};
-ghost use Rattle.call_texts.specs.Words.{words_of, IsWord, IsPlainWord};
+ghost use Rattle.call_texts.specs.Numbers.{is_numeral, number_of, value_of, has_leading_zero};
+ghost use Rattle.call_texts.specs.Words.{words_of, pieces_of, IsWord, IsPlainWord};
 
 /// A text of words with one space between each two has these words.
 pub fn words_read_back()
     ensures { (words : List (List ℕ)) → AllByRecursion IsWord words → words_of (join_with_byte 32 words) ≡ words }
+{}
+
+/// A text is its pieces, with one space between each two, and words with one space between each two are the pieces of their
+/// text.
+pub fn pieces_are_the_text()
+    ensures joined { (text : List ℕ) → join_with_byte 32 (pieces_of text) ≡ text }
+    ensures words { (words : List (List ℕ)) → 0 < length words → AllByRecursion IsWord words → pieces_of (join_with_byte 32 words) ≡ words }
 {}
 
 /// A number in decimal reads back as that number.
@@ -81,4 +88,14 @@ pub fn written_words_are_plain()
     ensures bytes { (bytes : List ℕ) → IsBytes bytes → IsPlainWord (hex_text bytes) }
     ensures elements { (t : NumType) (items : List ℤ) → AreInType t items → AllByRecursion IsPlainWord (map signed_decimal items) }
     ensures call { (call : Call) → IsWritable call → AllByRecursion IsPlainWord (words_of_call call) }
+{}
+
+/// A number has no leading zero; and words without one that spell a number, or a call of numbers alone, are those that are
+/// written of it.
+pub fn read_words_are_written()
+    ensures leads { (n : ℕ) → n < 2 ^ 64 → has_leading_zero (decimal n) ≡ false }
+    ensures number { (word : List ℕ) (n : ℕ) → number_of word ≡ Some n → has_leading_zero word ≡ false → decimal n ≡ word }
+    ensures value { (word : List ℕ) (n : ℕ) → value_of word ≡ Some n → has_leading_zero word ≡ false → decimal n ≡ word }
+    ensures call { (words : List (List ℕ)) (call : Call) → recorded_call_of words ≡ Some call → is_call_numeric call ≡ true
+        → AllByRecursion (λ word. has_leading_zero word ≡ false) words → words_of_call call ≡ words }
 {}

@@ -1,5 +1,5 @@
 -- An event's text, read back.
-use Rattle.std.proofs.Common.{◌≡◌, ℕ, ◌^◌, ◌<◌, Bool, true, false, ◌==◌, nat_lt, codes, List, [], ◌∷◌, Some, Decides, lit<, refl, sym, ap, subst, ◌∙◌, arith}
+use Rattle.std.proofs.Common.{◌≡◌, ℕ, ◌^◌, ◌<◌, Bool, true, false, ◌==◌, nat_lt, codes, List, [], ◌∷◌, length, Some, Decides, lit<, refl, sym, ap, subst, ◌∙◌, arith}
 use Rattle.std.specs.Char.{is_ascii_digit}
 use Rattle.std.specs.Fmt.{decimal}
 use Rattle.std.specs.List.{All, AllByRecursion, AllPass}
@@ -15,14 +15,14 @@ use Rattle.gaspi_types.specs.declared.events.Outcome.TheVariants.{Applied, Faile
 use Rattle.gaspi_types.specs.declared.shapes.CallerId.{CallerId}
 use Rattle.call_texts.specs.CallText.{words_of_call}
 use Rattle.gaspi_texts.specs.EventText.{arrow, caller_word, outcome_word, words_of_event, event_text, IsInEventRange}
-use Rattle.gaspi_texts.specs.EventReading.{number_below, outcome_of, caller_of, called_of, joined_of, moved_of, event_of}
+use Rattle.gaspi_texts.specs.EventReading.{exact_value, number_below, outcome_of, caller_of, called_of, joined_of, moved_of, event_of}
 use Rattle.gaspi_texts.specs.ReplyText.{words_of_reply}
-use Rattle.call_texts.specs.Words.{words_of, is_plain, IsPlainWord}
+use Rattle.call_texts.specs.Words.{pieces_of, is_plain, IsPlainWord}
 use Rattle.gaspi_texts.specs.CallLaws.{CallLaws}
 use Rattle.gaspi_texts.proofs.GraphicWords.{digits_pass, small_word, fixed_word, plain_words, both_graphic, caller_word-parts, caller_graphic}
 use Rattle.gaspi_texts.proofs.Places.{position_at, take_before, drop_behind}
 use Rattle.gaspi_texts.proofs.ReplyTexts.{args_of-words, args_graphic, reply_of-words, words_of_reply-graphic}
-use Rattle.gaspi_texts.proofs.WordTexts.{is_graphic, IsGraphic, words_of-graphic, join-no_line_feed}
+use Rattle.gaspi_texts.proofs.WordTexts.{is_graphic, IsGraphic, pieces_of-graphic, join-no_line_feed}
 
 -- The words of a call are no arrows.
 
@@ -67,7 +67,10 @@ module _ (laws : CallLaws) where
   number_below-decimal : (limit n : ℕ) → n < limit → n < 2 ^ 32 → number_below limit (decimal n) ≡ Some n
   number_below-decimal limit n low small =
       let within : nat_lt n limit ≡ true = grind (arith, nat_tests) in
-      rw (laws.value n small, within) refl
+      rw (laws.leads n (omega arith), laws.value n small, within) refl
+
+  exact_value-decimal : (n : ℕ) → n < 2 ^ 32 → exact_value (decimal n) ≡ Some n
+  exact_value-decimal n small = rw (laws.leads n (omega arith), laws.value n small) refl
 
   caller_of-word : (c : CallerId) → c.rank < 16 → c.thread < 4 → caller_of (caller_word c) ≡ Some c
   unfolding caller_of
@@ -82,9 +85,9 @@ module _ (laws : CallLaws) where
   event_of-words (Joined c group args) h =
       rw (caller_of-word c h.0 h.1, number_below-decimal 8 group h.2 (omega (arith, h.2)), args_of-words laws args h.3) refl
   event_of-words (Take origin queue target number outcome) h =
-      rw (number_below-decimal 16 origin h.0 (omega (arith, h.0)), number_below-decimal 8 queue h.1 (omega (arith, h.1)), number_below-decimal 16 target h.2 (omega (arith, h.2)), laws.value number h.3, outcome_of-word outcome) refl
+      rw (number_below-decimal 16 origin h.0 (omega (arith, h.0)), number_below-decimal 8 queue h.1 (omega (arith, h.1)), number_below-decimal 16 target h.2 (omega (arith, h.2)), exact_value-decimal number h.3, outcome_of-word outcome) refl
   event_of-words (Put origin queue target number outcome) h =
-      rw (number_below-decimal 16 origin h.0 (omega (arith, h.0)), number_below-decimal 8 queue h.1 (omega (arith, h.1)), number_below-decimal 16 target h.2 (omega (arith, h.2)), laws.value number h.3, outcome_of-word outcome) refl
+      rw (number_below-decimal 16 origin h.0 (omega (arith, h.0)), number_below-decimal 8 queue h.1 (omega (arith, h.1)), number_below-decimal 16 target h.2 (omega (arith, h.2)), exact_value-decimal number h.3, outcome_of-word outcome) refl
 
   words_of_event-graphic : (e : Event) → IsInEventRange e → AllByRecursion IsGraphic (words_of_event e)
   unfolding words_of_event is_graphic
@@ -97,15 +100,22 @@ module _ (laws : CallLaws) where
   words_of_event-graphic (Put origin queue target number outcome) h =
       (fixed_word (codes "put") (lit< tt) refl, (small_word laws origin (omega (arith, h.0)), (small_word laws queue (omega (arith, h.1)), (small_word laws target (omega (arith, h.2)), (small_word laws number h.3, (outcome_graphic outcome, tt))))))
 
-  pub event_of-event_text : (e : Event) → IsInEventRange e → event_of (words_of (event_text e)) ≡ Some e
-  event_of-event_text e h = ap event_of (words_of-graphic laws (words_of_event e) (words_of_event-graphic e h)) ∙ event_of-words e h
+  event-filled : (e : Event) → 0 < length (words_of_event e)
+  unfolding words_of_event
+  event-filled (Called c call reply) = omega arith
+  event-filled (Joined c group args) = omega arith
+  event-filled (Take origin queue target number outcome) = omega arith
+  event-filled (Put origin queue target number outcome) = omega arith
+
+  pub event_of-event_text : (e : Event) → IsInEventRange e → event_of (pieces_of (event_text e)) ≡ Some e
+  event_of-event_text e h = ap event_of (pieces_of-graphic laws (words_of_event e) (event-filled e) (words_of_event-graphic e h)) ∙ event_of-words e h
 
   pub event_text-no_line_feed : (e : Event) → IsInEventRange e → All (λ byte. (byte == 10) ≡ false) (event_text e)
   event_text-no_line_feed e h = join-no_line_feed (words_of_event e) (words_of_event-graphic e h)
 
 -- events that read back from their texts differ in them
-pub same_event : ((e : Event) → IsInEventRange e → event_of (words_of (event_text e)) ≡ Some e)
+pub same_event : ((e : Event) → IsInEventRange e → event_of (pieces_of (event_text e)) ≡ Some e)
     → (a b : Event) → IsInEventRange a → IsInEventRange b → event_text a ≡ event_text b → a ≡ b
 same_event back a b small also e =
-    let read : Some a ≡ Some b = sym (back a small) ∙ ap (λ (text : List ℕ). event_of (words_of text)) e ∙ back b also in
+    let read : Some a ≡ Some b = sym (back a small) ∙ ap (λ (text : List ℕ). event_of (pieces_of text)) e ∙ back b also in
     cc

@@ -31,10 +31,10 @@ use Rattle.gaspi_texts.specs.declared.event_reading.Moved.{Moved}
 use Rattle.gaspi_texts.specs.declared.reply_words.ReplyWord.{ReplyWord}
 use Rattle.gaspi_texts.specs.declared.reply_words.ReplyWord.TheVariants as reply_words
 use Rattle.gaspi_texts.specs.CallLaws.{CallLaws}
-use Rattle.gaspi_texts.specs.EventReading.{number_below, outcome_of, caller_of, called_with, called_of, joined_of, moved_of, taken, put, event_of}
+use Rattle.gaspi_texts.specs.EventReading.{exact_value, number_below, outcome_of, caller_of, called_with, called_of, joined_of, moved_of, taken, put, event_of}
 use Rattle.gaspi_texts.specs.EventText.{arrow, IsInEventRange}
 use Rattle.call_texts.specs.Hex.{bytes_of}
-use Rattle.call_texts.specs.Numbers.{number_of, value_of}
+use Rattle.call_texts.specs.Numbers.{number_of, value_of, has_leading_zero}
 use Rattle.gaspi_texts.specs.CollectiveText.{stage_of, one_field, allreduce_of, create_of, barrier_of, coll_of, AreArgsInRange, values_of, args_with, args_of}
 use Rattle.gaspi_texts.specs.RefusalText.{RefusalForm, Bare, OneNumber, TwoNumbers, OneStage, OneCollective, Held, numbers_of_held, held_of, RefusalRow, refusal_rows, row_in, refusal_of}
 use Rattle.gaspi_types.specs.NumberTypes.{AreInType}
@@ -267,9 +267,12 @@ module _ (laws : CallLaws) where
 
   -- Events.
 
+  exact_range : (word : List ℕ) → IfSome (exact_value word) (λ n. n < 2 ^ 32)
+  exact_range word = either (λ n. n < 2 ^ 32) (has_leading_zero word) None (value_of word) tt (value_range word)
+
   number_below-range : (limit : ℕ) (word : List ℕ) → IfSome (number_below limit word) (λ n. n < limit)
   number_below-range limit word =
-      bound (λ n. Unit {0}) (λ n. n < limit) (value_of word) (λ n. if nat_lt n limit then Some n else None) (anything (value_of word))
+      bound (λ n. Unit {0}) (λ n. n < limit) (exact_value word) (λ n. if nat_lt n limit then Some n else None) (anything (exact_value word))
       (λ n h. guarded (λ k. k < limit) (nat_lt n limit) n (λ e. grind (arith, nat_tests)))
 
   pair_range : (first second : Option ℕ) → IfSome first (λ n. n < 16) → IfSome second (λ n. n < 4)
@@ -335,8 +338,8 @@ module _ (laws : CallLaws) where
   moved_of-range : (words : List (List ℕ)) → IfSome (moved_of words) (λ m. (m.origin < 16) × (m.queue < 8) × (m.target < 16) × (m.number < 2 ^ 32))
   unfolding moved_of
   moved_of-range (first ∷ second ∷ third ∷ fourth ∷ fifth ∷ []) =
-      moved_range (number_below 16 first) (number_below 8 second) (number_below 16 third) (value_of fourth) (outcome_of fifth)
-      (number_below-range 16 first) (number_below-range 8 second) (number_below-range 16 third) (value_range fourth)
+      moved_range (number_below 16 first) (number_below 8 second) (number_below 16 third) (exact_value fourth) (outcome_of fifth)
+      (number_below-range 16 first) (number_below-range 8 second) (number_below-range 16 third) (exact_range fourth)
   moved_of-range other = tt
 
   event_of-range : (words : List (List ℕ)) → IfSome (event_of words) IsInEventRange

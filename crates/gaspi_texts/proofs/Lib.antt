@@ -12,4 +12,5 @@ pub mod ReadJournals
 pub mod ReadLines
 pub mod ReplyTexts
 pub mod WordTexts
+pub mod WrittenEvents
 pub mod WrittenLines

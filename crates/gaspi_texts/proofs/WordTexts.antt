@@ -3,7 +3,7 @@ use Rattle.std.proofs.Common.{◌≡◌, ℕ, ◌<◌, Bool, true, false, ◌==�
 use Rattle.std.specs.List.{join_with_byte, All, AllByRecursion, AllPass}
 use Rattle.std.proofs.lemmas.Bool.Decides.{nat_tests}
 use Rattle.std.proofs.lemmas.List.Elements.{All-nil, All-cons, All-append, All-weaker}
-use Rattle.call_texts.specs.Words.{is_blank, words_of, IsWord}
+use Rattle.call_texts.specs.Words.{is_blank, words_of, pieces_of, IsWord}
 use Rattle.gaspi_texts.specs.CallLaws.{CallLaws}
 
 -- the words of all texts that are written are of bytes behind the space
@@ -29,6 +29,9 @@ are_words (word ∷ words) h =
 
 pub words_of-graphic : CallLaws → (words : List (List ℕ)) → AllByRecursion IsGraphic words → words_of (join_with_byte 32 words) ≡ words
 words_of-graphic laws words h = laws.words words (are_words words h)
+
+pub pieces_of-graphic : CallLaws → (words : List (List ℕ)) → 0 < length words → AllByRecursion IsGraphic words → pieces_of (join_with_byte 32 words) ≡ words
+pieces_of-graphic laws words filled h = laws.pieces words filled (are_words words h)
 
 no_line_feed : (word : List ℕ) → IsGraphic word → All (λ byte. (byte == 10) ≡ false) word
 no_line_feed word h = All-weaker (λ byte. is_graphic byte ≡ true) (λ byte. (byte == 10) ≡ false) line_feed-graphic word h.graphic

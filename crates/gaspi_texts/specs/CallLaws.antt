@@ -1,5 +1,5 @@
 -- The laws of the texts of calls, as the laws of replies and events take them. No public contract speaks of it.
-use Rattle.std.specs.Prelude.{◌≡◌, ◌^◌, ◌<◌, ℕ, ℤ, List, length, map, Some, true}
+use Rattle.std.specs.Prelude.{◌≡◌, ◌^◌, ◌<◌, ℕ, ℤ, List, length, map, Some, true, false}
 use Rattle.std.specs.Fmt.{decimal, signed_decimal}
 use Rattle.std.specs.List.{AllByRecursion, join_with_byte}
 use Rattle.hex.specs.Hex.{IsBytes}
@@ -7,13 +7,15 @@ use Rattle.gaspi_types.specs.NumberTypes.{AreInType}
 use Rattle.gaspi_types.specs.declared.calls.Call.{Call}
 use Rattle.gaspi_types.specs.declared.collectives.NumType.{NumType}
 use Rattle.gaspi_types.specs.declared.collectives.Op.{Op}
-use Rattle.call_texts.specs.CallText.{recorded_call_of, words_of_call, IsWritable}
+use Rattle.call_texts.specs.CallText.{recorded_call_of, words_of_call, is_call_numeric, IsWritable}
 use Rattle.call_texts.specs.Elements.{type_word, op_word, type_of, op_of, elements_of}
 use Rattle.call_texts.specs.Hex.{bytes_of, hex_text}
-use Rattle.call_texts.specs.Numbers.{is_numeral, number_of, value_of}
-use Rattle.call_texts.specs.Words.{words_of, IsWord, IsPlainWord}
+use Rattle.call_texts.specs.Numbers.{is_numeral, number_of, value_of, has_leading_zero}
+use Rattle.call_texts.specs.Words.{words_of, pieces_of, IsWord, IsPlainWord}
 
 pub record CallLaws : Type 0 where
+  pub joined : (text : List ℕ) → join_with_byte 32 (pieces_of text) ≡ text
+  pub pieces : (words : List (List ℕ)) → 0 < length words → AllByRecursion IsWord words → pieces_of (join_with_byte 32 words) ≡ words
   pub words : (words : List (List ℕ)) → AllByRecursion IsWord words → words_of (join_with_byte 32 words) ≡ words
   pub number : (n : ℕ) → n < 2 ^ 64 → number_of (decimal n) ≡ Some n
   pub value : (n : ℕ) → n < 2 ^ 32 → value_of (decimal n) ≡ Some n
@@ -32,3 +34,8 @@ pub record CallLaws : Type 0 where
   pub bytes_plain : (bytes : List ℕ) → IsBytes bytes → IsPlainWord (hex_text bytes)
   pub elements_plain : (t : NumType) (items : List ℤ) → AreInType t items → AllByRecursion IsPlainWord (map signed_decimal items)
   pub call_plain : (call : Call) → IsWritable call → AllByRecursion IsPlainWord (words_of_call call)
+  pub leads : (n : ℕ) → n < 2 ^ 64 → has_leading_zero (decimal n) ≡ false
+  pub number_written : (word : List ℕ) (n : ℕ) → number_of word ≡ Some n → has_leading_zero word ≡ false → decimal n ≡ word
+  pub value_written : (word : List ℕ) (n : ℕ) → value_of word ≡ Some n → has_leading_zero word ≡ false → decimal n ≡ word
+  pub call_written : (words : List (List ℕ)) (call : Call) → recorded_call_of words ≡ Some call → is_call_numeric call ≡ true
+      → AllByRecursion (λ word. has_leading_zero word ≡ false) words → words_of_call call ≡ words

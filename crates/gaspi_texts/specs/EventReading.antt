@@ -1,6 +1,7 @@
 -- The event that words spell, as the reader finds it before it compares the text with the event's own. No public
 -- contract speaks of it. (own choice)
-use Rattle.std.specs.Prelude.{ℕ, ◌+◌, ◌==◌, nat_lt, List, [], ◌∷◌, take, drop, position, Option, Some, None, find, if◌then◌else◌, codes}
+use Rattle.std.specs.Prelude.{ℕ, ◌+◌, ◌==◌, ◌&&◌, nat_lt, Bool, true, false, not, List, [], ◌∷◌, take, drop, position, Option, Some, None, find, if◌then◌else◌, codes}
+use Rattle.std.specs.List.{list_all}
 use Rattle.std.specs.Option.{option_map}
 use Rattle.std.specs.Str.{bytes_eq}
 use Rattle.gaspi_types.specs.declared.shapes.CallerId.{CallerId}
@@ -8,18 +9,22 @@ use Rattle.gaspi_types.specs.declared.events.Outcome.{Outcome}
 use Rattle.gaspi_types.specs.declared.events.Outcome.TheVariants.{Applied, Failed}
 use Rattle.gaspi_types.specs.declared.events.Event.{Event}
 use Rattle.gaspi_types.specs.declared.events.Event.TheVariants.{Called, Joined, Take, Put}
-use Rattle.call_texts.specs.CallText.{recorded_call_of}
+use Rattle.call_texts.specs.CallText.{recorded_call_of, is_call_numeric}
 use Rattle.call_texts.specs.Steps.{◌>>=◌}
 use Rattle.gaspi_texts.specs.CollectiveText.{args_of}
 use Rattle.gaspi_texts.specs.EventText.{arrow, outcome_word}
-use Rattle.call_texts.specs.Numbers.{value_of}
-use Rattle.gaspi_texts.specs.ReplyText.{reply_of}
+use Rattle.call_texts.specs.Numbers.{value_of, has_leading_zero}
+use Rattle.gaspi_texts.specs.ReplyText.{reply_of, is_reply_numeric}
 use Rattle.gaspi_texts.specs.declared.event_reading.Moved.{Moved}
 
--- a number below a limit
+-- a number of 32 bits as it is written, without a leading zero
+abbrev pub exact_value : List ℕ → Option ℕ
+exact_value word = if has_leading_zero word then None else value_of word
+
+-- such a number below a limit
 abbrev pub number_below : ℕ → List ℕ → Option ℕ
 number_below limit word = do
-  n ← value_of word
+  n ← exact_value word
   if nat_lt n limit then Some n else None
 
 -- the outcome with a word
@@ -64,7 +69,7 @@ moved_of (first ∷ second ∷ third ∷ fourth ∷ fifth ∷ []) = do
   origin ← number_below 16 first
   queue ← number_below 8 second
   target ← number_below 16 third
-  number ← value_of fourth
+  number ← exact_value fourth
   outcome ← outcome_of fifth
   Some (record { origin = origin; queue = queue; target = target; number = number; outcome = outcome })
 moved_of other = None
@@ -85,3 +90,14 @@ event_of (word ∷ arguments) =
     else (if bytes_eq (codes "joined") word then joined_of arguments
     else (if bytes_eq (codes "take") word then option_map taken (moved_of arguments)
     else (if bytes_eq (codes "put") word then option_map put (moved_of arguments) else None)))
+
+-- no word has a leading zero
+abbrev pub are_exact : List (List ℕ) → Bool
+are_exact words = list_all (λ word. not (has_leading_zero word)) words
+
+-- whether the words that spell an event are known to be those that are written of it
+abbrev pub is_written_so : Event → List (List ℕ) → Bool
+is_written_so (Called c call reply) words = is_call_numeric call && is_reply_numeric reply && are_exact words
+is_written_so (Joined c group args) words = false
+is_written_so (Take origin queue target number outcome) words = true
+is_written_so (Put origin queue target number outcome) words = true

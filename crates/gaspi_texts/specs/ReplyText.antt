@@ -131,3 +131,14 @@ reply_of [] = None
 reply_of (word ∷ arguments) = do
   kind ← reply_word_of word
   reply_with kind arguments
+
+-- whether a reply's words are its own and numbers in decimal alone
+abbrev pub is_reply_numeric : Reply → Bool
+is_reply_numeric replies.Done = true
+is_reply_numeric (replies.Value n) = true
+is_reply_numeric (replies.Id n) = true
+is_reply_numeric (replies.Bytes bytes) = false
+is_reply_numeric (replies.Mask mask) = true
+is_reply_numeric (replies.List numbers) = false
+is_reply_numeric replies.Timeout = true
+is_reply_numeric (replies.Refused refusal) = false

@@ -7,11 +7,11 @@ ghost use Rattle.std.specs.Prelude.{◌≡◌, ◌<◌, ◌==◌, map, length, p
 ghost use Rattle.std.specs.Option.{option_map};
 ghost use Rattle.std.specs.Str.{bytes_eq};
 ghost use Rattle.gaspi_texts.specs.EventText.{arrow, outcome_word};
-ghost use Rattle.gaspi_texts.specs.EventReading.{number_below, outcome_of, caller_of, called_with, called_of, joined_of, moved_of, taken, put, event_of};
+ghost use Rattle.gaspi_texts.specs.EventReading.{exact_value, number_below, outcome_of, caller_of, called_with, called_of, joined_of, moved_of, taken, put, event_of, are_exact, is_written_so};
 
 use crate::collective_texts::read_args;
-use crate::reply_texts::read_reply_words;
-use call_texts::{read_recorded_call, read_value};
+use crate::reply_texts::{is_reply_numeric, read_reply_words};
+use call_texts::{has_leading_zero, is_call_numeric, read_recorded_call, read_value};
 use gaspi_types::{CallerId, Event, GroupId, NoMemory, Outcome, QueueId, RankId, ThreadId};
 use std::alloc::Global;
 
@@ -25,11 +25,22 @@ pub(crate) struct Moved {
     outcome: Outcome,
 }
 
+/// The number of 32 bits that a word without a leading zero spells.
+fn read_exact_value(word: &[u8]) -> Option<u32>
+    ensures { result ≡ exact_value word.now }
+{
+    if has_leading_zero(word) {
+        None
+    } else {
+        read_value(word)
+    }
+}
+
 /// The rank that a word spells.
 fn read_rank(word: &[u8]) -> Option<RankId>
     ensures { result ≡ number_below 16 word.now }
 {
-    let number = read_value(word)?;
+    let number = read_exact_value(word)?;
     if number < 16 {
         Some(RankId::of(number))
     } else {
@@ -41,7 +52,7 @@ fn read_rank(word: &[u8]) -> Option<RankId>
 fn read_thread(word: &[u8]) -> Option<ThreadId>
     ensures { result ≡ number_below 4 word.now }
 {
-    let number = read_value(word)?;
+    let number = read_exact_value(word)?;
     if number < 4 {
         Some(ThreadId::of(number))
     } else {
@@ -53,7 +64,7 @@ fn read_thread(word: &[u8]) -> Option<ThreadId>
 fn read_queue(word: &[u8]) -> Option<QueueId>
     ensures { result ≡ number_below 8 word.now }
 {
-    let number = read_value(word)?;
+    let number = read_exact_value(word)?;
     if number < 8 {
         Some(QueueId::of(number))
     } else {
@@ -65,7 +76,7 @@ fn read_queue(word: &[u8]) -> Option<QueueId>
 fn read_group(word: &[u8]) -> Option<GroupId>
     ensures { result ≡ number_below 8 word.now }
 {
-    let number = read_value(word)?;
+    let number = read_exact_value(word)?;
     if number < 8 {
         Some(GroupId::of(number))
     } else {
@@ -102,12 +113,22 @@ fn place_of_dot(word: &[u8]) -> Option<usize>
     word.iter().position(|byte| *byte == b'.')
 }
 
+/// Whether a word is the arrow.
+fn is_arrow(word: &[u8]) -> bool
+    ensures { result ≡ bytes_eq arrow word.now }
+{
+    match word {
+        [first, second] => *first == b'-' && *second == b'>',
+        _ => false,
+    }
+}
+
 /// The index of the first arrow among words, or None.
 fn place_of_arrow(words: &[&[u8]]) -> Option<usize>
     ensures value { result ≡ position (λ word. bytes_eq arrow word) (map (λ word. word.now) words.now) }
     ensures bound { IfSome result (λ place. place < length words.now) }
 {
-    words.iter().position(|word| b"->".as_slice() == *word)
+    words.iter().position(|word| is_arrow(word))
 }
 
 /// The caller that a word spells: its rank, and its thread behind the first dot.
@@ -187,7 +208,7 @@ fn read_moved(arguments: &[&[u8]]) -> Option<Moved>
     let origin = read_rank(origin)?;
     let queue = read_queue(queue)?;
     let target = read_rank(target)?;
-    let number = read_value(number)?;
+    let number = read_exact_value(number)?;
     let outcome = read_outcome(outcome)?;
     Some(Moved {
         origin,
@@ -247,4 +268,24 @@ pub(crate) fn read_event_words(alloc: Global, words: &[&[u8]]) -> Result<Option<
         return Ok(read_put(arguments));
     }
     Ok(None)
+}
+
+/// Whether no word has a leading zero.
+fn are_exact(words: &[&[u8]]) -> bool
+    ensures { result ≡ are_exact (map (λ word. word.now) words.now) }
+{
+    words.iter().all(|word| !has_leading_zero(word))
+}
+
+/// Whether the words that spell an event are known to be those that are written of it, without writing them.
+pub(crate) fn is_written_so(event: &Event, words: &[&[u8]]) -> bool
+    ensures { result ≡ is_written_so event.now (map (λ word. word.now) words.now) }
+{
+    match event {
+        Event::Called(_, call, reply) => {
+            is_call_numeric(call) && is_reply_numeric(reply) && are_exact(words)
+        }
+        Event::Joined(..) => false,
+        Event::Take(..) | Event::Put(..) => true,
+    }
 }

@@ -6,10 +6,10 @@ ghost use Rattle.gaspi_types.specs.declared.events.Event.{Event};
 ghost use Rattle.gaspi_texts.specs.EventText.{caller_word, event_text, IsInEventRange};
 
 use crate::collective_texts::append_args;
-use crate::event_reading::{outcome_word, read_event_words};
+use crate::event_reading::{is_written_so, outcome_word, read_event_words};
 use crate::reply_texts::write_reply;
-use crate::text_laws::{events_read_back, read_events_are_in_range};
-use call_texts::{append_line, append_numbers, append_word, set_words, write_call, write_number};
+use crate::text_laws::{events_read_back, read_events_are_in_range, read_events_are_written};
+use call_texts::{append_line, append_numbers, append_word, set_pieces, write_call, write_number};
 use gaspi_types::{Bytes, CallerId, Event, GroupId, NoMemory, Sequence};
 use std::alloc::Global;
 
@@ -99,11 +99,11 @@ pub fn write_event(text: &mut Bytes, event: &Event) -> Result<(), NoMemory>
     written
 }
 
-/// Memory for reading events, used again for each: for the words of a text, and for the text of the event that they spell.
+/// Memory for reading events, used again for each: for the pieces of a text, and for the text of the event that they spell.
 /// Contracts say nothing of what it holds.
 #[derive(Debug, Drop)]
 pub struct ReadingBuffers<'a> {
-    words: Vec<&'a [u8]>,
+    pieces: Vec<&'a [u8]>,
     text: Bytes,
 }
 
@@ -111,7 +111,7 @@ impl<'a> ReadingBuffers<'a> {
     /// Buffers without memory, which they take as they are used.
     pub fn new(alloc: Global) -> ReadingBuffers<'a> {
         ReadingBuffers {
-            words: Vec::new(alloc),
+            pieces: Vec::new(alloc),
             text: Sequence::new(alloc),
         }
     }
@@ -139,11 +139,13 @@ pub fn read_event_with<'a>(
     // The laws that tie what is spelled to what would be written.
     events_read_back();
     read_events_are_in_range();
-    set_words(&mut scratch.words, text)?;
-    let Some(event) = read_event_words(alloc, scratch.words.as_slice())? else {
+    read_events_are_written();
+    set_pieces(&mut scratch.pieces, text)?;
+    let pieces = scratch.pieces.as_slice();
+    let Some(event) = read_event_words(alloc, pieces)? else {
         return Ok(None);
     };
-    if is_text_of(&mut scratch.text, &event, text)? {
+    if is_written_so(&event, pieces) || is_text_of(&mut scratch.text, &event, text)? {
         Ok(Some(event))
     } else {
         Ok(None)

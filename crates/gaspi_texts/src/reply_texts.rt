@@ -5,7 +5,7 @@ ghost use Rattle.std.specs.Fmt.{decimal};
 ghost use Rattle.std.specs.List.{join_with_byte};
 ghost use Rattle.gaspi_types.specs.Replies.{refusal_number};
 ghost use Rattle.gaspi_texts.specs.RefusalText.{field_words};
-ghost use Rattle.gaspi_texts.specs.ReplyText.{words_of_reply, reply_text, reply_of, takes_memory};
+ghost use Rattle.gaspi_texts.specs.ReplyText.{words_of_reply, reply_text, reply_of, takes_memory, is_reply_numeric};
 ghost use Rattle.call_texts.specs.Words.{words_of};
 ghost use Rattle.call_texts.specs.Written.{spaced};
 
@@ -17,6 +17,13 @@ use call_texts::{
 };
 use gaspi_types::{Bytes, NoMemory, Refusal, Reply};
 use std::alloc::Global;
+
+/// Whether a reply's words are its own and numbers in decimal alone.
+pub(crate) fn is_reply_numeric(reply: &Reply) -> bool
+    ensures { result ≡ is_reply_numeric reply.now }
+{
+    !matches!(reply, Reply::Bytes(_) | Reply::List(_) | Reply::Refused(_))
+}
 
 /// Adds the fields of a refusal, each behind a space. After `NoMemory` the text still begins with what it had.
 fn append_fields(text: &mut Bytes, refusal: Refusal) -> Result<(), NoMemory>

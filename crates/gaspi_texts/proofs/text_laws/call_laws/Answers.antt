@@ -3,6 +3,8 @@ use Rattle.gaspi_texts.proofs.text_laws.call_laws.Goals as goal
 pub returns : goal.returns
 returns c =
     record {
+      joined = c.pieces_are_the_text.ensures.joined;
+      pieces = c.pieces_are_the_text.ensures.words;
       words = c.words_read_back.ensures;
       number = c.numbers_read_back.ensures.number;
       value = c.numbers_read_back.ensures.value;
@@ -21,4 +23,8 @@ returns c =
       bytes_plain = c.written_words_are_plain.ensures.bytes;
       elements_plain = c.written_words_are_plain.ensures.elements;
       call_plain = c.written_words_are_plain.ensures.call;
+      leads = c.read_words_are_written.ensures.leads;
+      number_written = c.read_words_are_written.ensures.number;
+      value_written = c.read_words_are_written.ensures.value;
+      call_written = c.read_words_are_written.ensures.call;
     }
