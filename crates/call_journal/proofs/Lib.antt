@@ -1,9 +1,12 @@
 pub mod Begun
 pub mod Callers
+mod CalledLines
+mod CallerTables
 mod Calling
 pub mod Counted
 pub mod Counts
 pub mod Explained
+mod Following
 pub mod LastWords
 pub mod NumberRanges
 pub mod OwnCalls

@@ -1,6 +1,7 @@
 -- What a list of numbers gives, one number more.
-use Rattle.std.proofs.Common.{◌≡◌, ℕ, zero, suc, ◌+◌, List, ◌++◌, sym, ap, ◌∙◌, arith, append_assoc, append-nil, add-one}
+use Rattle.std.proofs.Common.{◌≡◌, ℕ, zero, suc, ◌+◌, List, [], ◌∷◌, ◌++◌, map, sym, ap, ◌∙◌, arith, append_assoc, append-nil, add-one}
 use Rattle.std.specs.List.{flat_map, range_with_len}
+use Rattle.gaspi_model.proofs.Ranges.{map_range_more}
 
 from-range : {B : Type 0} (f : ℕ → List B) (a n : ℕ) → flat_map f (range_with_len a (suc n)) ≡ flat_map f (range_with_len a n) ++ f (a + n)
 from-range {B} f a zero = append-nil (f a) ∙ ap f (let same : a ≡ a + 0 = omega arith in same)
@@ -22,3 +23,8 @@ pub thread-more : {B : Type 0} (f : ℕ → ℕ → List B) (rank thread r t : �
     → old ≡ first ++ flat_map (f rank) (range_with_len 0 thread) → new ≡ first ++ flat_map (f rank) (range_with_len 0 (thread + 1))
 thread-more {B} f rank thread r t first old new added same same' before =
     range-more (f rank) thread first old new (added ∙ ap (λ (n : ℕ). old ++ f n t) same ∙ ap (λ (n : ℕ). old ++ f rank n) same') before
+
+-- a list of what each number is: one number more
+pub made-more : {A : Type 0} (f : ℕ → A) (n : ℕ) (old new : List A) (item : A) → new ≡ old ++ item ∷ [] → item ≡ f n → old ≡ map f (range_with_len 0 n) → new ≡ map f (range_with_len 0 (n + 1))
+made-more {A} f n old new item added is before =
+    added ∙ ap (λ (x : A). old ++ x ∷ []) is ∙ ap (λ (xs : List A). xs ++ f n ∷ []) before ∙ sym (map_range_more f n)

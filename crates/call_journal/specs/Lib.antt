@@ -1,8 +1,11 @@
+pub mod CalledLines
+pub mod CallerTables
 pub mod Explanations
 pub mod LaneWrites
 pub mod Laws
 pub mod Numbers
 pub mod OwnCalls
+pub mod ScriptRuns
 pub mod Tracked
 pub mod Transcripts
 pub mod Verdicts

@@ -4,10 +4,12 @@
 
 mod answers;
 mod bench_laws;
+mod called_lines;
 mod explanations;
 mod journal_numbers;
 mod lane_writes;
 mod own_calls;
+mod script_runs;
 mod transcripts;
 mod verdicts;
 

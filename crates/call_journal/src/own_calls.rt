@@ -3,11 +3,12 @@
 
 ghost use Rattle.std.specs.Prelude.{◌≡◌, ◌<◌, ◌++◌, ◌∷◌, [], List, replicate, OnOk, IfOk};
 ghost use Rattle.gaspi_types.specs.Tables.{changed_at};
-ghost use Rattle.call_journal.specs.OwnCalls.{HasCallers, IsCallTable};
+ghost use Rattle.call_journal.specs.CallerTables.{HasCallers};
+ghost use Rattle.call_journal.specs.OwnCalls.{IsCallTable};
 ghost use Rattle.call_journal.specs.declared.own_calls.RecordedCall.{RecordedCall};
 
+use crate::script_runs::ToldRuns;
 use gaspi_types::{Call, CallerId, Event, NoMemory, RankId, Reply, Sequence, ThreadId};
-use rank_script::Scripts;
 use std::alloc::Global;
 
 /// A recorded call and its reply, lent by the history.
@@ -20,16 +21,18 @@ pub struct RecordedCall<'a> {
 /// The recorded calls of each caller, by rank and thread, each list in the order of the history.
 pub type RecordedCalls<'a> = Sequence<Sequence<Sequence<RecordedCall<'a>>>>;
 
-/// An empty list for a caller, with memory for a call of each line of its script.
+/// An empty list for a caller, with memory for the calls that the lines of its script made, and for its end.
 fn empty_list<'a>(
     alloc: Global,
     caller: CallerId,
-    scripts: &Scripts,
+    runs: &ToldRuns,
 ) -> Result<Sequence<RecordedCall<'a>>, NoMemory>
+    requires { HasCallers runs.now }
     ensures { IfOk result (λ calls. calls ≡ []) }
 {
-    match scripts.of(caller) {
-        Some(script) => Sequence::with_capacity(alloc, script.lines.count_in_memory()),
+    let row = runs.at(caller.rank.index());
+    match row.at(caller.thread.index()) {
+        Some(run) => Sequence::with_capacity(alloc, run.lines.count().saturating_add(1)),
         None => Ok(Sequence::new(alloc)),
     }
 }
@@ -38,9 +41,10 @@ fn empty_list<'a>(
 fn empty_row<'a>(
     alloc: Global,
     rank: u32,
-    scripts: &Scripts,
+    runs: &ToldRuns,
 ) -> Result<Sequence<Sequence<RecordedCall<'a>>>, NoMemory>
-    requires { rank < 16 }
+    requires rank { rank < 16 }
+    requires callers { HasCallers runs.now }
     ensures { IfOk result (λ row. row ≡ replicate 4 []) }
 {
     let mut row = Sequence::new(alloc);
@@ -49,18 +53,19 @@ fn empty_row<'a>(
             rank: RankId::of(rank),
             thread: ThreadId::of(thread),
         };
-        row.push(empty_list(alloc, caller, scripts)?)?;
+        row.push(empty_list(alloc, caller, runs)?)?;
     }
     Ok(row)
 }
 
 /// The table without a call, for 16 ranks with four threads each.
-fn empty_table<'a>(alloc: Global, scripts: &Scripts) -> Result<RecordedCalls<'a>, NoMemory>
+fn empty_table<'a>(alloc: Global, runs: &ToldRuns) -> Result<RecordedCalls<'a>, NoMemory>
+    requires { HasCallers runs.now }
     ensures { IfOk result (λ table. table ≡ replicate 16 (replicate 4 [])) }
 {
     let mut table = Sequence::new(alloc);
     for rank in 0..16u32 {
-        table.push(empty_row(alloc, rank, scripts)?)?;
+        table.push(empty_row(alloc, rank, runs)?)?;
     }
     Ok(table)
 }
@@ -79,15 +84,16 @@ fn add_call<'a>(
     calls.push(own)
 }
 
-/// The recorded calls of all callers in a history, of which those of these scripts are expected.
+/// The recorded calls of all callers in a history. What is told of their runs says for how many there is memory from the start.
 pub fn own_calls<'a>(
     alloc: Global,
-    scripts: &Scripts,
+    runs: &ToldRuns,
     history: &'a [Event],
 ) -> Result<RecordedCalls<'a>, NoMemory>
+    requires { HasCallers runs.now }
     ensures { IfOk result (λ table. IsCallTable table history.now) }
 {
-    let mut table = empty_table(alloc, scripts)?;
+    let mut table = empty_table(alloc, runs)?;
     for event in history {
         if let Event::Called(caller, call, reply) = event {
             add_call(&mut table, *caller, RecordedCall { call, reply })?;

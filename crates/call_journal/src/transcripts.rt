@@ -1,19 +1,21 @@
 //! Transcripts: the replies of each caller, with the line of its script that made each call, and how its run ended. What the
 //! text of a private function has after `NoMemory` is not said.
 
-ghost use Rattle.std.specs.Prelude.{◌≡◌, ◌<◌, ◌++◌, ◌||◌, [], List, OnOk, OnErr, codes, is_some, IfOk};
+ghost use Rattle.std.specs.Prelude.{◌≡◌, ◌<◌, ◌++◌, List, OnOk, OnErr, codes, IfOk};
 ghost use Rattle.std.specs.Fmt.{decimal};
 ghost use Rattle.gaspi_types.specs.declared.events.Event.{Event};
-ghost use Rattle.gaspi_types.specs.CallRows.{is_end};
-ghost use Rattle.call_journal.specs.OwnCalls.{pairs_of, HasCallers, IsCallTable};
 ghost use Rattle.gaspi_texts.specs.EventText.{caller_word};
-ghost use Rattle.rank_script.specs.Runs.{at_first_line, outcome_of};
-ghost use Rattle.call_journal.specs.Transcripts.{call_line, ended_line, outcome_line, transcript, thread_transcript, rank_transcripts, transcripts};
+ghost use Rattle.rank_script.specs.declared.scripts.Script.{Script};
+ghost use Rattle.call_journal.specs.CallerTables.{HasCallers};
+ghost use Rattle.call_journal.specs.OwnCalls.{pairs_of, IsCallTable};
+ghost use Rattle.call_journal.specs.ScriptRuns.{told_text, IsToldTable};
+ghost use Rattle.call_journal.specs.Transcripts.{call_line, ended_line, outcome_line, thread_transcript, rank_transcripts, transcripts};
 
 use crate::own_calls::{RecordedCall, RecordedCalls, own_calls};
+use crate::script_runs::{ToldRun, ToldRuns, script_runs};
 use gaspi_texts::{Journal, write_number, write_reply};
-use gaspi_types::{Bytes, Call, CallerId, NoMemory, RankId, Reply, Shape, ThreadId};
-use rank_script::{Cursor, RunOutcome, Script, Scripts};
+use gaspi_types::{Bytes, CallerId, NoMemory, RankId, Reply, Shape, ThreadId};
+use rank_script::{RunOutcome, Scripts};
 use std::alloc::Global;
 
 /// For how many bytes memory is taken before a line of a transcript is known: for those of most lines.
@@ -81,119 +83,118 @@ fn write_outcome(text: &mut Bytes, caller: CallerId, outcome: RunOutcome) -> Res
     }
 }
 
-/// Adds the line of the outcome of a run. One that has not ended came to the event limit at its present line.
-fn write_ending(text: &mut Bytes, caller: CallerId, cursor: &Cursor<'_>) -> Result<(), NoMemory>
-    ensures { OnOk result (text.new ≡ text.old ++ transcript caller cursor.now []) }
-{
-    let line = cursor.line();
-    let outcome = cursor.outcome().unwrap_or(RunOutcome::Limit { line });
-    write_outcome(text, caller, outcome)
-}
-
-/// Whether a call is the end of its caller.
-fn is_end(call: &Call) -> bool
-    ensures { result ≡ is_end call.now }
-{
-    matches!(call, Call::End)
-}
-
-/// Whether a run makes no more calls: it has ended, or the next call is the end of its caller.
-fn is_over(cursor: &Cursor<'_>, call: &Call) -> bool
-    ensures { result ≡ (is_some (outcome_of cursor.now) || is_end call.now) }
-{
-    cursor.outcome().is_some() || is_end(call)
-}
-
 /// Adds the transcript of a caller, of which `calls` are the recorded calls.
 fn write_transcript(
     text: &mut Bytes,
-    script: &Script,
+    caller: &CallerId,
+    run: &ToldRun,
     calls: &[RecordedCall<'_>],
 ) -> Result<(), NoMemory>
-    ensures { OnOk result (text.new ≡ text.old ++ transcript script.now.caller (at_first_line script.now.lines) (pairs_of calls.now)) }
+    ensures { OnOk result (text.new ≡ text.old ++ told_text caller.now run.now.lines run.now.outcome (pairs_of calls.now)) }
 {
     let alloc = text.allocator();
-    let start = line_start(alloc, script.caller)?;
-    let mut cursor = Cursor::new(alloc, script)?;
+    let start = line_start(alloc, *caller)?;
+    let mut lines = run.lines.reader();
     for own in calls {
-        if is_over(&cursor, own.call) {
-            return write_ending(text, script.caller, &cursor);
-        }
-        write_call(text, start.as_slice(), cursor.line(), own.reply)?;
-        cursor.advance(own.reply);
+        let Some(line) = lines.next() else {
+            return write_outcome(text, *caller, run.outcome);
+        };
+        write_call(text, start.as_slice(), line, own.reply)?;
     }
-    write_ending(text, script.caller, &cursor)
+    write_outcome(text, *caller, run.outcome)
 }
 
-/// Adds the transcript of a caller, where it has a script. The table has to have its calls.
+/// Adds the transcript of a caller, where it has a script. The tables have to have its run and its calls.
 fn write_thread(
     text: &mut Bytes,
-    caller: CallerId,
-    scripts: &Scripts,
+    caller: &CallerId,
+    runs: &ToldRuns,
     table: &RecordedCalls<'_>,
 ) -> Result<(), NoMemory>
-    requires { HasCallers table.now }
-    ensures { (history : List Event) → IsCallTable table.now history → OnOk result (text.new ≡ text.old ++ thread_transcript scripts.now history caller.rank caller.thread) }
+    requires runs { HasCallers runs.now }
+    requires calls { HasCallers table.now }
+    ensures { (scripts : List Script) (history : List Event) → IsToldTable runs.now scripts history → IsCallTable table.now history
+        → OnOk result (text.new ≡ text.old ++ thread_transcript scripts history caller.now.rank caller.now.thread) }
 {
-    let Some(script) = scripts.of(caller) else {
-        return Ok(());
-    };
-    let row = table.at(script.caller.rank.index());
-    let calls = row.at(script.caller.thread.index());
-    write_transcript(text, script, calls.as_slice())
+    let rank = caller.rank.index();
+    let thread = caller.thread.index();
+    let runs = runs.at(rank);
+    let calls = table.at(rank);
+    match runs.at(thread) {
+        Some(run) => write_transcript(text, caller, run, calls.at(thread).as_slice()),
+        None => Ok(()),
+    }
 }
 
 /// Adds the transcripts of the callers of a rank, by thread.
 fn write_rank(
     text: &mut Bytes,
     rank: u32,
-    scripts: &Scripts,
+    runs: &ToldRuns,
     table: &RecordedCalls<'_>,
 ) -> Result<(), NoMemory>
     requires rank { rank < 16 }
-    requires callers { HasCallers table.now }
-    ensures { (history : List Event) → IsCallTable table.now history → OnOk result (text.new ≡ text.old ++ rank_transcripts scripts.now history rank) }
+    requires runs { HasCallers runs.now }
+    requires calls { HasCallers table.now }
+    ensures { (scripts : List Script) (history : List Event) → IsToldTable runs.now scripts history → IsCallTable table.now history
+        → OnOk result (text.new ≡ text.old ++ rank_transcripts scripts history rank) }
 {
     for thread in 0..4u32 {
         let caller = CallerId {
             rank: RankId::of(rank),
             thread: ThreadId::of(thread),
         };
-        write_thread(text, caller, scripts, table)?;
+        write_thread(text, &caller, runs, table)?;
     }
     Ok(())
 }
 
-/// Adds the transcripts of all callers, by rank and thread.
-fn append_transcripts(
-    text: &mut Bytes,
+/// For how many bytes memory is taken before the transcripts of these runs are known.
+fn room_for(runs: &ToldRuns) -> usize {
+    let mut lines: usize = 0;
+    for row in runs.as_slice() {
+        for run in row.as_slice() {
+            match run {
+                Some(run) => lines = lines.saturating_add(run.lines.count()),
+                None => {}
+            }
+        }
+    }
+    lines.saturating_mul(BYTES_OF_A_LINE)
+}
+
+/// The transcripts of all callers, by rank and thread, of whose runs this is told.
+fn text_of_runs(
+    alloc: Global,
     shape: &Shape,
-    scripts: &Scripts,
+    runs: &ToldRuns,
     journal: &Journal,
-) -> Result<(), NoMemory>
-    ensures { OnOk result (text.new ≡ text.old ++ transcripts shape.now scripts.now journal.now) }
+) -> Result<Bytes, NoMemory>
+    requires { HasCallers runs.now }
+    ensures { (scripts : List Script) → IsToldTable runs.now scripts journal.now → IfOk result (λ text. text ≡ transcripts shape.now scripts journal.now) }
 {
-    let table = own_calls(text.allocator(), scripts, journal.as_slice())?;
+    let table = own_calls(alloc, runs, journal.as_slice())?;
+    let mut text = Bytes::with_capacity(alloc, room_for(runs))?;
     let limits = shape.limits();
     for rank in 0..limits.ranks {
-        write_rank(text, rank, scripts, &table)?;
+        write_rank(&mut text, rank, runs, &table)?;
     }
-    Ok(())
+    Ok(text)
 }
 
-/// The transcripts of all callers of a world, by rank and thread. The only failure is out of memory.
+/// The transcripts of all callers of a world, by rank and thread. The scripts are given back before memory is taken for calls and text.
+/// The only failure is out of memory.
 pub fn transcripts_text(
     alloc: Global,
     shape: &Shape,
-    scripts: &Scripts,
+    scripts: Scripts,
     journal: &Journal,
 ) -> Result<Bytes, NoMemory>
-    ensures { IfOk result (λ text. text ≡ transcripts shape.now scripts.now journal.now) }
+    ensures { IfOk result (λ text. text ≡ transcripts shape.now scripts journal.now) }
 {
-    let room = scripts.line_count().saturating_mul(BYTES_OF_A_LINE);
-    let mut text = Bytes::with_capacity(alloc, room)?;
-    append_transcripts(&mut text, shape, scripts, journal)?;
-    Ok(text)
+    let runs = script_runs(alloc, &scripts, journal.as_slice())?;
+    drop(scripts);
+    text_of_runs(alloc, shape, &runs, journal)
 }
 
 /// Adds the transcripts of all callers of a world, by rank and thread. After `NoMemory` nothing has changed.
@@ -206,6 +207,8 @@ pub fn write_transcripts(
     ensures ok { OnOk result (text.new ≡ text.old ++ transcripts shape.now scripts.now journal.now) }
     ensures err { OnErr result (text.new ≡ text.old) }
 {
-    let told = transcripts_text(text.allocator(), shape, scripts, journal)?;
+    let alloc = text.allocator();
+    let runs = script_runs(alloc, scripts, journal.as_slice())?;
+    let told = text_of_runs(alloc, shape, &runs, journal)?;
     text.extend(told)
 }

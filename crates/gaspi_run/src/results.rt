@@ -63,17 +63,17 @@ fn run_status(finished: &[EndedCaller]) -> u8
 }
 
 /// The result of `run` or `step`. With `brief` its text is the transcripts, which are in memory; otherwise it is that of the journal.
-/// The only failure is out of memory.
+/// The scripts are given back before the text is made. The only failure is out of memory.
 fn told_of_run(
     alloc: Global,
     brief: bool,
     shape: &Shape,
-    scripts: &Scripts,
+    scripts: Scripts,
     journal: Journal,
     tally: Option<Tally>,
     status: u8,
 ) -> Result<CommandResult, NoMemory>
-    ensures { IfOk result (λ told. told ≡ record { journal = journal; tally = tally; status = status; text = run_text brief shape.now scripts.now journal; is_held = brief }) }
+    ensures { IfOk result (λ told. told ≡ record { journal = journal; tally = tally; status = status; text = run_text brief shape.now scripts journal; is_held = brief }) }
 {
     if !brief {
         return Ok(CommandResult::with_journal_text(journal, tally, status));
@@ -108,7 +108,7 @@ pub fn run_result<R: Threads + Wait + Sync>(
         outcomes,
     } = run_on_threads(rt, alloc, &shape, &scripts, workers, limit)?;
     let status = run_status(outcomes.as_slice());
-    let told = told_of_run(alloc, brief, &shape, &scripts, journal, Some(tally), status)?;
+    let told = told_of_run(alloc, brief, &shape, scripts, journal, Some(tally), status)?;
     Ok(told)
 }
 
@@ -191,7 +191,7 @@ fn step_result(
     drop(input);
     let ran = schedule(alloc, &shape, &scripts, seed, limit)?;
     let status = run_status(ran.outcomes.as_slice());
-    let told = told_of_run(alloc, brief, &shape, &scripts, ran.journal, None, status)?;
+    let told = told_of_run(alloc, brief, &shape, scripts, ran.journal, None, status)?;
     Ok(told)
 }
 
