@@ -1,8 +1,9 @@
 -- Runs followed call by call, and what a transcript tells of them.
-use Rattle.std.proofs.Common.{◌≡◌, ℕ, Bool, true, false, ◌==◌, List, [], ◌∷◌, ◌++◌, Option, None, Some, refl, sym, ap, subst, ◌∙◌, append_assoc, append-nil, if◌then◌else◌, map, cond}
+use Rattle.std.proofs.Common.{◌≡◌, ℕ, Bool, true, false, ◌==◌, List, [], ◌∷◌, ◌++◌, Option, None, Some, refl, sym, ap, ◌∙◌, append_assoc, append-nil, if◌then◌else◌, map}
 use Rattle.std.specs.List.{find}
 use Rattle.std.specs.Option.{option_map}
 use Rattle.std.proofs.lemmas.Bool.{eqb-true}
+use Rattle.gaspi_types.proofs.Found.{found_passes}
 use Rattle.gaspi_types.proofs.Chains.{both}
 use Rattle.gaspi_types.specs.CallRows.{is_end}
 use Rattle.gaspi_types.specs.World.{is_caller}
@@ -105,14 +106,6 @@ run-told c (AtLine line made lines) (pair ∷ pairs) = go (is_end pair.0) refl (
     go false ends rest = rw ends (ap (λ (more : List ℕ). call_line c line.number pair.1 ++ more) rest)
 
 -- the script that was found is that of the caller
-found-passes : {A : Type 0} (test : A → Bool) (xs : List A) (x : A) → find test xs ≡ Some x → test x ≡ true
-found-passes test [] x at = absurd (let no : ⊥ = cc in no)
-found-passes {A} test (y ∷ xs) x at = go (test y) refl at (λ found. found-passes test xs x found)
-  where
-    go : (b : Bool) → test y ≡ b → cond b (Some y) (find test xs) ≡ Some x → (find test xs ≡ Some x → test x ≡ true) → test x ≡ true
-    go true is found later = let same : y ≡ x = cc in subst (λ (z : A). test z ≡ true) same is
-    go false is found later = later found
-
 own-caller : (c own : CallerId) → is_caller c.rank c.thread own ≡ true → own ≡ c
 own-caller c own is =
     let parts = both (own.rank == c.rank) (own.thread == c.thread) is in
@@ -133,6 +126,6 @@ thread-told scripts history c run pairs told recorded = rw (told, recorded) (go 
         → item_text c (told_item (option_map (λ script. run_through script (recorded_calls c.rank c.thread history)) script)) (recorded_calls c.rank c.thread history) ≡ script_transcript history script
     go None at = refl
     go (Some script) at =
-        let mine : script.caller ≡ c = own-caller c script.caller (found-passes (is_script_of c) scripts script at) in
+        let mine : script.caller ≡ c = own-caller c script.caller (found_passes (is_script_of c) scripts script at) in
         sym (ap (λ (own : CallerId). transcript own (at_first_line script.lines) (recorded_calls own.rank own.thread history)) mine
         ∙ run-told c (at_first_line script.lines) (recorded_calls c.rank c.thread history))

@@ -2,7 +2,7 @@
 use Rattle.std.proofs.Common.{◌≡◌, ℕ, zero, suc, ◌^◌, ◌<◌, ◌≤◌, Bool, true, false, cond, ◌==◌, ◌&&◌, nat_lt, nat_le, List, [], ◌∷◌, ◌++◌, length, get_or, Option, Some, lit<, refl, sym, ap, ◌∙◌, subst, append_assoc, append-nil, arith}
 use Rattle.std.specs.Char.{is_ascii_digit}
 use Rattle.std.specs.Fmt.{decimal}
-use Rattle.std.specs.List.{AllByRecursion, find, flat_map, list_all}
+use Rattle.std.specs.List.{AllByRecursion, flat_map, list_all}
 use Rattle.std.specs.Str.{bytes_eq}
 use Rattle.std.specs.Str.Parse.{digits_value}
 use Rattle.std.proofs.lemmas.Bool.{and_parts}
@@ -13,7 +13,8 @@ use Rattle.std.proofs.lemmas.Slice.Eq.{bytes_eq-Decides}
 use Rattle.gaspi_types.specs.declared.calls.Call.{Call}
 use Rattle.gaspi_types.specs.declared.calls.Call.TheVariants as calls
 use Rattle.gaspi_types.specs.declared.calls.posts.Item.{Item}
-use Rattle.call_texts.specs.CallText.{Spelled, spelling_of, form_of, call_words, call_word_of, spelled, call_with, call_taken, with_nothing_left, call_by, call_of, end_word, is_end_text, recorded_call_of, words_of_spelled, words_of_call, is_spelled_numeric, is_call_numeric}
+use Rattle.gaspi_types.proofs.Found.{found_passes}
+use Rattle.call_texts.specs.CallText.{spelling_of, form_of, call_words, call_word_of, spelled, call_with, call_taken, call_by, call_of, end_word, is_end_text, recorded_call_of, words_of_spelled, words_of_call, is_spelled_numeric, is_call_numeric}
 use Rattle.call_texts.specs.Fields.{FieldValue, words_of_item, words_of_field, first_spells, item_spelled, items_spelled, field_spelled, is_numeric, Fields, words_of_fields, fields_spelled, are_numeric}
 use Rattle.call_texts.specs.Numbers.{is_numeral, number_up_to, number_of, value_of, has_leading_zero}
 use Rattle.call_texts.specs.declared.call_words.CallWord.{CallWord}
@@ -151,18 +152,10 @@ form-written (field ∷ form) numeric words taken is leads =
 
 -- Calls.
 
-pub found-passes : {A : Type 0} (p : A → Bool) (xs : List A) (x : A) → find p xs ≡ Some x → p x ≡ true
-found-passes {A} p [] x h = absurd (let no : ⊥ = cc in no)
-found-passes {A} p (y ∷ xs) x h = go (p y) refl h (λ e. found-passes p xs x e)
-  where
-    go : (b : Bool) → p y ≡ b → cond b (Some y) (find p xs) ≡ Some x → (find p xs ≡ Some x → p x ≡ true) → p x ≡ true
-    go true here same later = subst (λ (z : A). p z ≡ true) (same_Some y x same) here
-    go false here same later = later same
-
 spelled-word : (first : List ℕ) (word : CallWord) → call_word_of first ≡ Some word → spelling_of word ≡ first
 unfolding call_word_of
 spelled-word first word is =
-    (bytes_eq-Decides (spelling_of word) first).0 (found-passes (λ call. bytes_eq (spelling_of call) first) call_words word is)
+    (bytes_eq-Decides (spelling_of word) first).0 (found_passes (λ call. bytes_eq (spelling_of call) first) call_words word is)
 
 -- the words of a call that has these fields
 fields-written : (word : CallWord) (words : List (List ℕ)) (taken : Call × List (List ℕ)) → call_taken word words ≡ Some taken → is_call_numeric taken.0 ≡ true → HasNoLeads words → length taken.1 ≡ 0

@@ -1,9 +1,10 @@
 -- Replies that compare as the same are equal.
-use Rattle.std.proofs.Common.{◌≡◌, ℕ, ℤ, true, ◌==◌, if◌then◌else◌, List, [], ◌∷◌, get_or, refl, sym, ◌∙◌, ap, nat_eq}
+use Rattle.std.proofs.Common.{◌≡◌, ℕ, ℤ, true, ◌==◌, if◌then◌else◌, List, [], ◌∷◌, Option, None, Some, get_or, refl, sym, ◌∙◌, ap, nat_eq}
 use Rattle.std.specs.Ordering.{int_eq}
 use Rattle.std.specs.Cmp.Lexicographic.{pointwise}
 use Rattle.std.proofs.lemmas.Bool.{eqb-true}
 use Rattle.std.proofs.lemmas.Bool.Decides.{Decides-int_eq}
+use Rattle.gaspi_types.specs.Refusals.{RefusalForm, Bare, OneNumber, TwoNumbers, OneStage, OneCollective, Held, RefusalRow, refusal_rows, row_in}
 use Rattle.gaspi_types.specs.Replies.{refusal_number, refusal_fields, stage_number, op_number, type_number, coll_fields, same_refusal, same_numbers, same_reply}
 use Rattle.gaspi_types.specs.Collectives.{same_coll, same_args}
 use Rattle.gaspi_types.specs.declared.groups.Args.{Args}
@@ -17,7 +18,7 @@ use Rattle.gaspi_types.specs.declared.collectives.Op.TheVariants.{Min, Max, Sum}
 use Rattle.gaspi_types.specs.declared.collectives.Stage.TheVariants.{Building, Committed}
 use Rattle.gaspi_types.specs.declared.collectives.Coll.TheVariants.{Barrier, Allreduce, Create, Commit}
 use Rattle.gaspi_types.specs.declared.replies.Refusal.{Refusal}
-use Rattle.gaspi_types.specs.declared.replies.Refusal.TheVariants.{BadRank, NoSegment, SegmentThere, Unregistered, BadRange, BadSize, BadQueue, QueueFull, QueueBroken, BadNote, ZeroValue, BadAlign, PassiveSize, NoGroup, GroupStage, NotMember, GroupMismatch, ActiveCollective, ResumeOther, CollectiveMismatch, BadCount, FloatType, SegmentBusy, GroupsFull, CallerEnded}
+use Rattle.gaspi_types.specs.declared.replies.Refusal.TheVariants.{BadRank, GroupStage, ResumeOther, CollectiveMismatch}
 use Rattle.gaspi_types.specs.declared.replies.Reply.{Reply}
 use Rattle.gaspi_types.specs.declared.replies.Reply.TheVariants as replies
 use Rattle.gaspi_types.specs.declared.events.Outcome.{Outcome}
@@ -87,37 +88,25 @@ coll_named-same (Allreduce op num_type count) =
 coll_named-same (Create segment size) = refl
 coll_named-same (Commit mask) = refl
 
+-- what the numbers of fields stand for
+held_named : (form : RefusalForm) → List ℕ → Held form
+held_named Bare fields = tt
+held_named OneNumber fields = get_or fields 0 0
+held_named TwoNumbers fields = (get_or fields 0 0, get_or fields 1 0)
+held_named OneStage fields = stage_named (get_or fields 0 0)
+held_named OneCollective fields = coll_named fields
+
+-- the refusal of a row and fields
+made_named : Option RefusalRow → List ℕ → Refusal
+made_named None fields = BadRank
+made_named (Some row) fields = row.made (held_named row.form fields)
+
 -- the refusal of a number and fields
 refusal_named : ℕ → List ℕ → Refusal
-refusal_named number fields =
-    if number == 1 then BadRank
-    else (if number == 2 then NoSegment
-    else (if number == 3 then SegmentThere
-    else (if number == 4 then Unregistered
-    else (if number == 5 then BadRange (get_or fields 0 0)
-    else (if number == 6 then BadSize
-    else (if number == 7 then BadQueue
-    else (if number == 8 then QueueFull (get_or fields 0 0) (get_or fields 1 0)
-    else (if number == 9 then QueueBroken (get_or fields 0 0)
-    else (if number == 10 then BadNote
-    else (if number == 11 then ZeroValue
-    else (if number == 12 then BadAlign
-    else (if number == 13 then PassiveSize (get_or fields 0 0)
-    else (if number == 14 then NoGroup
-    else (if number == 15 then GroupStage (stage_named (get_or fields 0 0))
-    else (if number == 16 then NotMember
-    else (if number == 17 then GroupMismatch (get_or fields 0 0)
-    else (if number == 18 then ActiveCollective (get_or fields 0 0)
-    else (if number == 19 then ResumeOther (coll_named fields)
-    else (if number == 20 then CollectiveMismatch (coll_named fields)
-    else (if number == 21 then BadCount
-    else (if number == 22 then FloatType
-    else (if number == 23 then SegmentBusy (get_or fields 0 0)
-    else (if number == 24 then GroupsFull
-    else CallerEnded)))))))))))))))))))))))
+refusal_named number fields = made_named (row_in number refusal_rows) fields
 
 refusal_named-same : (r : Refusal) → refusal_named (refusal_number r) (refusal_fields r) ≡ r
-unfolding refusal_named
+unfolding refusal_named made_named held_named
 refusal_named-same (GroupStage stage) = ap GroupStage (stage_named-same stage)
 refusal_named-same (ResumeOther kept) = ap ResumeOther (coll_named-same kept)
 refusal_named-same (CollectiveMismatch kept) = ap CollectiveMismatch (coll_named-same kept)

@@ -7,7 +7,7 @@ ghost use Rattle.gaspi_model.specs.Fields.{listed};
 ghost use Rattle.gaspi_types.specs.Collectives.{same_coll, same_args};
 ghost use Rattle.gaspi_types.specs.Replies.{refusal_fields, coll_fields, stage_number, op_number, type_number, same_refusal, same_numbers, same_reply};
 
-use gaspi_types::{Args, Coll, NumType, Numbers, Op, Refusal, Reply, Stage};
+use gaspi_types::{Args, Coll, NumType, Numbers, Op, Refusal, RefusalFields, Reply, Stage};
 
 /// The numbers by which a refusal or a collective is compared, in order.
 #[derive(Clone, Copy)]
@@ -72,18 +72,12 @@ fn coll_fields(coll: Coll) -> Fields
 fn refusal_fields(refusal: &Refusal) -> Fields
     ensures { listed result ≡ refusal_fields refusal.now }
 {
-    match refusal {
-        Refusal::BadRange { size } => Fields::One(*size),
-        Refusal::QueueFull { count, need } => Fields::Two(*count, *need),
-        Refusal::QueueBroken { rank } => Fields::One(*rank),
-        Refusal::PassiveSize { waiting } => Fields::One(*waiting),
-        Refusal::GroupStage { stage } => Fields::One(stage_number(*stage)),
-        Refusal::GroupMismatch { kept } => Fields::One(*kept),
-        Refusal::ActiveCollective { thread } => Fields::One(*thread),
-        Refusal::ResumeOther { kept } => coll_fields(*kept),
-        Refusal::CollectiveMismatch { kept } => coll_fields(*kept),
-        Refusal::SegmentBusy { queue } => Fields::One(*queue),
-        _ => Fields::Nothing,
+    match refusal.parts().1 {
+        RefusalFields::Nothing => Fields::Nothing,
+        RefusalFields::OneNumber(n) => Fields::One(n),
+        RefusalFields::TwoNumbers(m, n) => Fields::Two(m, n),
+        RefusalFields::OneStage(stage) => Fields::One(stage_number(stage)),
+        RefusalFields::OneCollective(kept) => coll_fields(kept),
     }
 }
 

@@ -36,7 +36,8 @@ use Rattle.gaspi_texts.specs.EventText.{arrow, IsInEventRange}
 use Rattle.call_texts.specs.Hex.{bytes_of}
 use Rattle.call_texts.specs.Numbers.{number_of, value_of, has_leading_zero}
 use Rattle.gaspi_texts.specs.CollectiveText.{stage_of, one_field, allreduce_of, create_of, barrier_of, coll_of, AreArgsInRange, values_of, args_with, args_of}
-use Rattle.gaspi_texts.specs.RefusalText.{RefusalForm, Bare, OneNumber, TwoNumbers, OneStage, OneCollective, Held, numbers_of_held, held_of, RefusalRow, refusal_rows, row_in, refusal_of}
+use Rattle.gaspi_types.specs.Refusals.{RefusalForm, Bare, OneNumber, TwoNumbers, OneStage, OneCollective, Held, RefusalRow, refusal_rows, row_in}
+use Rattle.gaspi_texts.specs.RefusalText.{numbers_of_held, held_of, refusal_of}
 use Rattle.gaspi_types.specs.NumberTypes.{AreInType}
 use Rattle.gaspi_texts.specs.ReplyText.{plain_reply, value_reply, bytes_reply, list_reply, refused_reply, reply_word_of, reply_with, reply_of, IsInRange}
 

@@ -21,7 +21,8 @@ use Rattle.gaspi_types.specs.declared.replies.Reply.TheVariants as replies
 use Rattle.gaspi_types.specs.declared.groups.Args.{Args}
 use Rattle.call_texts.specs.Elements.{type_word, op_word}
 use Rattle.gaspi_texts.specs.CollectiveText.{stage_word, stage_of, coll_words, coll_of, AreArgsInRange, args_words, args_of}
-use Rattle.gaspi_texts.specs.RefusalText.{RefusalForm, Bare, OneNumber, TwoNumbers, OneStage, OneCollective, Held, numbers_of_held, words_of_held, held_of, RefusalRow, refusal_rows, row_in, refusal_of, Holding, Holds, holding_of, field_words}
+use Rattle.gaspi_types.specs.Refusals.{RefusalForm, Bare, OneNumber, TwoNumbers, OneStage, OneCollective, Held, RefusalRow, refusal_rows, row_in}
+use Rattle.gaspi_texts.specs.RefusalText.{numbers_of_held, words_of_held, held_of, refusal_of, Holding, Holds, holding_of, field_words}
 use Rattle.gaspi_types.specs.NumberTypes.{AreInType, TypedNumbers}
 use Rattle.gaspi_texts.specs.ReplyText.{reply_word_of, words_of_reply, reply_text, reply_of, IsInRange}
 use Rattle.call_texts.specs.Words.{words_of}

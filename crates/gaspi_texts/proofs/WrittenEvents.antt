@@ -1,7 +1,7 @@
 -- What pieces without leading zeros spell is written as these pieces.
 use Rattle.std.proofs.Common.{◌≡◌, ℕ, zero, suc, ◌+◌, ◌<◌, Bool, true, false, cond, not, ◌==◌, ◌&&◌, nat_lt, codes, List, [], ◌∷◌, ◌++◌, length, take, drop, get_or, Option, Some, None, refl, sym, ap, ◌∙◌, subst, arith, add-one}
 use Rattle.std.specs.Fmt.{decimal}
-use Rattle.std.specs.List.{AllByRecursion, list_all, find, join_with_byte, position}
+use Rattle.std.specs.List.{AllByRecursion, join_with_byte, position}
 use Rattle.std.specs.Option.{option_map}
 use Rattle.std.specs.Str.{bytes_eq}
 use Rattle.std.proofs.lemmas.Bool.{and_parts}
@@ -9,15 +9,15 @@ use Rattle.std.proofs.lemmas.Bool.Decides.{nat_tests}
 use Rattle.std.proofs.lemmas.List.Quantifiers.{position-Some}
 use Rattle.std.proofs.lemmas.Option.{option_and_then_some, cond_some, same_Some, none-some}
 use Rattle.std.proofs.lemmas.Slice.Eq.{bytes_eq-Decides}
-use Rattle.gaspi_types.specs.declared.calls.Call.{Call}
 use Rattle.gaspi_types.specs.declared.events.Event.{Event}
-use Rattle.gaspi_types.specs.declared.events.Event.TheVariants.{Called, Joined, Take, Put}
+use Rattle.gaspi_types.specs.declared.events.Event.TheVariants.{Called, Joined}
 use Rattle.gaspi_types.specs.declared.events.Outcome.{Outcome}
 use Rattle.gaspi_types.specs.declared.events.Outcome.TheVariants.{Applied, Failed}
 use Rattle.gaspi_types.specs.declared.replies.Reply.{Reply}
 use Rattle.gaspi_types.specs.declared.replies.Reply.TheVariants as replies
 use Rattle.gaspi_types.specs.declared.shapes.CallerId.{CallerId}
-use Rattle.call_texts.specs.CallText.{recorded_call_of, words_of_call, is_call_numeric}
+use Rattle.gaspi_types.proofs.Found.{found_passes}
+use Rattle.call_texts.specs.CallText.{recorded_call_of, is_call_numeric}
 use Rattle.call_texts.specs.Elements.{type_of, elements_of}
 use Rattle.call_texts.specs.Numbers.{number_of, value_of, has_leading_zero}
 use Rattle.call_texts.specs.Words.{pieces_of}
@@ -32,15 +32,7 @@ use Rattle.gaspi_texts.specs.declared.reply_words.ReplyWord.{ReplyWord}
 use Rattle.gaspi_texts.specs.declared.reply_words.ReplyWord.TheVariants as words
 use Rattle.gaspi_texts.proofs.GraphicWords.{caller_word-parts}
 
--- What is found passes the test; a list is what is before a place, the item there, and what is behind.
-
-found-passes : {A : Type 0} (p : A → Bool) (xs : List A) (x : A) → find p xs ≡ Some x → p x ≡ true
-found-passes {A} p [] x h = absurd (let no : ⊥ = cc in no)
-found-passes {A} p (y ∷ xs) x h = go (p y) refl h (λ e. found-passes p xs x e)
-  where
-    go : (b : Bool) → p y ≡ b → cond b (Some y) (find p xs) ≡ Some x → (find p xs ≡ Some x → p x ≡ true) → p x ≡ true
-    go true here same later = subst (λ (z : A). p z ≡ true) (same_Some y x same) here
-    go false here same later = later same
+-- A list is what is before a place, the item there, and what is behind.
 
 around : {A : Type 0} (xs : List A) (i : ℕ) (d : A) → i < length xs → take i xs ++ (get_or xs i d ∷ drop (suc i) xs) ≡ xs
 around {A} [] i d inside = absurd (omega arith)
@@ -78,12 +70,12 @@ leads-behind (word ∷ front) behind leads = leads-behind front behind leads.1
 outcome-written : (word : List ℕ) (outcome : Outcome) → outcome_of word ≡ Some outcome → outcome_word outcome ≡ word
 unfolding outcome_of
 outcome-written word outcome is =
-    (bytes_eq-Decides (outcome_word outcome) word).0 (found-passes (λ o. bytes_eq (outcome_word o) word) (Applied ∷ Failed ∷ []) outcome is)
+    (bytes_eq-Decides (outcome_word outcome) word).0 (found_passes (λ o. bytes_eq (outcome_word o) word) (Applied ∷ Failed ∷ []) outcome is)
 
 reply_word-written : (word : List ℕ) (kind : ReplyWord) → reply_word_of word ≡ Some kind → reply_spelling kind ≡ word
 unfolding reply_word_of
 reply_word-written word kind is =
-    (bytes_eq-Decides (reply_spelling kind) word).0 (found-passes (λ reply. bytes_eq (reply_spelling reply) word) (words.Done ∷ words.Value ∷ words.Id ∷ words.Bytes ∷ words.Mask ∷ words.List ∷ words.Timeout ∷ words.Refused ∷ []) kind is)
+    (bytes_eq-Decides (reply_spelling kind) word).0 (found_passes (λ reply. bytes_eq (reply_spelling reply) word) (words.Done ∷ words.Value ∷ words.Id ∷ words.Bytes ∷ words.Mask ∷ words.List ∷ words.Timeout ∷ words.Refused ∷ []) kind is)
 
 -- a reply of another kind
 other-reply : {A : Type 0} (made : A → Reply) → ((x : A) → is_reply_numeric (made x) ≡ false) → (found : Option A) (reply : Reply) → option_map made found ≡ Some reply → is_reply_numeric reply ≡ true → ⊥

@@ -15,7 +15,7 @@ use crate::reply_words::{ReplyWord, stage_word};
 use call_texts::{
     append_bytes, append_elements, append_line, append_numbers, append_word, type_word, words,
 };
-use gaspi_types::{Bytes, NoMemory, Refusal, Reply};
+use gaspi_types::{Bytes, NoMemory, Refusal, RefusalFields, Reply};
 use std::alloc::Global;
 
 /// Whether a reply's words are its own and numbers in decimal alone.
@@ -30,21 +30,12 @@ fn append_fields(text: &mut Bytes, refusal: Refusal) -> Result<(), NoMemory>
     ensures ok { OnOk result (text.new ≡ text.old ++ spaced (field_words refusal)) }
     ensures err { OnErr result (take (length text.old) text.new ≡ text.old) }
 {
-    match refusal {
-        Refusal::BadRange { size } => append_numbers(text, &[u64::from(size)]),
-        Refusal::QueueFull { count, need } => {
-            append_numbers(text, &[u64::from(count), u64::from(need)])
-        }
-        Refusal::QueueBroken { rank } => append_numbers(text, &[u64::from(rank)]),
-        Refusal::PassiveSize { waiting } => append_numbers(text, &[u64::from(waiting)]),
-        Refusal::GroupStage { stage } => append_word(text, stage_word(stage)),
-        Refusal::GroupMismatch { kept } => append_numbers(text, &[u64::from(kept)]),
-        Refusal::ActiveCollective { thread } => append_numbers(text, &[u64::from(thread)]),
-        Refusal::ResumeOther { kept } | Refusal::CollectiveMismatch { kept } => {
-            append_coll(text, kept)
-        }
-        Refusal::SegmentBusy { queue } => append_numbers(text, &[u64::from(queue)]),
-        _ => Ok(()),
+    match refusal.parts().1 {
+        RefusalFields::Nothing => Ok(()),
+        RefusalFields::OneNumber(n) => append_numbers(text, &[u64::from(n)]),
+        RefusalFields::TwoNumbers(m, n) => append_numbers(text, &[u64::from(m), u64::from(n)]),
+        RefusalFields::OneStage(stage) => append_word(text, stage_word(stage)),
+        RefusalFields::OneCollective(kept) => append_coll(text, kept),
     }
 }
 

@@ -14,6 +14,7 @@ pub mod NumberTypes
 pub mod Posts
 pub mod Queues
 pub mod Ranges
+pub mod Refusals
 pub mod Replies
 pub mod SegmentBytes
 pub mod SegmentTables

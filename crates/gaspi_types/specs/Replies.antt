@@ -12,37 +12,11 @@ use Rattle.gaspi_types.specs.declared.collectives.Coll.{Coll}
 use Rattle.gaspi_types.specs.declared.collectives.Coll.TheVariants.{Barrier, Allreduce, Create, Commit}
 use Rattle.gaspi_types.specs.declared.collectives.Numbers.{Numbers}
 use Rattle.gaspi_types.specs.declared.replies.Refusal.{Refusal}
-use Rattle.gaspi_types.specs.declared.replies.Refusal.TheVariants.{BadRank, NoSegment, SegmentThere, Unregistered, BadRange, BadSize, BadQueue, QueueFull, QueueBroken, BadNote, ZeroValue, BadAlign, PassiveSize, NoGroup, GroupStage, NotMember, GroupMismatch, ActiveCollective, ResumeOther, CollectiveMismatch, BadCount, FloatType, SegmentBusy, GroupsFull, CallerEnded}
+use Rattle.gaspi_types.specs.declared.replies.RefusalFields.{RefusalFields}
+use Rattle.gaspi_types.specs.declared.replies.RefusalFields.TheVariants.{Nothing, OneNumber, TwoNumbers, OneStage, OneCollective}
+use Rattle.gaspi_types.specs.Refusals.{refusal_parts}
 use Rattle.gaspi_types.specs.declared.replies.Reply.{Reply}
 use Rattle.gaspi_types.specs.declared.replies.Reply.TheVariants as replies
-
--- the number of a refusal in texts
-abbrev pub refusal_number : Refusal → ℕ
-refusal_number BadRank = 1
-refusal_number NoSegment = 2
-refusal_number SegmentThere = 3
-refusal_number Unregistered = 4
-refusal_number (BadRange size) = 5
-refusal_number BadSize = 6
-refusal_number BadQueue = 7
-refusal_number (QueueFull count need) = 8
-refusal_number (QueueBroken rank) = 9
-refusal_number BadNote = 10
-refusal_number ZeroValue = 11
-refusal_number BadAlign = 12
-refusal_number (PassiveSize waiting) = 13
-refusal_number NoGroup = 14
-refusal_number (GroupStage stage) = 15
-refusal_number NotMember = 16
-refusal_number (GroupMismatch kept) = 17
-refusal_number (ActiveCollective thread) = 18
-refusal_number (ResumeOther kept) = 19
-refusal_number (CollectiveMismatch kept) = 20
-refusal_number BadCount = 21
-refusal_number FloatType = 22
-refusal_number (SegmentBusy queue) = 23
-refusal_number GroupsFull = 24
-refusal_number CallerEnded = 25
 
 -- the numbers by which a stage, an operation, a type and a collective are compared
 
@@ -73,19 +47,21 @@ coll_fields (Allreduce op num_type count) = 1 ∷ op_number op ∷ type_number n
 coll_fields (Create segment size) = 2 ∷ segment ∷ size ∷ []
 coll_fields (Commit mask) = 3 ∷ mask ∷ []
 
--- the fields of a refusal as numbers, in order; most have none
+-- the number of a refusal in texts
+abbrev pub refusal_number : Refusal → ℕ
+refusal_number refusal = (refusal_parts refusal).0
+
+-- fields as numbers, in order
+abbrev pub numbers_of_fields : RefusalFields → List ℕ
+numbers_of_fields Nothing = []
+numbers_of_fields (OneNumber n) = n ∷ []
+numbers_of_fields (TwoNumbers first second) = first ∷ second ∷ []
+numbers_of_fields (OneStage stage) = stage_number stage ∷ []
+numbers_of_fields (OneCollective kept) = coll_fields kept
+
+-- the fields of a refusal as numbers; most have none
 abbrev pub refusal_fields : Refusal → List ℕ
-refusal_fields (BadRange size) = size ∷ []
-refusal_fields (QueueFull count need) = count ∷ need ∷ []
-refusal_fields (QueueBroken rank) = rank ∷ []
-refusal_fields (PassiveSize waiting) = waiting ∷ []
-refusal_fields (GroupStage stage) = stage_number stage ∷ []
-refusal_fields (GroupMismatch kept) = kept ∷ []
-refusal_fields (ActiveCollective thread) = thread ∷ []
-refusal_fields (ResumeOther kept) = coll_fields kept
-refusal_fields (CollectiveMismatch kept) = coll_fields kept
-refusal_fields (SegmentBusy queue) = queue ∷ []
-refusal_fields refusal = []
+refusal_fields refusal = numbers_of_fields (refusal_parts refusal).1
 
 -- refusals are the same where their numbers and fields are
 abbrev pub same_refusal : Refusal → Refusal → Bool

@@ -95,13 +95,6 @@ fn all_pass(num_type: NumType, numbers: &[i128]) -> bool
     numbers.iter().all(|number| is_in_type(num_type, *number))
 }
 
-/// Whether all numbers are in the range of a type. (GASPI: collectives)
-pub fn are_in_type(num_type: NumType, numbers: &[i128]) -> bool
-    ensures { IsTrue result ↔ AreInType num_type numbers.now }
-{
-    all_pass(num_type, numbers)
-}
-
 /// Numbers of a type, each in the type's range. Contracts see the type and the numbers. (GASPI: allreduce)
 #[derive(Debug, PartialEq, Eq, Drop)]
 pub struct Numbers {
@@ -122,6 +115,13 @@ impl Model for Numbers {
 }
 
 impl Numbers {
+    /// Whether all numbers are in the range of a type. (GASPI: collectives)
+    pub fn are_in_type(num_type: NumType, numbers: &[i128]) -> bool
+        ensures { IsTrue result ↔ AreInType num_type numbers.now }
+    {
+        all_pass(num_type, numbers)
+    }
+
     /// Numbers of a type, which have to be in its range, as `are_in_type` answers. No memory is taken.
     pub fn new(num_type: NumType, items: BoxedSequence<i128>) -> Numbers
         requires { AreInType num_type items }

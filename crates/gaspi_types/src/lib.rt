@@ -32,7 +32,7 @@ pub use calls::{
     ReadListNotify, ReadNotify, Register, Reset, Store, Timeout, Wait, Waitsome, Write, WriteList,
     WriteListNotify, WriteNotify, is_list_length,
 };
-pub use collectives::{Coll, NumType, Numbers, Op, Stage, are_in_type, is_in_type};
+pub use collectives::{Coll, NumType, Numbers, Op, Stage, is_in_type};
 pub use entries::{
     ByteRange, Destination, Direction, Endpoints, Entry, Kind, NoteSlot, Phase, Queue,
 };
@@ -48,6 +48,6 @@ pub use invocations::Invocation;
 pub use lists::{BoxedSequence, Bytes, Sequence};
 pub use masks::{all_below, is_member, mask_of, with_member};
 pub use memory::NoMemory;
-pub use replies::{Ready, Refusal, Reply};
+pub use replies::{Ready, Refusal, RefusalFields, Reply};
 pub use segments::{Extent, Extents, OwnSegments, Segment, SegmentTable, is_segment_size};
 pub use shapes::{CallerId, DeclaredSegment, Limits, Shape, ShapeFault};

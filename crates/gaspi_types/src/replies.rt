@@ -2,6 +2,7 @@
 
 ghost use Rattle.std.specs.Prelude.{◌≡◌, IfOk, IsOk, true};
 ghost use Rattle.gaspi_types.specs.Copies.{is_listless_reply};
+ghost use Rattle.gaspi_types.specs.Refusals.{refusal_parts};
 ghost use Rattle.gaspi_types.specs.Replies.{refusal_number};
 
 use crate::collectives::{Coll, Numbers, Stage};
@@ -66,38 +67,55 @@ pub enum Refusal {
     CallerEnded,
 }
 
+/// The fields of a refusal.
+#[derive(Clone, Copy, Debug, PartialEq, Eq)]
+pub enum RefusalFields {
+    Nothing,
+    OneNumber(u32),
+    TwoNumbers(u32, u32),
+    OneStage(Stage),
+    OneCollective(Coll),
+}
+
 impl Refusal {
+    /// The number of this refusal in texts, and its fields.
+    pub fn parts(&self) -> (u32, RefusalFields)
+        ensures { result ≡ refusal_parts self.now }
+    {
+        match self {
+            Refusal::BadRank => (1, RefusalFields::Nothing),
+            Refusal::NoSegment => (2, RefusalFields::Nothing),
+            Refusal::SegmentThere => (3, RefusalFields::Nothing),
+            Refusal::Unregistered => (4, RefusalFields::Nothing),
+            Refusal::BadRange { size } => (5, RefusalFields::OneNumber(*size)),
+            Refusal::BadSize => (6, RefusalFields::Nothing),
+            Refusal::BadQueue => (7, RefusalFields::Nothing),
+            Refusal::QueueFull { count, need } => (8, RefusalFields::TwoNumbers(*count, *need)),
+            Refusal::QueueBroken { rank } => (9, RefusalFields::OneNumber(*rank)),
+            Refusal::BadNote => (10, RefusalFields::Nothing),
+            Refusal::ZeroValue => (11, RefusalFields::Nothing),
+            Refusal::BadAlign => (12, RefusalFields::Nothing),
+            Refusal::PassiveSize { waiting } => (13, RefusalFields::OneNumber(*waiting)),
+            Refusal::NoGroup => (14, RefusalFields::Nothing),
+            Refusal::GroupStage { stage } => (15, RefusalFields::OneStage(*stage)),
+            Refusal::NotMember => (16, RefusalFields::Nothing),
+            Refusal::GroupMismatch { kept } => (17, RefusalFields::OneNumber(*kept)),
+            Refusal::ActiveCollective { thread } => (18, RefusalFields::OneNumber(*thread)),
+            Refusal::ResumeOther { kept } => (19, RefusalFields::OneCollective(*kept)),
+            Refusal::CollectiveMismatch { kept } => (20, RefusalFields::OneCollective(*kept)),
+            Refusal::BadCount => (21, RefusalFields::Nothing),
+            Refusal::FloatType => (22, RefusalFields::Nothing),
+            Refusal::SegmentBusy { queue } => (23, RefusalFields::OneNumber(*queue)),
+            Refusal::GroupsFull => (24, RefusalFields::Nothing),
+            Refusal::CallerEnded => (25, RefusalFields::Nothing),
+        }
+    }
+
     /// The number of this refusal in texts.
     pub fn number(&self) -> u32
         ensures { result ≡ refusal_number self.now }
     {
-        match self {
-            Refusal::BadRank => 1,
-            Refusal::NoSegment => 2,
-            Refusal::SegmentThere => 3,
-            Refusal::Unregistered => 4,
-            Refusal::BadRange { .. } => 5,
-            Refusal::BadSize => 6,
-            Refusal::BadQueue => 7,
-            Refusal::QueueFull { .. } => 8,
-            Refusal::QueueBroken { .. } => 9,
-            Refusal::BadNote => 10,
-            Refusal::ZeroValue => 11,
-            Refusal::BadAlign => 12,
-            Refusal::PassiveSize { .. } => 13,
-            Refusal::NoGroup => 14,
-            Refusal::GroupStage { .. } => 15,
-            Refusal::NotMember => 16,
-            Refusal::GroupMismatch { .. } => 17,
-            Refusal::ActiveCollective { .. } => 18,
-            Refusal::ResumeOther { .. } => 19,
-            Refusal::CollectiveMismatch { .. } => 20,
-            Refusal::BadCount => 21,
-            Refusal::FloatType => 22,
-            Refusal::SegmentBusy { .. } => 23,
-            Refusal::GroupsFull => 24,
-            Refusal::CallerEnded => 25,
-        }
+        self.parts().0
     }
 }
 

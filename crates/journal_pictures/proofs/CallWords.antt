@@ -4,7 +4,7 @@ use Rattle.std.specs.Fmt.{decimal, signed_decimal}
 use Rattle.std.specs.List.{AllByRecursion}
 use Rattle.json.specs.Print.{escape_byte}
 use Rattle.gaspi_types.specs.NumberTypes.{AreInType}
-use Rattle.gaspi_types.specs.Replies.{coll_fields, refusal_fields, refusal_number}
+use Rattle.gaspi_types.specs.Replies.{coll_fields, numbers_of_fields, refusal_fields, refusal_number}
 use Rattle.gaspi_types.specs.declared.calls.Call.{Call}
 use Rattle.gaspi_types.specs.declared.collectives.Coll.{Coll}
 use Rattle.gaspi_types.specs.declared.collectives.Coll.TheVariants.{Barrier, Allreduce, Create, Commit}
@@ -15,7 +15,10 @@ use Rattle.gaspi_types.specs.declared.collectives.Op.TheVariants.{Min, Max, Sum}
 use Rattle.gaspi_types.specs.declared.collectives.Stage.{Stage}
 use Rattle.gaspi_types.specs.declared.collectives.Stage.TheVariants.{Building, Committed}
 use Rattle.gaspi_types.specs.declared.replies.Refusal.{Refusal}
-use Rattle.gaspi_types.specs.declared.replies.Refusal.TheVariants.{BadRank, BadRange, QueueFull, QueueBroken, PassiveSize, GroupStage, GroupMismatch, ActiveCollective, ResumeOther, CollectiveMismatch, SegmentBusy}
+use Rattle.gaspi_types.specs.declared.replies.Refusal.TheVariants.{BadRank}
+use Rattle.gaspi_types.specs.declared.replies.RefusalFields.{RefusalFields}
+use Rattle.gaspi_types.specs.declared.replies.RefusalFields.TheVariants.{Nothing, OneNumber, TwoNumbers, OneStage, OneCollective}
+use Rattle.gaspi_types.specs.Refusals.{refusal_parts}
 use Rattle.gaspi_types.specs.declared.replies.Reply.{Reply}
 use Rattle.gaspi_types.specs.declared.replies.Reply.TheVariants as replies
 use Rattle.call_texts.specs.CallText.{Spelled, call_text, end_word, spelled, spelling_of, words_of_call, words_of_spelled}
@@ -23,7 +26,7 @@ use Rattle.call_texts.specs.Elements.{op_word, type_word}
 use Rattle.call_texts.specs.Hex.{hex_text}
 use Rattle.call_texts.specs.Words.{is_plain, IsPlainWord}
 use Rattle.gaspi_texts.specs.CollectiveText.{coll_words, stage_word}
-use Rattle.gaspi_texts.specs.RefusalText.{field_words}
+use Rattle.gaspi_texts.specs.RefusalText.{held_by, words_of_holding, field_words}
 use Rattle.gaspi_texts.specs.ReplyText.{IsInRange, reply_text, words_of_reply}
 use Rattle.serde_json.specs.Data.{member, no_members, string}
 use Rattle.journal_pictures.specs.JsonLines.{IsPlain, line_front}
@@ -80,18 +83,15 @@ number-small : (r : Refusal) → refusal_number r < 2 ^ 64
 number-small BadRank = lit< tt
 number-small r = lit< tt
 
+held-bare : (fields : RefusalFields) → AllByRecursion (λ n. n < 2 ^ 32) (numbers_of_fields fields) → AllByRecursion AreBare (words_of_holding (held_by fields))
+held-bare Nothing h = tt
+held-bare (OneNumber n) h = (small-bare n h.0, tt)
+held-bare (TwoNumbers m n) h = (small-bare m h.0, (small-bare n h.1.0, tt))
+held-bare (OneStage stage) h = (stage-bare stage, tt)
+held-bare (OneCollective kept) h = coll-bare kept h
+
 fields-bare : (r : Refusal) → AllByRecursion (λ n. n < 2 ^ 32) (refusal_fields r) → AllByRecursion AreBare (field_words r)
-fields-bare (BadRange size) h = (small-bare size h.0, tt)
-fields-bare (QueueFull count need) h = (small-bare count h.0, (small-bare need h.1.0, tt))
-fields-bare (QueueBroken rank) h = (small-bare rank h.0, tt)
-fields-bare (PassiveSize waiting) h = (small-bare waiting h.0, tt)
-fields-bare (GroupStage stage) h = (stage-bare stage, tt)
-fields-bare (GroupMismatch kept) h = (small-bare kept h.0, tt)
-fields-bare (ActiveCollective thread) h = (small-bare thread h.0, tt)
-fields-bare (ResumeOther kept) h = coll-bare kept h
-fields-bare (CollectiveMismatch kept) h = coll-bare kept h
-fields-bare (SegmentBusy queue) h = (small-bare queue h.0, tt)
-fields-bare r h = tt
+fields-bare r h = held-bare (refusal_parts r).1 h
 
 module _ (bytes_plain : (bytes : List ℕ) → IsInRange (replies.Bytes bytes) → IsPlainWord (hex_text bytes)) (elements_plain : (t : NumType) (items : List ℤ) → AreInType t items → AllByRecursion IsPlainWord (map signed_decimal items)) where
   words-bare : (reply : Reply) → IsInRange reply → AllByRecursion AreBare (words_of_reply reply)

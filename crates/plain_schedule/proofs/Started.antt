@@ -7,6 +7,7 @@ use Rattle.std.proofs.lemmas.List.Sums.{sum_by-append, sum_by-cons}
 use Rattle.std.proofs.lemmas.Option.{slice_get-map}
 use Rattle.std.proofs.lemmas.List.Elements.{All-nil}
 use Rattle.gaspi_texts.specs.EventText.{HasOwnValues}
+use Rattle.gaspi_types.proofs.Found.{found_passes}
 use Rattle.gaspi_types.specs.World.{ShapeValue, IsShape, is_caller}
 use Rattle.gaspi_types.specs.declared.shapes.CallerId.{CallerId}
 use Rattle.gaspi_model.specs.State.{opening, opening_posts, opening_thread}
@@ -70,14 +71,6 @@ both false b h = absurd (let no : ⊥ = cc in no)
 
 -- Scripts that are found.
 
-found-passes : {A : Type 0} (p : A → Bool) (xs : List A) (x : A) → find p xs ≡ Some x → p x ≡ true
-found-passes p [] x h = absurd (let no : ⊥ = cc in no)
-found-passes {A} p (y ∷ xs) x h = go (p y) refl h (λ e. found-passes p xs x e)
-  where
-    go : (b : Bool) → p y ≡ b → (if b then Some y else find p xs) ≡ Some x → (find p xs ≡ Some x → p x ≡ true) → p x ≡ true
-    go true is e later = let same : y ≡ x = cc in subst (λ (z : A). p z ≡ true) same is
-    go false is e later = later e
-
 none-counted : {A : Type 0} (p : A → Bool) (xs : List A) → find p xs ≡ None → count_by p xs ≡ 0
 none-counted p [] h = refl
 none-counted {A} p (y ∷ xs) h = go (p y) refl h (λ e. none-counted p xs e)
@@ -98,7 +91,7 @@ start-count scripts r t once = go (find (is_script_of (record { rank = r; thread
     go : (o : Option Script) → find (is_script_of (record { rank = r; thread = t })) scripts ≡ o → active_count r t (starting o) ≡ count_by (λ (s : Script). is_caller r t s.caller) scripts
     go None is = sym (none-counted (λ (s : Script). is_caller r t s.caller) scripts is)
     go (Some s) is =
-        let pass = found-passes (λ (s : Script). is_caller r t s.caller) scripts s is in
+        let pass = found_passes (λ (s : Script). is_caller r t s.caller) scripts s is in
         let there = find-there (λ (s : Script). is_caller r t s.caller) scripts s is in
         let one = count-at (λ (s : Script). is_caller r t s.caller) scripts there.0 s there.1 pass in
         rw pass (omega arith)
@@ -117,7 +110,7 @@ other-start scripts r t a b apart = go (find (is_script_of (record { rank = a; t
     go : (o : Option Script) → find (is_script_of (record { rank = a; thread = b })) scripts ≡ o → active_count r t (starting o) ≡ 0
     go None is = refl
     go (Some s) is =
-        let pass = found-passes (is_script_of (record { rank = a; thread = b })) scripts s is in
+        let pass = found_passes (is_script_of (record { rank = a; thread = b })) scripts s is in
         let no : is_caller r t s.caller ≡ false = is-false s pass (is_caller r t s.caller) refl in
         rw no refl
 
@@ -141,7 +134,7 @@ script-caller : (w : ShapeValue) (scripts : List Script) (a b : ℕ) (s : Script
     → (k : ℕ) × (slice_get w.callers k ≡ Some s.caller) × (s.caller.rank ≡ a) × (s.caller.thread ≡ b)
 script-caller w scripts a b s are is =
     let there = find-there (is_script_of (record { rank = a; thread = b })) scripts s is in
-    let pass = both (s.caller.rank == a) (s.caller.thread == b) (found-passes (is_script_of (record { rank = a; thread = b })) scripts s is) in
+    let pass = both (s.caller.rank == a) (s.caller.thread == b) (found_passes (is_script_of (record { rank = a; thread = b })) scripts s is) in
     let mapped : slice_get (map (λ (x : Script). x.caller) scripts) there.0 ≡ Some s.caller = slice_get-map (λ (x : Script). x.caller) scripts there.0 ∙ ap (λ (o : Option Script). option_map (λ (x : Script). x.caller) o) there.1 in
     (there.0, subst (λ (cs : List CallerId). slice_get cs there.0 ≡ Some s.caller) are mapped, eqb-true s.caller.rank a pass.0, eqb-true s.caller.thread b pass.1)
 
